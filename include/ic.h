@@ -50,9 +50,9 @@
 #define IC_VERSION_MINOR 1
 #define IC_VERSION_PATCH 0
 
-/* A program that includes this header needs code that defines this name, which only code of the same major and minor version does. If a
- * program contains code that needs two versions, the linker refuses the program, because both versions of the library define the same
- * calls. On Linux GNU ld refuses code of another version alone, too. The reference takes no memory of the program. */
+/* A program that includes this header needs code that defines this name, which only code of the same major and minor version does. If a program
+ * contains code that needs two versions, the linker refuses the program, because both versions of the library define the same calls. On Linux GNU ld
+ * also refuses a program with only the code of another version. The reference takes no memory of the program. */
 #if defined(__GNUC__) && defined(__ELF__)
 __asm__(".pushsection .ic_version, \"\"\n\t.long ic_version_0_1\n\t.popsection");
 #elif defined(__GNUC__) && !defined(__wasm__)
@@ -91,7 +91,7 @@ typedef uint64_t ic_length;
 /* These are the statuses that a call returns. */
 enum ic_status {
     IC_OK = 0,           /* the call has made the edit, or has found what it looked for */
-    IC_OUT_OF_RANGE = 1, /* a place is not below `places`, or there are fewer keys or hashes than places, or there is no bucket */
+    IC_OUT_OF_RANGE = 1, /* a place is not below `places`, or there are fewer keys, hashes or sums than places, or there is no bucket */
     IC_LINKED = 2,       /* the place to insert is in a list or tree of this table */
     IC_NOT_LINKED = 3,   /* the member that is named is in no list or tree of this table */
     IC_NULL = 4,         /* the call needs a member, and there is none */
@@ -129,7 +129,7 @@ struct ic_link2 {
     uint64_t next, prev;
 };
 
-/* Each place of a ring with words of 4 bytes has such a link. */
+/* Each place of a doubly linked list or a ring with words of 4 bytes has such a link. */
 struct ic_link2_32 {
     uint32_t next, prev;
 };
@@ -190,9 +190,9 @@ static inline uint32_t ic_place(uint64_t word) {
 
 /* ---- Reads and loops --------------------------------------------------------------------------------------------------------------
  *
- * The inline functions that read a link take the table's length, as the calls do. They return IC_NONE if the place is out of range or
- * unlinked, and if the word there names no place of the table. So none of them reads outside the table, whatever the words say. Those that
- * read a list or a tree alone, as ic_list_first, know no length. If its words are broken, they may return a place that is out of range.
+ * The inline functions that read a link take the table's length, as the calls do. They return IC_NONE if the place is out of range or unlinked, and
+ * if the word there names no place of the table. So none of them reads outside the table, whatever the words say. Those that read only a list or a
+ * tree, such as ic_list_first, are handed no length. If its words are broken, they may return a place that is out of range.
  *
  * A macro makes a loop, which runs its body once for each member. It declares `place` and the other variables that are named before
  * `table`. You can leave it with `break`, go on with `continue`, and write one loop inside another.
@@ -208,8 +208,8 @@ static inline uint32_t ic_place(uint64_t word) {
  * another list or tree. It has to leave the members beside it where they are. A ..._FROM loop begins at the member `at`. To begin after a
  * member, hand the one after it to the loop, as ic_list_next returns it.
  *
- * If your objects are in an array, a ..._ENTRY loop gives you the object. You declare the pointer to it, by a name alone. The array has to have
- * an object for each place of the table. After the last round the pointer is null, and after a `break` it still is the object:
+ * If your objects are in an array, a ..._ENTRY loop gives you the object. You declare a pointer to it, and hand its name to the loop. The array has
+ * to have an object for each place of the table. After the last round the pointer is null, and after a `break` it still is the object:
  *
  *     struct job jobs[100], *job;
  *     IC_LIST_FOREACH_ENTRY(job, jobs, links, 100, &list)
@@ -263,6 +263,8 @@ static inline uint32_t ic_fault_of(ic_length places, uint32_t place, int is_link
  *
  * Take them for queues, and for caches, from whose middle objects leave.
  */
+
+/* ---- Lists: what both widths have ---- */
 
 /* Returns whether a place is in a list of the table. */
 static inline int ic_list_is_linked(const struct ic_link2 *table, ic_length places, uint32_t place) {
@@ -359,7 +361,9 @@ static inline int ic_list_is_singular(const struct ic_link2 *table, ic_length pl
     IC_LOOP_ENTRY_SAFE(object, objects, ic_at_##object, ic_next_##object, at, places, \
                        ic_list_is_linked(table, places, ic_at_##object), ic_list_next(table, places, ic_at_##object))
 
-/* tools/c-calls --write writes from here: list */
+/* ---- Lists: to here ---- */
+
+/* tools/c-calls --write writes from here: list list-fill */
 
 /* Inserts `place` at the front, in O(1).
  * IC_OUT_OF_RANGE: `place` is not below `places`. IC_LINKED: `place` is linked already. IC_BROKEN: the first member does not belong to this
@@ -488,8 +492,8 @@ uint32_t ic_list_check(const struct ic_link2 *table, ic_length places, const str
 
 /* ---- Lists by keys ----
  *
- * The keys are numbers, of which the least comes first. There has to be one for each place, and the calls read those of members alone. Both
- * calls check the lists first, so they are never half done. A sort is recursive, to a depth of at most 33 calls.
+ * The keys are numbers, of which the least comes first. There has to be one for each place, and the calls read only those of members. Both calls
+ * check the lists first, so they are never half done. A sort is recursive, to a depth of at most 33 calls.
  */
 
 /* tools/c-calls --write writes from here: list-keys */
@@ -538,6 +542,261 @@ uint32_t ic_list_transfer_after(struct ic_link2 *table, ic_length places, struct
 IC_NODISCARD
 uint32_t ic_list_transfer_before(struct ic_link2 *table, ic_length places, struct ic_list *list, uint32_t at, struct ic_list *given,
                                  uint32_t place);
+
+/* to here */
+
+/* ---- Doubly linked lists with words of 4 bytes: 8 bytes a place, calls O(1) except to clear and check ---------------------------------------
+ *
+ * These are lists with half the memory. A word is that of a wide link, cut to 4 bytes, so it can name the places below 536,870,911. Other places are
+ * out of range. The list itself is a struct ic_list as before. Each call, read and loop does what the one without the 32 in its name does. Only wide
+ * links have fills, sorts and merges.
+ *
+ *     struct ic_link2_32 links[100] = {0};               // 100 unlinked places
+ *     struct ic_list list = {0};                         // a list with no members
+ *     status = ic_list32_push_back(links, 100, &list, 7);
+ *     IC_LIST32_FOREACH(place, links, 100, &list)        // reads the members from the first to the last
+ */
+
+/* Returns how many places a table of such links has, which is `places`, but at most 536,870,911. */
+static inline ic_length ic_places_32(ic_length places) {
+    return places < 536870911 ? places : 536870911;
+}
+
+/* tools/c-calls --write writes from here: list32 */
+
+/* Inserts `place` at the front, in O(1).
+ * IC_OUT_OF_RANGE: `place` is not below `places`, or is 536,870,911 or more. IC_LINKED: `place` is linked already. IC_BROKEN: the first
+ * member does not belong to this table. */
+IC_NODISCARD
+uint32_t ic_list32_push_front(struct ic_link2_32 *table, ic_length places, struct ic_list *list, uint32_t place);
+
+/* Inserts `place` at the back, in O(1).
+ * IC_OUT_OF_RANGE: `place` is not below `places`, or is 536,870,911 or more. IC_LINKED: `place` is linked already. IC_BROKEN: the last
+ * member does not belong to this table. */
+IC_NODISCARD
+uint32_t ic_list32_push_back(struct ic_link2_32 *table, ic_length places, struct ic_list *list, uint32_t place);
+
+/* Removes the first member, and sets *popped to it, in O(1).
+ * IC_NULL: the list is empty. IC_BROKEN: the first member does not belong to this table. */
+IC_NODISCARD
+uint32_t ic_list32_pop_front(struct ic_link2_32 *table, ic_length places, struct ic_list *list, uint32_t *popped);
+
+/* Removes the last member, and sets *popped to it, in O(1).
+ * IC_NULL: the list is empty. IC_BROKEN: the last member does not belong to this table. */
+IC_NODISCARD
+uint32_t ic_list32_pop_back(struct ic_link2_32 *table, ic_length places, struct ic_list *list, uint32_t *popped);
+
+/* Inserts `place` after the member `at`, or at the front if `at` is IC_NONE, in O(1).
+ * IC_OUT_OF_RANGE: `at` or `place` is not below `places`, or is 536,870,911 or more. IC_LINKED: `place` is linked already. IC_NOT_LINKED:
+ * the place `at` is not linked. IC_BROKEN: `at` is no member of the list. */
+IC_NODISCARD
+uint32_t ic_list32_insert_after(struct ic_link2_32 *table, ic_length places, struct ic_list *list, uint32_t at, uint32_t place);
+
+/* Inserts `place` before the member `at`, or at the back if `at` is IC_NONE, in O(1).
+ * IC_OUT_OF_RANGE: `at` or `place` is not below `places`, or is 536,870,911 or more. IC_LINKED: `place` is linked already. IC_NOT_LINKED:
+ * the place `at` is not linked. IC_BROKEN: `at` is no member of the list. */
+IC_NODISCARD
+uint32_t ic_list32_insert_before(struct ic_link2_32 *table, ic_length places, struct ic_list *list, uint32_t at, uint32_t place);
+
+/* Removes the member `at`, in O(1).
+ * IC_NULL: the place `at` is IC_NONE. IC_OUT_OF_RANGE: the place `at` is not below `places`, or is 536,870,911 or more. IC_NOT_LINKED: the
+ * place `at` is not linked. IC_BROKEN: `at` is no member of the list. */
+IC_NODISCARD
+uint32_t ic_list32_remove(struct ic_link2_32 *table, ic_length places, struct ic_list *list, uint32_t at);
+
+/* Removes the member `at`, and inserts `place` where it was, in O(1).
+ * IC_NULL: the place `at` is IC_NONE. IC_OUT_OF_RANGE: `at` or `place` is not below `places`, or is 536,870,911 or more. IC_LINKED: `place`
+ * is linked already, also where `at` and `place` are the same. IC_NOT_LINKED: the place `at` is not linked. IC_BROKEN: `at` is no member of
+ * the list. */
+IC_NODISCARD
+uint32_t ic_list32_replace(struct ic_link2_32 *table, ic_length places, struct ic_list *list, uint32_t at, uint32_t place);
+
+/* Moves the member `place` after the member `at`, or to the front if `at` is IC_NONE, in O(1). The place stays linked, and nothing changes
+ * if it is there already, or if `at` and `place` are the same.
+ * IC_NULL: `place` is IC_NONE. IC_OUT_OF_RANGE: `at` or `place` is not below `places`, or is 536,870,911 or more. IC_NOT_LINKED: `at` or
+ * `place` is not linked. IC_BROKEN: `at` or `place` is no member of the list. */
+IC_NODISCARD
+uint32_t ic_list32_move_after(struct ic_link2_32 *table, ic_length places, struct ic_list *list, uint32_t at, uint32_t place);
+
+/* Moves the member `place` before the member `at`, or to the back if `at` is IC_NONE, in O(1). The place stays linked, and nothing changes
+ * if it is there already, or if `at` and `place` are the same.
+ * IC_NULL: `place` is IC_NONE. IC_OUT_OF_RANGE: `at` or `place` is not below `places`, or is 536,870,911 or more. IC_NOT_LINKED: `at` or
+ * `place` is not linked. IC_BROKEN: `at` or `place` is no member of the list. */
+IC_NODISCARD
+uint32_t ic_list32_move_before(struct ic_link2_32 *table, ic_length places, struct ic_list *list, uint32_t at, uint32_t place);
+
+/* Moves the member `place` to the front, as a cache does with the object that it used last, in O(1). The place stays linked during the
+ * call.
+ * IC_NULL: `place` is IC_NONE. IC_OUT_OF_RANGE: `place` is not below `places`, or is 536,870,911 or more. IC_NOT_LINKED: `place` is not
+ * linked. IC_BROKEN: `place` is no member of the list, or the first member does not belong to this table. */
+IC_NODISCARD
+uint32_t ic_list32_move_to_front(struct ic_link2_32 *table, ic_length places, struct ic_list *list, uint32_t place);
+
+/* Moves the member `place` to the back, in O(1). The place stays linked during the call.
+ * IC_NULL: `place` is IC_NONE. IC_OUT_OF_RANGE: `place` is not below `places`, or is 536,870,911 or more. IC_NOT_LINKED: `place` is not
+ * linked. IC_BROKEN: `place` is no member of the list, or the last member does not belong to this table. */
+IC_NODISCARD
+uint32_t ic_list32_move_to_back(struct ic_link2_32 *table, ic_length places, struct ic_list *list, uint32_t place);
+
+/* Moves all members of `given`, in their order, after the member `at`, or to the front if `at` is IC_NONE, and leaves `given` empty, in
+ * O(1).
+ * IC_OUT_OF_RANGE: the place `at` is not below `places`, or is 536,870,911 or more. IC_NOT_LINKED: the place `at` is not linked. IC_BROKEN:
+ * `at` is no member of the list, or `given` is no list of this table, or both lists begin with the same member, as a list and its copy do. */
+IC_NODISCARD
+uint32_t ic_list32_splice_after(struct ic_link2_32 *table, ic_length places, struct ic_list *list, uint32_t at, struct ic_list *given);
+
+/* Moves all members of `given`, in their order, before the member `at`, or to the back if `at` is IC_NONE, and leaves `given` empty, in
+ * O(1).
+ * IC_OUT_OF_RANGE: the place `at` is not below `places`, or is 536,870,911 or more. IC_NOT_LINKED: the place `at` is not linked. IC_BROKEN:
+ * `at` is no member of the list, or `given` is no list of this table, or both lists begin with the same member, as a list and its copy do. */
+IC_NODISCARD
+uint32_t ic_list32_splice_before(struct ic_link2_32 *table, ic_length places, struct ic_list *list, uint32_t at, struct ic_list *given);
+
+/* Moves all members of `given`, in their order, to the back, and leaves `given` empty, in O(1).
+ * IC_BROKEN: the last member does not belong to this table, or `given` is no list of this table, or both lists begin with the same member,
+ * as a list and its copy do. */
+IC_NODISCARD
+uint32_t ic_list32_append(struct ic_link2_32 *table, ic_length places, struct ic_list *list, struct ic_list *given);
+
+/* Removes all members, in O(n).
+ * IC_BROKEN: the links do not lead from the first member to the last, each to the next one and back. */
+IC_NODISCARD
+uint32_t ic_list32_clear(struct ic_link2_32 *table, ic_length places, struct ic_list *list);
+
+/* Moves the members after the member `at`, or all members if `at` is IC_NONE, to `rest`, which has to be empty, in O(1).
+ * IC_OUT_OF_RANGE: the place `at` is not below `places`, or is 536,870,911 or more. IC_NOT_LINKED: the place `at` is not linked. IC_BROKEN:
+ * `at` is no member of the list, or `rest` has members. */
+IC_NODISCARD
+uint32_t ic_list32_split_after(struct ic_link2_32 *table, ic_length places, struct ic_list *list, uint32_t at, struct ic_list *rest);
+
+/* Moves the members before the member `at`, or all members if `at` is IC_NONE, to `rest`, which has to be empty, in O(1).
+ * IC_OUT_OF_RANGE: the place `at` is not below `places`, or is 536,870,911 or more. IC_NOT_LINKED: the place `at` is not linked. IC_BROKEN:
+ * `at` is no member of the list, or `rest` has members. */
+IC_NODISCARD
+uint32_t ic_list32_split_before(struct ic_link2_32 *table, ic_length places, struct ic_list *list, uint32_t at, struct ic_list *rest);
+
+/* Counts the members, and sets *members to how many there are, in O(n). Call it if the words come from a file, or from memory that others
+ * write. If the status is IC_OK, each call does what it says of a list that the table holds.
+ * IC_BROKEN: the links do not lead from the first member to the last, each to the next one and back. */
+IC_NODISCARD
+uint32_t ic_list32_check(const struct ic_link2_32 *table, ic_length places, const struct ic_list *list, uint64_t *members);
+
+/* Moves the member `place` of `given` after the member `at`, or to the front if `at` is IC_NONE, in O(1). The place stays linked during the
+ * call.
+ * IC_NULL: `place` is IC_NONE. IC_OUT_OF_RANGE: `at` or `place` is not below `places`, or is 536,870,911 or more. IC_NOT_LINKED: `at` or
+ * `place` is not linked. IC_BROKEN: `at` is no member of the list, or `place` is none of `given`, or both lists begin with the same member,
+ * as a list and its copy do. */
+IC_NODISCARD
+uint32_t ic_list32_transfer_after(struct ic_link2_32 *table, ic_length places, struct ic_list *list, uint32_t at, struct ic_list *given,
+                                  uint32_t place);
+
+/* Moves the member `place` of `given` before the member `at`, or to the back if `at` is IC_NONE, in O(1). The place stays linked during the
+ * call.
+ * IC_NULL: `place` is IC_NONE. IC_OUT_OF_RANGE: `at` or `place` is not below `places`, or is 536,870,911 or more. IC_NOT_LINKED: `at` or
+ * `place` is not linked. IC_BROKEN: `at` is no member of the list, or `place` is none of `given`, or both lists begin with the same member,
+ * as a list and its copy do. */
+IC_NODISCARD
+uint32_t ic_list32_transfer_before(struct ic_link2_32 *table, ic_length places, struct ic_list *list, uint32_t at, struct ic_list *given,
+                                   uint32_t place);
+
+/* to here */
+
+/* tools/c-calls --write writes from here, of list: list32 */
+
+/* Returns whether a place is in a list of the table. */
+static inline int ic_list32_is_linked(const struct ic_link2_32 *table, ic_length places, uint32_t place) {
+    return place < ic_bound(ic_places_32(places)) && (table[place].next & 1);
+}
+
+/* Returns whether the list has no members, in which case ic_list32_pop_front returns IC_NULL. */
+static inline int ic_list32_is_empty(const struct ic_list *list) {
+    return ic_number(list->head) == 0;
+}
+
+/* Returns the first member, or IC_NONE if there is none. */
+static inline uint32_t ic_list32_first(const struct ic_list *list) {
+    return ic_place(list->head);
+}
+
+/* Returns the last member, or IC_NONE if there is none. */
+static inline uint32_t ic_list32_last(const struct ic_list *list) {
+    return ic_place(list->tail);
+}
+
+/* Returns the member after the member `at`, or IC_NONE. */
+static inline uint32_t ic_list32_next(const struct ic_link2_32 *table, ic_length places, uint32_t at) {
+    return ic_list32_is_linked(table, places, at) ? ic_place_within(places, table[at].next) : IC_NONE;
+}
+
+/* Returns the member before the member `at`, or IC_NONE. */
+static inline uint32_t ic_list32_prev(const struct ic_link2_32 *table, ic_length places, uint32_t at) {
+    return ic_list32_is_linked(table, places, at) ? ic_place_within(places, table[at].prev) : IC_NONE;
+}
+
+/* Returns the first member, or IC_NONE if there is none or if it is no linked place of the table. */
+static inline uint32_t ic_list32_front(const struct ic_link2_32 *table, ic_length places, const struct ic_list *list) {
+    return ic_list32_is_linked(table, places, ic_list32_first(list)) ? ic_list32_first(list) : IC_NONE;
+}
+
+/* Returns the last member, or IC_NONE if there is none or if it is no linked place of the table. */
+static inline uint32_t ic_list32_back(const struct ic_link2_32 *table, ic_length places, const struct ic_list *list) {
+    return ic_list32_is_linked(table, places, ic_list32_last(list)) ? ic_list32_last(list) : IC_NONE;
+}
+
+/* Returns whether the place `at` is the first member of the list. */
+static inline int ic_list32_is_first(const struct ic_link2_32 *table, ic_length places, const struct ic_list *list, uint32_t at) {
+    return at != IC_NONE && ic_list32_front(table, places, list) == at;
+}
+
+/* Returns whether the place `at` is the last member of the list. */
+static inline int ic_list32_is_last(const struct ic_link2_32 *table, ic_length places, const struct ic_list *list, uint32_t at) {
+    return at != IC_NONE && ic_list32_back(table, places, list) == at;
+}
+
+/* Returns whether the list has one member and no other. */
+static inline int ic_list32_is_singular(const struct ic_link2_32 *table, ic_length places, const struct ic_list *list) {
+    return ic_list32_is_first(table, places, list, ic_list32_last(list));
+}
+
+/* These loops go from the first member to the last, and back. `next` is the member after `place`, and `prev` is the member before it. Beyond an
+ * end they are IC_NONE.
+ *
+ *     IC_LIST32_FOREACH_SAFE(place, next, links, 100, &list)
+ *         if (is_done(place))
+ *             status = ic_list32_remove(links, 100, &list, place);
+ */
+#define IC_LIST32_FOREACH(place, table, places, list) \
+    IC_LOOP(place, ic_list32_first(list), places, ic_list32_is_linked(table, places, place), ic_list32_next(table, places, place))
+#define IC_LIST32_FOREACH_REVERSE(place, table, places, list) \
+    IC_LOOP(place, ic_list32_last(list), places, ic_list32_is_linked(table, places, place), ic_list32_prev(table, places, place))
+#define IC_LIST32_FOREACH_SAFE(place, next, table, places, list) \
+    IC_LOOP_SAFE(place, next, ic_list32_first(list), places, ic_list32_is_linked(table, places, place), ic_list32_next(table, places, place))
+#define IC_LIST32_FOREACH_REVERSE_SAFE(place, prev, table, places, list) \
+    IC_LOOP_SAFE(place, prev, ic_list32_last(list), places, ic_list32_is_linked(table, places, place), ic_list32_prev(table, places, place))
+#define IC_LIST32_FOREACH_ENTRY(object, objects, table, places, list)             \
+    IC_LOOP_ENTRY(object, objects, ic_at_##object, ic_list32_first(list), places, \
+        ic_list32_is_linked(table, places, ic_at_##object), ic_list32_next(table, places, ic_at_##object))
+#define IC_LIST32_FOREACH_ENTRY_REVERSE(object, objects, table, places, list)    \
+    IC_LOOP_ENTRY(object, objects, ic_at_##object, ic_list32_last(list), places, \
+        ic_list32_is_linked(table, places, ic_at_##object), ic_list32_prev(table, places, ic_at_##object))
+#define IC_LIST32_FOREACH_ENTRY_SAFE(object, objects, table, places, list)                               \
+    IC_LOOP_ENTRY_SAFE(object, objects, ic_at_##object, ic_next_##object, ic_list32_first(list), places, \
+        ic_list32_is_linked(table, places, ic_at_##object), ic_list32_next(table, places, ic_at_##object))
+#define IC_LIST32_FOREACH_ENTRY_REVERSE_SAFE(object, objects, table, places, list)                      \
+    IC_LOOP_ENTRY_SAFE(object, objects, ic_at_##object, ic_next_##object, ic_list32_last(list), places, \
+        ic_list32_is_linked(table, places, ic_at_##object), ic_list32_prev(table, places, ic_at_##object))
+#define IC_LIST32_FOREACH_FROM(place, at, table, places) \
+    IC_LOOP(place, at, places, ic_list32_is_linked(table, places, place), ic_list32_next(table, places, place))
+#define IC_LIST32_FOREACH_REVERSE_FROM(place, at, table, places) \
+    IC_LOOP(place, at, places, ic_list32_is_linked(table, places, place), ic_list32_prev(table, places, place))
+#define IC_LIST32_FOREACH_SAFE_FROM(place, next, at, table, places) \
+    IC_LOOP_SAFE(place, next, at, places, ic_list32_is_linked(table, places, place), ic_list32_next(table, places, place))
+#define IC_LIST32_FOREACH_ENTRY_FROM(object, objects, at, table, places)                                           \
+    IC_LOOP_ENTRY(object, objects, ic_at_##object, at, places, ic_list32_is_linked(table, places, ic_at_##object), \
+                  ic_list32_next(table, places, ic_at_##object))
+#define IC_LIST32_FOREACH_ENTRY_SAFE_FROM(object, objects, at, table, places)         \
+    IC_LOOP_ENTRY_SAFE(object, objects, ic_at_##object, ic_next_##object, at, places, \
+                       ic_list32_is_linked(table, places, ic_at_##object), ic_list32_next(table, places, ic_at_##object))
 
 /* to here */
 
@@ -747,7 +1006,7 @@ static inline uint32_t ic_ring_push_back(struct ic_link2 *table, ic_length place
     return ic_ring_insert_before(table, places, head, place);
 }
 
-/* These are edits of two calls. Each first tests the links that its second call tests, so it is refused before it has changed anything. */
+/* These are edits of two calls. Each first tests the links that its second call tests, so if it is refused, it has changed nothing. */
 
 /* Returns whether `after` is the place after `before` in a ring, and leads back to it. */
 static inline int ic_ring_is_gap(const struct ic_link2 *table, ic_length places, uint32_t before, uint32_t after) {
@@ -790,9 +1049,9 @@ static inline uint32_t ic_ring_move_range_after(struct ic_link2 *table, ic_lengt
     return status == IC_OK ? ic_ring_exchange(table, places, at, last) : status;
 }
 
-/* Moves the places from `first` to `last` of a ring, in their order, before the place `at` of any ring, in O(1). If `at` is a head, they
- * become its last members, as by list_bulk_move_tail of Linux. Nothing changes if they are there already. What the call can't tell is as
- * of ic_ring_move_range_after.
+/* Moves the places from `first` to `last` of a ring, in their order, before the place `at` of any ring, in O(1). If `at` is a head, they become its
+ * last members, as by list_bulk_move_tail of Linux. Nothing changes if they are there already. It can't tell what ic_ring_move_range_after can't
+ * tell.
  * IC_NULL: `at`, `first` or `last` is IC_NONE. IC_OUT_OF_RANGE: one of them is not below `places`. IC_NOT_LINKED: one of them is not
  * linked. IC_BROKEN: one of them is in no ring, or `at` is `last`, and `first` is another place. */
 IC_NODISCARD
@@ -833,19 +1092,14 @@ uint32_t ic_ring_merge(struct ic_link2 *table, ic_length places, const uint64_t 
 
 /* ---- Rings with words of 4 bytes: 8 bytes a place, calls O(1) ----------------------------------------------------------------------------
  *
- * These are rings with half the memory. A word is the one of a wide link, cut to 4 bytes, so it has room for the places below 536,870,911. Other
- * places are out of range. Each call, read and loop does what the one of rings does whose name lacks the number.
+ * These are rings with half the memory, over the links of lists with words of 4 bytes. Rings and these lists may be in one table. Each call, read and
+ * loop does what the one without the 32 in its name does.
  *
  *     struct ic_link2_32 links[65] = {0};             // 64 objects, and a head at 64
  *     status = ic_ring32_init(links, 65, 64);         // a ring with no members
  *     status = ic_ring32_push_back(links, 65, 64, 7);
  *     status = ic_ring32_remove(links, 65, 7);        // from whichever ring it is in
  */
-
-/* Returns how many places a table of such links has, which is `places`, but at most 536,870,911. */
-static inline ic_length ic_places_32(ic_length places) {
-    return places < 536870911 ? places : 536870911;
-}
 
 /* tools/c-calls --write writes from here: ring32 */
 
@@ -1031,7 +1285,7 @@ static inline uint32_t ic_ring32_push_back(struct ic_link2_32 *table, ic_length 
     return ic_ring32_insert_before(table, places, head, place);
 }
 
-/* These are edits of two calls. Each first tests the links that its second call tests, so it is refused before it has changed anything. */
+/* These are edits of two calls. Each first tests the links that its second call tests, so if it is refused, it has changed nothing. */
 
 /* Returns whether `after` is the place after `before` in a ring, and leads back to it. */
 static inline int ic_ring32_is_gap(const struct ic_link2_32 *table, ic_length places, uint32_t before, uint32_t after) {
@@ -1074,9 +1328,9 @@ static inline uint32_t ic_ring32_move_range_after(struct ic_link2_32 *table, ic_
     return status == IC_OK ? ic_ring32_exchange(table, places, at, last) : status;
 }
 
-/* Moves the places from `first` to `last` of a ring, in their order, before the place `at` of any ring, in O(1). If `at` is a head, they
- * become its last members, as by list_bulk_move_tail of Linux. Nothing changes if they are there already. What the call can't tell is as
- * of ic_ring32_move_range_after.
+/* Moves the places from `first` to `last` of a ring, in their order, before the place `at` of any ring, in O(1). If `at` is a head, they become its
+ * last members, as by list_bulk_move_tail of Linux. Nothing changes if they are there already. It can't tell what ic_ring32_move_range_after can't
+ * tell.
  * IC_NULL: `at`, `first` or `last` is IC_NONE. IC_OUT_OF_RANGE: one of them is not below `places`. IC_NOT_LINKED: one of them is not
  * linked. IC_BROKEN: one of them is in no ring, or `at` is `last`, and `first` is another place. */
 IC_NODISCARD
@@ -1242,8 +1496,8 @@ uint32_t ic_stack_check(const struct ic_link1 *table, ic_length places, const st
 
 /* ---- Singly linked lists by keys ----
  *
- * The keys are as for doubly linked lists. Both calls check the lists first, so they are never half done. A sort calls itself, at most 33 times
- * within one another.
+ * The keys are as for doubly linked lists. Both calls check the lists first, so they are never half done. A sort is recursive, to a depth of at most
+ * 33 calls.
  */
 
 /* tools/c-calls --write writes from here: stack-keys */
@@ -1409,7 +1663,8 @@ uint32_t ic_hash_move_chain(struct ic_link1 *table, ic_length places, const uint
 
 /* to here */
 
-/* Removes `place` from a singly linked list, wherever it is in it, in O(n), by ic_hash_remove: a list is a hash table with one bucket.
+/* Removes `place` from a singly linked list, wherever in the list it is, in O(n). It calls ic_hash_remove, to which the list is a hash table with one
+ * bucket.
  * IC_NULL: `place` is IC_NONE. IC_OUT_OF_RANGE: `place` is not below `places`. IC_NOT_LINKED: `place` is not linked. IC_BROKEN: `place` is
  * no member of this list, but perhaps of another one, or the list does not belong to this table. */
 IC_NODISCARD
@@ -1419,9 +1674,9 @@ static inline uint32_t ic_stack_remove(struct ic_link1 *table, ic_length places,
 
 /* ---- XOR lists: 8 bytes a place, calls O(1) except ic_xor_fill and ic_xor_clear -----------------------------------------------------
  *
- * Take them for lists that you use at both ends and walk both ways, if memory is scarce. A member alone does not tell its neighbors, so you
- * name a gap by both members beside it. Here `before` is the member before the gap, or IC_NONE at the front, and `after` is the member after the gap, or
- * IC_NONE at the back. Both are IC_NONE in an empty list.
+ * Take them for lists that you use at both ends and walk both ways, if memory is scarce. The link of a member does not name its neighbors one by one,
+ * so you name a gap by both members beside it. Here `before` is the member before the gap, or IC_NONE at the front, and `after` is the member after
+ * the gap, or IC_NONE at the back. Both are IC_NONE in an empty list.
  *
  * A call at a gap tests that both members are linked, and that their words with each other name linked places beyond them, or none at an
  * end of the list. So it refuses IC_NONE beside a member that is not that end, and most pairs that are no gap if few places are linked. Two
@@ -1730,8 +1985,8 @@ uint32_t ic_tree_check(const struct ic_link3 *table, ic_length places, const str
 
 /* ---- Trees by keys ----
  *
- * The keys are numbers, of which the least comes first. There has to be one for each place, and the calls read those of members and of the
- * place to insert alone. The searches are for trees whose members are in order by their keys. In others they find some member or none.
+ * The keys are numbers, of which the least comes first. There has to be one for each place, and the calls read only those of members and of the place
+ * to insert. The searches are for trees whose members are in order by their keys. In others they find some member or none.
  */
 
 /* tools/c-calls --write writes from here: tree-keys */
@@ -1785,9 +2040,9 @@ static inline uint32_t ic_tree_insert_unique(struct ic_link3 *table, ic_length p
 
 /* ---- Trees by a comparison ----
  *
- * These macros go down from the root, in O(log n), for keys that are no numbers. Each is a statement. `at` is a uint32_t of yours, by a name
- * alone, and `comparison` is an expression in which it is the member to compare with. Its value is negative if what you look for comes
- * before `at`, 0 if both are equal, and positive otherwise, as that of strcmp.
+ * These macros go down from the root, in O(log n), for keys that are no numbers. Each is a statement. `at` is the name of a uint32_t variable of
+ * yours, and `comparison` is an expression in which `at` is the member to compare with. Its value is negative if what you look for comes before `at`,
+ * 0 if both are equal, and positive otherwise, as that of strcmp.
  *
  *     const char *names[100];
  *     uint32_t at, status;
@@ -1950,10 +2205,10 @@ static inline uint32_t ic_tree_before(const struct ic_link3 *table, ic_length pl
 
 /* ---- Trees that keep their first and last member ----
  *
- * These calls keep both in two more words, so that the first one, such as the next timer, is found at once. {0} is right for an empty tree. Edit
- * such a tree by these calls alone, since the others leave the ends as they are. A loop that removes calls ic_tree_ends_remove. After
- * ic_tree_clear set the ends to zero. After ic_tree_append, ic_tree_join or ic_tree_split write those of each tree that keeps them:
- * ends.first = ic_word(what ic_tree_next finds from IC_NONE), and ends.last that of ic_tree_prev, which are 0 if the tree is empty.
+ * These calls keep both in two more words, so that the first one, such as the next timer, is found at once. {0} is right for an empty tree. Edit such
+ * a tree only by these calls, since the others leave the ends as they are. A loop that removes calls ic_tree_ends_remove. After ic_tree_clear set the
+ * ends to zero. After ic_tree_append, ic_tree_join or ic_tree_split write those of each tree that keeps them: ends.first = ic_word(what ic_tree_next
+ * finds from IC_NONE), and ends.last that of ic_tree_prev, which are 0 if the tree is empty.
  *
  *     struct ic_tree_ends ends = {0};
  *     status = ic_tree_ends_insert(links, 100, keys, 100, &tree, &ends, 7);
@@ -2022,32 +2277,67 @@ uint32_t ic_tree_ends_pop_first(struct ic_link3 *table, ic_length places, struct
 
 /* ---- Trees with sums ----
  *
- * An array of your own has a value and a sum for each place. You write the values. A sum is what the value of its place and those of all members
- * below it make together: their sum, which is at most UINT64_MAX, or the greatest of them. If each value is 1, it is how many members these are.
+ * An array of your own has a value and a sum for each place. You write the values. With IC_SUM the sum of a member is that of its value and the
+ * values of all members below it, and at most UINT64_MAX. With IC_GREATEST it is the greatest of these values. If each value is 1, IC_SUM counts
+ * these members.
  *
  *     struct ic_sum counts[100];                                             // with the value 1 at each place
- *     status = ic_tree_sums_renew(links, 100, counts, 100, IC_SUM, IC_NONE); // after edits of the tree
+ *     status = ic_tree_sums_renew(links, 100, counts, 100, IC_SUM, IC_NONE); // makes all sums right
+ *     status = ic_tree_sums_insert(links, 100, keys, 100, counts, 100, IC_SUM, &tree, 7);     // and they still are
  *     status = ic_tree_sums_find(links, 100, counts, 100, IC_SUM, &tree, IC_NONE, 3, &found); // the member at position 3, from 0 on
  *     status = ic_tree_sums_before(links, 100, counts, 100, IC_SUM, found, &position);        // which is 3
  *
- * An edit of the tree leaves the sums as they are. After edits call ic_tree_sums_renew with IC_NONE, which makes all of them right, and after you
- * have changed the value of one member, with that member.
+ * ic_tree_sums_insert and ic_tree_sums_remove edit the tree as ic_tree_insert and ic_tree_remove do, and keep the sums right, in O(log n). Other edits
+ * leave the sums as they are. After those call ic_tree_sums_renew with IC_NONE, which makes all of them right, and after you have changed the value of
+ * one member, with that member. An empty tree needs no such call.
  *
  * If the values are the lengths of lines, ic_tree_sums_find finds the line at an offset, and ic_tree_sums_before tells where a line begins. With
  * IC_GREATEST, ic_tree_sums_find finds the first member whose value is greater than a bound, say the first region that is long enough. If the keys are
  * the starts of intervals, and the values their ends, ic_tree_sums_overlap finds each interval that overlaps another one, from the last one found on.
  */
 
-/* What values make together. Any other number is as IC_GREATEST. */
+/* What a sum is made of. A call takes any other number as IC_GREATEST. */
 enum { IC_SUM = 0, IC_GREATEST = 1 };
 
-/* Returns what the values of all members of a tree make together, in O(1), if its sums are right. Returns 0 if the tree is empty. */
+/* Returns the sum of the values of all members of a tree, or the greatest of them, in O(1), if its sums are right. Returns 0 if the tree is empty. */
 static inline uint64_t ic_tree_sums_total(const struct ic_sum *sums, ic_length sum_count, const struct ic_tree *tree) {
     uint32_t root = ic_tree_root(tree);
     return root < ic_bound(sum_count) ? sums[root].sum : 0;
 }
 
 /* tools/c-calls --write writes from here: tree-sums */
+
+/* Inserts `place` by its key as ic_tree_insert does, and makes the sums right again that change with it, in O(log n). If those of the tree
+ * were right before the call, they are right after it, whatever the sum of `place` was.
+ * IC_OUT_OF_RANGE: there are fewer keys than places, or there are fewer sums than places, or `place` is not below `places`. IC_LINKED:
+ * `place` is linked already. IC_BROKEN: the root does not belong to this table. */
+IC_NODISCARD
+uint32_t ic_tree_sums_insert(struct ic_link3 *table, ic_length places, const uint64_t *keys, ic_length key_count, struct ic_sum *sums,
+                             ic_length sum_count, uint32_t kind, struct ic_tree *tree, uint32_t place);
+
+/* Inserts `place` as ic_tree_insert_left does, and makes the sums right again that change with it, in O(log n).
+ * IC_OUT_OF_RANGE: there are fewer sums than places, or `at` or `place` is not below `places`. IC_LINKED: `place` is linked already.
+ * IC_NOT_LINKED: the place `at` is not linked. IC_BROKEN: `at` has a left child, or `at` is IC_NONE and the tree has members, or the root
+ * does not belong to this table. */
+IC_NODISCARD
+uint32_t ic_tree_sums_insert_left(struct ic_link3 *table, ic_length places, struct ic_sum *sums, ic_length sum_count, uint32_t kind,
+                                  struct ic_tree *tree, uint32_t at, uint32_t place);
+
+/* Inserts `place` as ic_tree_insert_right does, and makes the sums right again that change with it, in O(log n).
+ * IC_OUT_OF_RANGE: there are fewer sums than places, or `at` or `place` is not below `places`. IC_LINKED: `place` is linked already.
+ * IC_NOT_LINKED: the place `at` is not linked. IC_BROKEN: `at` has a right child, or `at` is IC_NONE and the tree has members, or the root
+ * does not belong to this table. */
+IC_NODISCARD
+uint32_t ic_tree_sums_insert_right(struct ic_link3 *table, ic_length places, struct ic_sum *sums, ic_length sum_count, uint32_t kind,
+                                   struct ic_tree *tree, uint32_t at, uint32_t place);
+
+/* Removes the member `at`, and makes the sums right again that change with it, in O(log n). If those of the tree were right before the
+ * call, they are right after it.
+ * IC_NULL: the place `at` is IC_NONE. IC_OUT_OF_RANGE: there are fewer sums than places, or the place `at` is not below `places`.
+ * IC_NOT_LINKED: the place `at` is not linked. IC_BROKEN: the root does not belong to this table. */
+IC_NODISCARD
+uint32_t ic_tree_sums_remove(struct ic_link3 *table, ic_length places, struct ic_sum *sums, ic_length sum_count, uint32_t kind,
+                             struct ic_tree *tree, uint32_t at);
 
 /* Makes the sums right again after the value of `at` has changed: its own sum, and those above it as far as they change, in O(log n). If
  * `at` is IC_NONE, it makes all sums of the table right, of whichever trees it has, in O(p log p) for p places. It writes nothing else.
@@ -2065,7 +2355,7 @@ IC_NODISCARD
 uint32_t ic_tree_sums_find(const struct ic_link3 *table, ic_length places, const struct ic_sum *sums, ic_length sum_count, uint32_t kind,
                            const struct ic_tree *tree, uint32_t at, uint64_t bound, uint32_t *found);
 
-/* Sets *sum to what the values of the members before the member `at` make together, in O(log n). It writes nothing else.
+/* Finds what the values of the members before the member `at` make together, and sets *sum to it, in O(log n). It writes nothing else.
  * IC_NULL: the place `at` is IC_NONE. IC_OUT_OF_RANGE: there are fewer sums than places, or the place `at` is not below `places`.
  * IC_NOT_LINKED: the place `at` is not linked. IC_BROKEN: the links lead from `at` to no root. */
 IC_NODISCARD

@@ -64,8 +64,7 @@ class array_view;
 
 namespace detail {
 
-/// Says whether a container that is passed as an rvalue leaves its elements to somebody else, as a std::span does and a std::vector does
-/// not.
+/// Is true if a container that is passed as an rvalue does not own its elements: true of a std::span, and false of a std::vector.
 template <class Container>
 #ifdef __cpp_lib_ranges
 inline constexpr bool is_borrowed = std::ranges::enable_borrowed_range<Container>;
@@ -77,8 +76,8 @@ inline constexpr bool is_borrowed<array_view<Element>> = true;
 
 } // namespace detail
 
-/// This is a pointer and a length, and you make it of these, or of a vector, an array, or whatever else has both. Of the containers that
-/// end with the expression it takes those alone that are borrowed, as a std::span.
+/// This is a pointer and a length, and you make it of these, or of a vector, an array, or whatever else has both. It takes an rvalue only if that
+/// does not own its elements, as a std::span.
 template <class Element>
 class array_view {
     template <class Container>
@@ -129,26 +128,90 @@ struct headed {
     static handle handle_of(argument list) noexcept { return &list; }
 };
 
-struct doubly : headed<ic_link2, ic_list> {
-    static constexpr bool is_bidirectional = true, needs_from = false;
+/// The calls of doubly linked lists, by the width of the words of their links. Those of 4 bytes have no fills, sorts and merges.
+struct wide_list {
+    using link = ic_link2;
     static constexpr auto clear = ic_list_clear;
     static constexpr auto check = ic_list_check;
+    static constexpr auto fill = ic_list_fill;
+    static constexpr auto push_front = ic_list_push_front;
+    static constexpr auto push_back = ic_list_push_back;
+    static constexpr auto pop_front = ic_list_pop_front;
+    static constexpr auto pop_back = ic_list_pop_back;
+    static constexpr auto insert_after = ic_list_insert_after;
+    static constexpr auto insert_before = ic_list_insert_before;
+    static constexpr auto remove = ic_list_remove;
+    static constexpr auto replace = ic_list_replace;
+    static constexpr auto move_after = ic_list_move_after;
+    static constexpr auto move_before = ic_list_move_before;
+    static constexpr auto move_to_front = ic_list_move_to_front;
+    static constexpr auto move_to_back = ic_list_move_to_back;
+    static constexpr auto splice_after = ic_list_splice_after;
+    static constexpr auto splice_before = ic_list_splice_before;
+    static constexpr auto append = ic_list_append;
+    static constexpr auto split_after = ic_list_split_after;
+    static constexpr auto split_before = ic_list_split_before;
+    static constexpr auto transfer_after = ic_list_transfer_after;
+    static constexpr auto transfer_before = ic_list_transfer_before;
+    static constexpr auto next = ic_list_next;
+    static constexpr auto prev = ic_list_prev;
+    static constexpr auto first = ic_list_first;
+    static constexpr auto last = ic_list_last;
     static constexpr auto sort = ic_list_sort;
     static constexpr auto merge = ic_list_merge;
-    static constexpr auto fill = ic_list_fill;
-    static constexpr auto push_front = ic_list_push_front, push_back = ic_list_push_back;
-    static constexpr auto pop_front = ic_list_pop_front, pop_back = ic_list_pop_back;
+    static constexpr auto is_linked_in = ic_list_is_linked;
+    static constexpr auto has_none = ic_list_is_empty;
+};
 
-    static bool is_linked(const source &in, std::uint32_t at) noexcept { return ic_list_is_linked(in.table, in.places, at) != 0; }
-    static bool is_empty(const source &in) noexcept { return ic_list_is_empty(in.head) != 0; }
-    static std::uint32_t outermost(const source &in, bool back) noexcept {
-        return back ? ic_list_last(in.head) : ic_list_first(in.head);
-    }
+struct narrow_list {
+    using link = ic_link2_32;
+    static constexpr auto clear = ic_list32_clear;
+    static constexpr auto check = ic_list32_check;
+    static constexpr auto push_front = ic_list32_push_front;
+    static constexpr auto push_back = ic_list32_push_back;
+    static constexpr auto pop_front = ic_list32_pop_front;
+    static constexpr auto pop_back = ic_list32_pop_back;
+    static constexpr auto insert_after = ic_list32_insert_after;
+    static constexpr auto insert_before = ic_list32_insert_before;
+    static constexpr auto remove = ic_list32_remove;
+    static constexpr auto replace = ic_list32_replace;
+    static constexpr auto move_after = ic_list32_move_after;
+    static constexpr auto move_before = ic_list32_move_before;
+    static constexpr auto move_to_front = ic_list32_move_to_front;
+    static constexpr auto move_to_back = ic_list32_move_to_back;
+    static constexpr auto splice_after = ic_list32_splice_after;
+    static constexpr auto splice_before = ic_list32_splice_before;
+    static constexpr auto append = ic_list32_append;
+    static constexpr auto split_after = ic_list32_split_after;
+    static constexpr auto split_before = ic_list32_split_before;
+    static constexpr auto transfer_after = ic_list32_transfer_after;
+    static constexpr auto transfer_before = ic_list32_transfer_before;
+    static constexpr auto next = ic_list32_next;
+    static constexpr auto prev = ic_list32_prev;
+    static constexpr auto first = ic_list32_first;
+    static constexpr auto last = ic_list32_last;
+    static constexpr auto is_linked_in = ic_list32_is_linked;
+    static constexpr auto has_none = ic_list32_is_empty;
+};
+
+template <class List>
+struct doubly : List {
+    using link = typename List::link;
+    using head = ic_list;
+    using source = words<link, head>;
+    using argument = head &;
+    using handle = head *;
+    static handle handle_of(argument list) noexcept { return &list; }
+    static constexpr bool is_bidirectional = true, needs_from = false;
+
+    static bool is_linked(const source &in, std::uint32_t at) noexcept { return List::is_linked_in(in.table, in.places, at) != 0; }
+    static bool is_empty(const source &in) noexcept { return List::has_none(in.head) != 0; }
+    static std::uint32_t outermost(const source &in, bool back) noexcept { return back ? List::last(in.head) : List::first(in.head); }
     static std::uint32_t beyond(const source &in, position it, bool back) noexcept {
-        return (back ? ic_list_prev : ic_list_next)(in.table, in.places, it.at);
+        return (back ? List::prev : List::next)(in.table, in.places, it.at);
     }
     static std::uint32_t take(link *table, std::size_t places, head *list, position it) noexcept {
-        return ic_list_remove(table, places, list, it.at);
+        return List::remove(table, places, list, it.at);
     }
 };
 
@@ -289,7 +352,7 @@ struct circular : Ring {
 
 // ---- Iterators ---------------------------------------------------------------------------------------------------------------------
 
-/// An iterator whose place alone does not tell the member before it keeps from which position it came to `from`, too.
+/// If the link of a member does not name the member before it, the iterator also stores the position from which it came to `from`.
 struct trail {
     position before{};
     bool is_kept = false;
@@ -390,8 +453,8 @@ private:
         }
     }
 
-    /// Returns the member before a position, which is where it came from, unless the one before that leads to it now. It takes values and
-    /// is no part of a loop, so that compilers keep iterators in registers.
+    /// Returns the member before the position `at`: `from`, from which the iterator came to it, unless the member before that now leads to `at`. It
+    /// takes values and is no part of a loop, so that compilers keep iterators in registers.
 #ifdef __GNUC__
     [[gnu::noinline]]
 #endif
@@ -489,7 +552,7 @@ protected:
     using members<Kind>::members;
 };
 
-/// Reads a list or a tree whose members tell both of their neighbors.
+/// Reads a list or a tree in which a member leads to both of its neighbors.
 template <class Kind>
 class placed : public two_way<Kind> {
 public:
@@ -645,12 +708,20 @@ public:
     using kind = typename Base::kind;
     using Base::Base;
 
+    /// Removes all members. It returns ic::status::broken, and changes nothing, if they are no list of this table.
+    status clear() const noexcept { return this->edit(kind::clear); }
+};
+
+/// Links places one after another, too.
+template <class Base>
+class fills : public Base {
+public:
+    using kind = typename Base::kind;
+    using Base::Base;
+
     /// Inserts `count` places, `first` and those after it, in the order of their numbers, at the back, or in a singly linked list at the
     /// front. If one of them is refused, none is linked.
     status fill(std::uint32_t first, std::uint32_t count) const noexcept { return this->edit(kind::fill, first, count); }
-
-    /// Removes all members. It returns ic::status::broken, and changes nothing, if they are no list of this table.
-    status clear() const noexcept { return this->edit(kind::clear); }
 };
 
 /// Sorts a list or the members of a ring.
@@ -675,8 +746,8 @@ public:
     using typename sorts<Base>::keys_view;
     using sorts<Base>::sorts;
 
-    /// Moves all members of `given` to where their keys belong, after members with equal keys. It returns ic::status::broken where a splice
-    /// does.
+    /// Moves all members of `given` to where their keys belong, after members with equal keys. It returns ic::status::broken in the cases in which a
+    /// splice does.
     status merge(keys_view keys, const merges &given) const noexcept {
         if (given.table_ != this->table_ || given.head_ == this->head_)
             return status::broken;
@@ -688,53 +759,71 @@ public:
 
 // ---- Doubly linked lists -----------------------------------------------------------------------------------------------------------
 
-using const_list_view = detail::of_head<detail::placed<detail::doubly>>;
+namespace detail {
 
 /// Edits a doubly linked list.
-class list_view : public detail::merges<detail::list_edits<detail::end_edits<const_list_view>>> {
+template <class List>
+class edits_of_list : public list_edits<end_edits<of_head<placed<doubly<List>>>>> {
+    using base = list_edits<end_edits<of_head<placed<doubly<List>>>>>;
+
 public:
-    using merges::merges;
+    using iterator = typename base::iterator;
+    using base::base;
 
     /// Inserts a place before an iterator's member, and at the back if that is end().
     status insert(iterator at, std::uint32_t place) const noexcept { return insert_before(*at, place); }
-    status insert_after(std::uint32_t at, std::uint32_t place) const noexcept { return edit(ic_list_insert_after, at, place); }
-    status insert_before(std::uint32_t at, std::uint32_t place) const noexcept { return edit(ic_list_insert_before, at, place); }
-    status remove(std::uint32_t at) const noexcept { return edit(ic_list_remove, at); }
-    status replace(std::uint32_t at, std::uint32_t place) const noexcept { return edit(ic_list_replace, at, place); }
+    status insert_after(std::uint32_t at, std::uint32_t place) const noexcept { return this->edit(List::insert_after, at, place); }
+    status insert_before(std::uint32_t at, std::uint32_t place) const noexcept { return this->edit(List::insert_before, at, place); }
+    status remove(std::uint32_t at) const noexcept { return this->edit(List::remove, at); }
+    status replace(std::uint32_t at, std::uint32_t place) const noexcept { return this->edit(List::replace, at, place); }
 
     /// Moves the member `place`, which stays linked.
-    status move_after(std::uint32_t at, std::uint32_t place) const noexcept { return edit(ic_list_move_after, at, place); }
-    status move_before(std::uint32_t at, std::uint32_t place) const noexcept { return edit(ic_list_move_before, at, place); }
-    status move_to_front(std::uint32_t place) const noexcept { return edit(ic_list_move_to_front, place); }
-    status move_to_back(std::uint32_t place) const noexcept { return edit(ic_list_move_to_back, place); }
+    status move_after(std::uint32_t at, std::uint32_t place) const noexcept { return this->edit(List::move_after, at, place); }
+    status move_before(std::uint32_t at, std::uint32_t place) const noexcept { return this->edit(List::move_before, at, place); }
+    status move_to_front(std::uint32_t place) const noexcept { return this->edit(List::move_to_front, place); }
+    status move_to_back(std::uint32_t place) const noexcept { return this->edit(List::move_to_back, place); }
 
     /// Moves all members of `given` before an iterator's member, and to the back if that is end(). This and the next five return
     /// ic::status::broken of this list itself, and of a list of another table.
-    status splice(iterator at, list_view given) const noexcept { return splice_before(*at, given); }
-    status splice_after(std::uint32_t at, list_view given) const noexcept {
-        return edit_both(given, ic_list_splice_after, at, given.head_);
+    status splice(iterator at, const edits_of_list &given) const noexcept { return splice_before(*at, given); }
+    status splice_after(std::uint32_t at, const edits_of_list &given) const noexcept {
+        return this->edit_both(given, List::splice_after, at, given.head_);
     }
-    status splice_before(std::uint32_t at, list_view given) const noexcept {
-        return edit_both(given, ic_list_splice_before, at, given.head_);
+    status splice_before(std::uint32_t at, const edits_of_list &given) const noexcept {
+        return this->edit_both(given, List::splice_before, at, given.head_);
     }
-    status append(list_view given) const noexcept { return edit_both(given, ic_list_append, given.head_); }
-    status split_after(std::uint32_t at, list_view rest) const noexcept { return edit_both(rest, ic_list_split_after, at, rest.head_); }
-    status split_before(std::uint32_t at, list_view rest) const noexcept { return edit_both(rest, ic_list_split_before, at, rest.head_); }
+    status append(const edits_of_list &given) const noexcept { return this->edit_both(given, List::append, given.head_); }
+    status split_after(std::uint32_t at, const edits_of_list &rest) const noexcept { return this->edit_both(rest, List::split_after, at, rest.head_); }
+    status split_before(std::uint32_t at, const edits_of_list &rest) const noexcept { return this->edit_both(rest, List::split_before, at, rest.head_); }
 
     /// Moves the member of an iterator of `given` before an iterator's member, and to the back if that is end(). The place stays linked. This
     /// and the next two return ic::status::broken where a splice of all members does.
-    status splice(iterator at, list_view given, iterator member) const noexcept { return transfer_before(*at, given, *member); }
+    status splice(iterator at, const edits_of_list &given, iterator member) const noexcept { return transfer_before(*at, given, *member); }
 
     /// Moves the member `place` of `given` after the member `at`, and to the front if that is `none`. The place stays linked.
-    status transfer_after(std::uint32_t at, list_view given, std::uint32_t place) const noexcept {
-        return edit_both(given, ic_list_transfer_after, at, given.head_, place);
+    status transfer_after(std::uint32_t at, const edits_of_list &given, std::uint32_t place) const noexcept {
+        return this->edit_both(given, List::transfer_after, at, given.head_, place);
     }
 
     /// Moves the member `place` of `given` before the member `at`, and to the back if that is `none`. The place stays linked.
-    status transfer_before(std::uint32_t at, list_view given, std::uint32_t place) const noexcept {
-        return edit_both(given, ic_list_transfer_before, at, given.head_, place);
+    status transfer_before(std::uint32_t at, const edits_of_list &given, std::uint32_t place) const noexcept {
+        return this->edit_both(given, List::transfer_before, at, given.head_, place);
     }
 };
+
+} // namespace detail
+
+using const_list_view = detail::of_head<detail::placed<detail::doubly<detail::wide_list>>>;
+
+/// Edits a doubly linked list, and fills, sorts and merges it.
+class list_view : public detail::merges<detail::fills<detail::edits_of_list<detail::wide_list>>> {
+public:
+    using merges::merges;
+};
+
+/// The same of a list whose links have words of 4 bytes, without fills, sorts and merges.
+using const_list32_view = detail::of_head<detail::placed<detail::doubly<detail::narrow_list>>>;
+using list32_view = detail::edits_of_list<detail::narrow_list>;
 
 // ---- Rings ---------------------------------------------------------------------------------------------------------------------------
 
@@ -907,7 +996,7 @@ using ring32_view = detail::rings<detail::narrow_ring, const_ring32_view>;
 using const_stack_view = detail::of_head<detail::members<detail::singly>>;
 
 /// Edits a singly linked list. Its edits in the middle are after the member `at`, or at the front if that is `none`.
-class stack_view : public detail::merges<detail::list_edits<detail::front_edits<const_stack_view>>> {
+class stack_view : public detail::merges<detail::fills<detail::list_edits<detail::front_edits<const_stack_view>>>> {
 public:
     using merges::merges;
 
@@ -1108,7 +1197,7 @@ public:
     /// Inserts a place at the front of its chain.
     status insert(std::uint64_t hash, std::uint32_t place) const noexcept { return edit(ic_hash_insert, hash, place); }
 
-    /// Removes a place from its chain, wherever it is in it.
+    /// Removes a place from its chain, wherever in the chain it is.
     status remove(std::uint64_t hash, std::uint32_t place) const noexcept { return edit(ic_hash_remove, hash, place); }
 
     /// Moves all members of `chain`, a bucket of another array, each to the front of its chain here. Those of one chain keep their order. `hashes`
@@ -1131,9 +1220,9 @@ public:
 using const_xor_view = detail::of_head<detail::two_way<detail::xored>>;
 
 /// Edits an XOR list. Its edits in the middle take the members on both sides, `none` beyond an end, or an iterator.
-class xor_view : public detail::list_edits<detail::end_edits<const_xor_view>> {
+class xor_view : public detail::fills<detail::list_edits<detail::end_edits<const_xor_view>>> {
 public:
-    using list_edits::list_edits;
+    using fills::fills;
 
     /// Inserts a place before an iterator's member, and at the back if that is end().
     status insert(iterator at, std::uint32_t place) const noexcept { return insert_between(front_of(at), place, *at); }
@@ -1194,7 +1283,7 @@ public:
     using sums_view = array_view<const ic_sum>;
     using writable_sums_view = array_view<ic_sum>;
 
-    /// Returns what the values of all members make together, in O(1), if the sums are right, and 0 if there is no member.
+    /// Returns the sum of the values of all members, or the greatest of them, in O(1), if the sums are right, and 0 if there is no member.
     [[nodiscard]] std::uint64_t sums_total(sums_view sums) const noexcept { return ic_tree_sums_total(sums.data(), sums.size(), in_.head); }
 
     /// Makes the sums right after the value of `at` has changed, in O(log n), or after any edits if no member is named, in O(p log p) for p places.
@@ -1202,15 +1291,15 @@ public:
         return static_cast<status>(ic_tree_sums_renew(in_.table, in_.places, sums.data(), sums.size(), sum_kind, at));
     }
 
-    /// Returns the first member after `at`, or the first of all if no member is named, at which what the values of the members after `at` up to it
-    /// make together is greater than `bound`. It returns std::nullopt if there is none, or if the call is refused.
+    /// Returns the first member after `at`, or the first of all if no member is named, at which the sum of the values of the members after `at` up to
+    /// it, or the greatest of them, is greater than `bound`. It returns std::nullopt if there is none, or if the call is refused.
     [[nodiscard]] std::optional<std::uint32_t> sums_find(sums_view sums, std::uint32_t sum_kind, std::uint64_t bound, std::uint32_t at = none) const noexcept {
         std::uint32_t member = none;
         const std::uint32_t done = ic_tree_sums_find(in_.table, in_.places, sums.data(), sums.size(), sum_kind, in_.head, at, bound, &member);
         return done == IC_OK ? found(member) : std::nullopt;
     }
 
-    /// Returns what the values of the members before the member `at` make together. It returns std::nullopt if the call is refused.
+    /// Returns the sum of the values of the members before the member `at`, or the greatest of them. It returns std::nullopt if the call is refused.
     [[nodiscard]] std::optional<std::uint64_t> sums_before(sums_view sums, std::uint32_t sum_kind, std::uint32_t at) const noexcept {
         std::uint64_t sum = 0;
         const std::uint32_t done = ic_tree_sums_before(in_.table, in_.places, sums.data(), sums.size(), sum_kind, at, &sum);
@@ -1316,6 +1405,24 @@ public:
     status remove(std::uint32_t at) const noexcept { return edit(ic_tree_remove, at); }
     status replace(std::uint32_t at, std::uint32_t place) const noexcept { return edit(ic_tree_replace, at, place); }
 
+    /// Inserts a place as insert() does, and updates each sum that the insertion changes, in O(log n).
+    status sums_insert(keys_view keys, writable_sums_view sums, std::uint32_t sum_kind, std::uint32_t place) const noexcept {
+        return static_cast<status>(
+            ic_tree_sums_insert(table_, in_.places, keys.data(), keys.size(), sums.data(), sums.size(), sum_kind, head_, place));
+    }
+
+    /// Inserts a place as insert_left() does, and updates each sum that the insertion changes. The next two do the same for insert_right() and
+    /// remove().
+    status sums_insert_left(writable_sums_view sums, std::uint32_t sum_kind, std::uint32_t at, std::uint32_t place) const noexcept {
+        return edit_summed(ic_tree_sums_insert_left, sums, sum_kind, at, place);
+    }
+    status sums_insert_right(writable_sums_view sums, std::uint32_t sum_kind, std::uint32_t at, std::uint32_t place) const noexcept {
+        return edit_summed(ic_tree_sums_insert_right, sums, sum_kind, at, place);
+    }
+    status sums_remove(writable_sums_view sums, std::uint32_t sum_kind, std::uint32_t at) const noexcept {
+        return edit_summed(ic_tree_sums_remove, sums, sum_kind, at);
+    }
+
     /// Removes the first member, and returns it. It returns std::nullopt if there is none, or, if the tree is not empty(), if its root is
     /// no place of this table.
     [[nodiscard]] std::optional<std::uint32_t> pop_front() const noexcept { return popped(*begin()); }
@@ -1323,8 +1430,8 @@ public:
     /// Removes the last member, and returns it. It returns std::nullopt where pop_front() does.
     [[nodiscard]] std::optional<std::uint32_t> pop_back() const noexcept { return popped(*rbegin()); }
 
-    /// Moves all members of `given` after those of this tree, and leaves `given` empty, in O(n). This and the next two compare nothing, and check
-    /// the trees first: they return ic::status::broken, and change nothing, if these are no trees of this table, or are one.
+    /// Moves all members of `given` after those of this tree, and leaves `given` empty, in O(n). This and the next two compare nothing, and check the
+    /// trees first: they return ic::status::broken, and change nothing, if these are no trees of this table, or are the same one.
     status append(tree_view given) const noexcept { return edit_both(given, ic_tree_append, given.head_); }
 
     /// Inserts a place after all members, and moves all members of `given` after it, in O(n).
@@ -1337,6 +1444,11 @@ public:
     status clear() const noexcept { return edit(ic_tree_clear); }
 
 private:
+    template <class Call, class... Places>
+    status edit_summed(Call call, writable_sums_view sums, std::uint32_t sum_kind, Places... places) const noexcept {
+        return static_cast<status>(call(table_, in_.places, sums.data(), sums.size(), sum_kind, head_, places...));
+    }
+
     std::optional<std::uint32_t> popped(std::uint32_t place) const noexcept {
         return remove(place) == status::ok ? found(place) : std::nullopt;
     }
@@ -1357,7 +1469,7 @@ protected:
 
 } // namespace detail
 
-/// Edits a tree that keeps its first and its last member, in an ic_tree_ends of yours. Edit such a tree by this view alone.
+/// Edits a tree that keeps its first and its last member, in an ic_tree_ends of yours. Edit such a tree only by this view.
 class tree_ends_view : public detail::erases<detail::ends_writes> {
 public:
     using erases::erases;

@@ -246,6 +246,199 @@ static inline uint32_t ic_list_in_transfer_before(struct ic_list_in in, uint32_t
 
 /* to here */
 
+/* ---- Doubly linked lists with words of 4 bytes ---- */
+
+/* This is a doubly linked list of a table whose links have words of 4 bytes. */
+struct ic_list32_in {
+    struct ic_link2_32 *table;
+    ic_length places;
+    struct ic_list *list;
+};
+
+/* tools/c-calls --write writes from here: list32 */
+
+IC_NODISCARD
+static inline uint32_t ic_list32_in_push_front(struct ic_list32_in in, uint32_t place) {
+    return ic_list32_push_front(in.table, in.places, in.list, place);
+}
+
+IC_NODISCARD
+static inline uint32_t ic_list32_in_push_back(struct ic_list32_in in, uint32_t place) {
+    return ic_list32_push_back(in.table, in.places, in.list, place);
+}
+
+IC_NODISCARD
+static inline uint32_t ic_list32_in_pop_front(struct ic_list32_in in, uint32_t *popped) {
+    return ic_list32_pop_front(in.table, in.places, in.list, popped);
+}
+
+IC_NODISCARD
+static inline uint32_t ic_list32_in_pop_back(struct ic_list32_in in, uint32_t *popped) {
+    return ic_list32_pop_back(in.table, in.places, in.list, popped);
+}
+
+IC_NODISCARD
+static inline uint32_t ic_list32_in_insert_after(struct ic_list32_in in, uint32_t at, uint32_t place) {
+    return ic_list32_insert_after(in.table, in.places, in.list, at, place);
+}
+
+IC_NODISCARD
+static inline uint32_t ic_list32_in_insert_before(struct ic_list32_in in, uint32_t at, uint32_t place) {
+    return ic_list32_insert_before(in.table, in.places, in.list, at, place);
+}
+
+IC_NODISCARD
+static inline uint32_t ic_list32_in_remove(struct ic_list32_in in, uint32_t at) {
+    return ic_list32_remove(in.table, in.places, in.list, at);
+}
+
+IC_NODISCARD
+static inline uint32_t ic_list32_in_replace(struct ic_list32_in in, uint32_t at, uint32_t place) {
+    return ic_list32_replace(in.table, in.places, in.list, at, place);
+}
+
+IC_NODISCARD
+static inline uint32_t ic_list32_in_move_after(struct ic_list32_in in, uint32_t at, uint32_t place) {
+    return ic_list32_move_after(in.table, in.places, in.list, at, place);
+}
+
+IC_NODISCARD
+static inline uint32_t ic_list32_in_move_before(struct ic_list32_in in, uint32_t at, uint32_t place) {
+    return ic_list32_move_before(in.table, in.places, in.list, at, place);
+}
+
+IC_NODISCARD
+static inline uint32_t ic_list32_in_move_to_front(struct ic_list32_in in, uint32_t place) {
+    return ic_list32_move_to_front(in.table, in.places, in.list, place);
+}
+
+IC_NODISCARD
+static inline uint32_t ic_list32_in_move_to_back(struct ic_list32_in in, uint32_t place) {
+    return ic_list32_move_to_back(in.table, in.places, in.list, place);
+}
+
+IC_NODISCARD
+static inline uint32_t ic_list32_in_splice_after(struct ic_list32_in in, uint32_t at, struct ic_list32_in given) {
+    if (given.table != in.table || given.list == in.list)
+        return IC_BROKEN;
+    return ic_list32_splice_after(in.table, in.places, in.list, at, given.list);
+}
+
+IC_NODISCARD
+static inline uint32_t ic_list32_in_splice_before(struct ic_list32_in in, uint32_t at, struct ic_list32_in given) {
+    if (given.table != in.table || given.list == in.list)
+        return IC_BROKEN;
+    return ic_list32_splice_before(in.table, in.places, in.list, at, given.list);
+}
+
+IC_NODISCARD
+static inline uint32_t ic_list32_in_append(struct ic_list32_in in, struct ic_list32_in given) {
+    if (given.table != in.table || given.list == in.list)
+        return IC_BROKEN;
+    return ic_list32_append(in.table, in.places, in.list, given.list);
+}
+
+IC_NODISCARD
+static inline uint32_t ic_list32_in_clear(struct ic_list32_in in) {
+    return ic_list32_clear(in.table, in.places, in.list);
+}
+
+IC_NODISCARD
+static inline uint32_t ic_list32_in_split_after(struct ic_list32_in in, uint32_t at, struct ic_list32_in rest) {
+    if (rest.table != in.table || rest.list == in.list)
+        return IC_BROKEN;
+    return ic_list32_split_after(in.table, in.places, in.list, at, rest.list);
+}
+
+IC_NODISCARD
+static inline uint32_t ic_list32_in_split_before(struct ic_list32_in in, uint32_t at, struct ic_list32_in rest) {
+    if (rest.table != in.table || rest.list == in.list)
+        return IC_BROKEN;
+    return ic_list32_split_before(in.table, in.places, in.list, at, rest.list);
+}
+
+IC_NODISCARD
+static inline uint32_t ic_list32_in_check(struct ic_list32_in in, uint64_t *members) {
+    return ic_list32_check(in.table, in.places, in.list, members);
+}
+
+IC_NODISCARD
+static inline uint32_t ic_list32_in_transfer_after(struct ic_list32_in in, uint32_t at, struct ic_list32_in given, uint32_t place) {
+    if (given.table != in.table || given.list == in.list)
+        return IC_BROKEN;
+    return ic_list32_transfer_after(in.table, in.places, in.list, at, given.list, place);
+}
+
+IC_NODISCARD
+static inline uint32_t ic_list32_in_transfer_before(struct ic_list32_in in, uint32_t at, struct ic_list32_in given, uint32_t place) {
+    if (given.table != in.table || given.list == in.list)
+        return IC_BROKEN;
+    return ic_list32_transfer_before(in.table, in.places, in.list, at, given.list, place);
+}
+
+static inline int ic_list32_in_is_linked(struct ic_list32_in in, uint32_t place) {
+    return ic_list32_is_linked(in.table, in.places, place);
+}
+
+static inline int ic_list32_in_is_empty(struct ic_list32_in in) {
+    return ic_list32_is_empty(in.list);
+}
+
+static inline uint32_t ic_list32_in_first(struct ic_list32_in in) {
+    return ic_list32_first(in.list);
+}
+
+static inline uint32_t ic_list32_in_last(struct ic_list32_in in) {
+    return ic_list32_last(in.list);
+}
+
+static inline uint32_t ic_list32_in_next(struct ic_list32_in in, uint32_t at) {
+    return ic_list32_next(in.table, in.places, at);
+}
+
+static inline uint32_t ic_list32_in_prev(struct ic_list32_in in, uint32_t at) {
+    return ic_list32_prev(in.table, in.places, at);
+}
+
+static inline uint32_t ic_list32_in_front(struct ic_list32_in in) {
+    return ic_list32_front(in.table, in.places, in.list);
+}
+
+static inline uint32_t ic_list32_in_back(struct ic_list32_in in) {
+    return ic_list32_back(in.table, in.places, in.list);
+}
+
+static inline int ic_list32_in_is_first(struct ic_list32_in in, uint32_t at) {
+    return ic_list32_is_first(in.table, in.places, in.list, at);
+}
+
+static inline int ic_list32_in_is_last(struct ic_list32_in in, uint32_t at) {
+    return ic_list32_is_last(in.table, in.places, in.list, at);
+}
+
+static inline int ic_list32_in_is_singular(struct ic_list32_in in) {
+    return ic_list32_is_singular(in.table, in.places, in.list);
+}
+
+#define IC_LIST32_IN_FOREACH(place, in) IC_LIST32_FOREACH(place, (in).table, (in).places, (in).list)
+#define IC_LIST32_IN_FOREACH_REVERSE(place, in) IC_LIST32_FOREACH_REVERSE(place, (in).table, (in).places, (in).list)
+#define IC_LIST32_IN_FOREACH_SAFE(place, next, in) IC_LIST32_FOREACH_SAFE(place, next, (in).table, (in).places, (in).list)
+#define IC_LIST32_IN_FOREACH_REVERSE_SAFE(place, prev, in) IC_LIST32_FOREACH_REVERSE_SAFE(place, prev, (in).table, (in).places, (in).list)
+#define IC_LIST32_IN_FOREACH_ENTRY(object, objects, in) IC_LIST32_FOREACH_ENTRY(object, objects, (in).table, (in).places, (in).list)
+#define IC_LIST32_IN_FOREACH_ENTRY_REVERSE(object, objects, in) \
+    IC_LIST32_FOREACH_ENTRY_REVERSE(object, objects, (in).table, (in).places, (in).list)
+#define IC_LIST32_IN_FOREACH_ENTRY_SAFE(object, objects, in) IC_LIST32_FOREACH_ENTRY_SAFE(object, objects, (in).table, (in).places, (in).list)
+#define IC_LIST32_IN_FOREACH_ENTRY_REVERSE_SAFE(object, objects, in) \
+    IC_LIST32_FOREACH_ENTRY_REVERSE_SAFE(object, objects, (in).table, (in).places, (in).list)
+#define IC_LIST32_IN_FOREACH_FROM(place, at, in) IC_LIST32_FOREACH_FROM(place, at, (in).table, (in).places)
+#define IC_LIST32_IN_FOREACH_REVERSE_FROM(place, at, in) IC_LIST32_FOREACH_REVERSE_FROM(place, at, (in).table, (in).places)
+#define IC_LIST32_IN_FOREACH_SAFE_FROM(place, next, at, in) IC_LIST32_FOREACH_SAFE_FROM(place, next, at, (in).table, (in).places)
+#define IC_LIST32_IN_FOREACH_ENTRY_FROM(object, objects, at, in) IC_LIST32_FOREACH_ENTRY_FROM(object, objects, at, (in).table, (in).places)
+#define IC_LIST32_IN_FOREACH_ENTRY_SAFE_FROM(object, objects, at, in) \
+    IC_LIST32_FOREACH_ENTRY_SAFE_FROM(object, objects, at, (in).table, (in).places)
+
+/* to here */
+
 /* ---- Rings ---- */
 
 /* This is a table of rings, whose heads are places of it. */
@@ -1075,6 +1268,28 @@ static inline uint32_t ic_tree_in_ends_pop_first(struct ic_tree_in in, struct ic
 
 static inline uint64_t ic_tree_in_sums_total(struct ic_tree_in in, const struct ic_sum *sums, ic_length sum_count) {
     return ic_tree_sums_total(sums, sum_count, in.tree);
+}
+
+IC_NODISCARD
+static inline uint32_t ic_tree_in_sums_insert(struct ic_tree_in in, struct ic_sum *sums, ic_length sum_count, uint32_t kind, uint32_t place) {
+    return ic_tree_sums_insert(in.table, in.places, in.keys.keys, in.keys.count, sums, sum_count, kind, in.tree, place);
+}
+
+IC_NODISCARD
+static inline uint32_t ic_tree_in_sums_insert_left(struct ic_tree_in in, struct ic_sum *sums, ic_length sum_count, uint32_t kind, uint32_t
+                                                   at, uint32_t place) {
+    return ic_tree_sums_insert_left(in.table, in.places, sums, sum_count, kind, in.tree, at, place);
+}
+
+IC_NODISCARD
+static inline uint32_t ic_tree_in_sums_insert_right(struct ic_tree_in in, struct ic_sum *sums, ic_length sum_count, uint32_t kind, uint32_t
+                                                    at, uint32_t place) {
+    return ic_tree_sums_insert_right(in.table, in.places, sums, sum_count, kind, in.tree, at, place);
+}
+
+IC_NODISCARD
+static inline uint32_t ic_tree_in_sums_remove(struct ic_tree_in in, struct ic_sum *sums, ic_length sum_count, uint32_t kind, uint32_t at) {
+    return ic_tree_sums_remove(in.table, in.places, sums, sum_count, kind, in.tree, at);
 }
 
 IC_NODISCARD

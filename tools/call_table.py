@@ -34,8 +34,8 @@ ROW = re.compile(r"^(ic_(\w+?)_\w+)\(([^)]*)\) (O\(.+\))\n    (.*)\n(?:    NULL:
 GROUP = re.compile(r"^\[([\w-]+)\](?: \[([\w-]+)\])?\n((?:(?!\[).*\n?)*)", re.M)
 READS = re.compile(r"^\[reads\] (.*)\n((?:.+\n)*)", re.M)
 ROLES = ("new", "run", "member", "ring", "gap")
-# The arguments by which a call hands a number out.
-OUT = ("popped", "removed", "replaced", "found", "members")
+# The arguments by which a call hands a number out: a place, a count, or a sum.
+OUT = ("popped", "removed", "replaced", "found", "members", "sum")
 STATUSES = ("NULL", "OUT_OF_RANGE", "LINKED", "NOT_LINKED", "BROKEN")
 # What the header calls otherwise than crates/ic_ffi: the member after a gap of an XOR list.
 RENAMED = {"behind": "after"}
@@ -59,7 +59,7 @@ def parameters(text):
 
 def records():
     """Each record that is a whole contract, by its crate, its file and its name: its parameters, and its fields by their names. A field `call` is the record of
-    another call, whose fields it has, too."""
+    another call, whose fields it has, too, maybe if something holds."""
     found, called = {}, {}
     files = [file for home in HOMES for file in sorted((ROOT / f"crates/{home}/specs").glob("*Calls.antt"))]
     for file in files:
@@ -73,7 +73,7 @@ def records():
     # A crate's records are made of those of the crates before it.
     for key, (names, fields) in found.items():
         if "call" in fields:
-            whole = re.match(r"([\w.]+) (.*)\n", fields["call"])
+            whole = re.match(r"(?:.* → )?([\w.]+) (.*)\n", fields["call"])
             found[key] = names, {**filled(records_of(called[key], found)[whole[1]], whole[2]), **fields}
     return found
 

@@ -12,9 +12,12 @@ STRUCTS = {"RawOne": "ic_link1", "RawTwo": "ic_link2", "RawNarrowTwo": "ic_link2
            "RawTreeEnds": "ic_tree_ends", "RawSum": "ic_sum"}
 COUNTS = {"table": "places", "keys": "key_count", "hashes": "hash_count", "buckets": "bucket_count", "sums": "sum_count"}
 # The classes and types of the bindings, and how many words a link of each kind has.
-CLASSES = {"list": "List", "stack": "Stack", "xor": "XorList", "tree": "Tree", "ring": "Ring", "ring32": "Ring32", "hash": "HashTable"}
-LINKS = {"list": 2, "ring": 2, "ring32": "2x32", "stack": 1, "hash": 1, "xor": 1, "tree": 3}
+CLASSES = {"list": "List", "list32": "List32", "stack": "Stack", "xor": "XorList", "tree": "Tree", "ring": "Ring", "ring32": "Ring32", "hash": "HashTable"}
+LINKS = {"list": 2, "list32": "2x32", "ring": 2, "ring32": "2x32", "stack": 1, "hash": 1, "xor": 1, "tree": 3}
 SELF = ("list", "tree")
+# The slices whose elements the crate ic has under a name of its own, and what a call hands out that is no place.
+WRAPPED = {"buckets": "Stack", "sums": "Sum"}
+NUMBERED = ("members", "sum")
 # The families whose calls name heads, which are places.
 RINGS = ("ring", "ring32")
 # The families whose handles and objects keep the keys. The calls of the others are handed them.
@@ -30,10 +33,10 @@ COMMENT, C_LINE, RUST_LINE = 140, 142, 120
 SAFETY = "// SAFETY: each pointer comes from a reference, with the length of its slice, and no mutable reference overlaps another one."
 
 
-def bound_words(call, none):
+def bound_words(call, none, greatest):
     """What the bindings have in place of the words in braces."""
     rest = NEW.get(call.family, "a new list, which it returns")
-    return {**BOUND, "none": none, "rest": rest, "out": RETURNED.get(outcome(call), "returns it")}
+    return {**BOUND, "none": none, "greatest": greatest, "rest": rest, "out": RETURNED.get(outcome(call), "returns it")}
 
 
 def sentences(call, words):
@@ -85,7 +88,7 @@ def header(call):
     """The prototype with its comment."""
     out = outcome(call)
     words = {"none": "IC_NONE", "self": "`list`", "rest": "`rest`, which has to be empty", "rest_has": ", or `rest` has members",
-             "accepted": "the status is IC_OK", "out": f"sets *{out} to it"}
+             "greatest": "IC_GREATEST", "accepted": "the status is IC_OK", "out": f"sets *{out} to it"}
     words["out"] = {"members": "sets *members to how many there are", "replaced": "sets *replaced to the removed member"}.get(out, words["out"])
     lines = textwrap.wrap(sentences(call, words), COMMENT - 3)
     said = refusals(broken(call, words), "IC_NONE", "`places`")
@@ -105,12 +108,15 @@ def extern(call):
     """The declaration in ic-sys."""
     parts = [f"{name}: " + f"*{'const' if is_const else 'mut'} " * is_pointer + kind for is_const, (_, kind), is_pointer, name in c_arguments(call)]
     line = f"    pub fn {call.name}({', '.join(parts)}) -> u32;\n"
-    return line if len(line) <= RUST_LINE + 1 else f"    pub fn {call.name}(\n" + "".join(f"        {part},\n" for part in parts) + "    ) -> u32;\n"
+    # rustfmt keeps a column for what a body would begin with.
+    if len(line) == RUST_LINE + 1:
+        return line.replace(" -> u32", "\n        -> u32")
+    return line if len(line) <= RUST_LINE else f"    pub fn {call.name}(\n" + "".join(f"        {part},\n" for part in parts) + "    ) -> u32;\n"
 
 
 def rust_comment(call, indent):
     out = outcome(call)
-    words = bound_words(call, "`None`")
+    words = bound_words(call, "`None`", "[`SumKind::Greatest`]")
     of, text = broken(call, words), sentences(call, words)
     said = refusals(of, "`u32::MAX`", "the table's length")
     if out in ("popped", "removed", "found"):
@@ -137,21 +143,23 @@ def given_of(call, text):
 def rust_arguments(call):
     """The parameters of the method, and what it hands to the call."""
     reads = next(c_arguments(call))[0]
-    handed = {"table": ["links", "places"], "rest": ["&mut rest.0"], "ends": ["&mut ends.0"], "chain": ["&mut chain.0"], **given_of(call, ["&mut given.0"])}
+    handed = {"table": ["links", "places"], "rest": ["&mut rest.0"], "ends": ["&mut ends.0"], "chain": ["&mut chain.0"], "kind": ["kind as u32"],
+              **given_of(call, ["&mut given.0"])}
     handed.update({name: [f"{name}.as_ptr()", f"{name}.len()"] for name in ("keys", "hashes")})
     params, words = [], []
     for arg in call.args:
         if arg.name in SELF:
             words.append("&mut self.0" if arg.is_mut else "&self.0")
             continue
-        if arg.name == "buckets":
-            words += [f"buckets.{'as_mut_ptr' if arg.is_mut else 'as_ptr'}().cast()", "buckets.len()"]
+        if arg.name in WRAPPED:
+            words += [f"{arg.name}.{'as_mut_ptr' if arg.is_mut else 'as_ptr'}().cast()", f"{arg.name}.len()"]
         elif arg.name in OUT:
-            words.append("members" if arg.name == "members" else "it")
+            words.append(arg.name if arg.name in NUMBERED else "it")
         else:
             words += handed.get(arg.name, [f"number({arg.name})" if call.roles.get(arg.name) == "gap" else arg.name])
         kinds = {"table": f"&{'mut ' * (not reads)}[Link{LINKS[call.family]}]", "keys": "&[u64]", "hashes": "&[u64]", **given_of(call, f"&mut {CLASSES[call.family]}"),
-                 "buckets": f"&{'mut ' * arg.is_mut}[Stack]", "ends": "&mut TreeEnds", "chain": "&mut Stack"}
+                 "ends": "&mut TreeEnds", "chain": "&mut Stack", "kind": "SumKind",
+                 **{name: f"&{'mut ' * arg.is_mut}[{kind}]" for name, kind in WRAPPED.items()}}
         if arg.name not in ("rest", *OUT):
             params.append(f"{arg.name}: " + kinds.get(arg.name, "Option<u32>" if call.roles.get(arg.name) == "gap" else arg.type))
     owner = [f"&{'mut ' * arg.is_mut}self" for arg in call.args if arg.name in SELF]
@@ -173,8 +181,8 @@ def rust(call):
         lines += [f"done({called})?;", "Ok(rest)"]
     elif is_none_refused(call):
         lines, result = [*lines, f"counted(|members| {called})"], " -> Option<u64>"
-    elif out == "members":
-        lines, result = [*lines, f"try_counted(|members| {called})"], " -> Result<u64, Error>"
+    elif out in NUMBERED:
+        lines, result = [*lines, f"try_counted(|{out}| {called})"], " -> Result<u64, Error>"
     elif out == "replaced":
         lines[1:], result = [SAFETY, f"let removed = handed_out(|it| {called})?;", "removed.ok_or(Error::Null)"], " -> Result<u32, Error>"
     elif out:
@@ -211,9 +219,10 @@ def split_closure(line, indent):
 # ---- The table of reads ----
 
 
-def reads_table(reads):
-    """The rows of docs/LIBRARY.md: what each read is called in each language, and what it returns."""
-    lines = ["| C | Rust | JavaScript | Of a place that is not linked | Of a place beyond the table | If the link leads out of the table |",
+def reads_section(reads):
+    """A section of the page of what each language has: what each read is called in each language, and what it returns."""
+    lines = ["", "## Reads", "", "*None* is `IC_NONE` in C, `None` in Rust and `null` in JavaScript.", "",
+             "| C | Rust | JavaScript | Of a place that is not linked | Of a place beyond the table | If the link leads out of the table |",
              "|---|---|---|---|---|---|"]
     for name, returned in reads.items():
         family, read = re.match(r"ic_(\w+?)_(\w+)", name).groups()
@@ -235,7 +244,7 @@ def script_words(call):
     """What the method hands to the call. Each number is checked by its name."""
     fixed = {"table": "this.table, this.places", "list": "this.self", "tree": "this.self", "keys": "this.keysAt, this.keyCount",
              "buckets": "this.bucketsAt, this.bucketCount", "given": "this.given(given)", "rest": "rest", "ends": "this.endsAt", "chain": "this.given(chain)",
-             "hashes": "...keyParts(hashes, this.links)"}
+             "hashes": "...keyParts(hashes, this.links)", "sums": "...sumParts(sums, this.links)"}
     if call.family not in KEEP_KEYS:
         fixed["keys"] = "...keyParts(keys, this.links)"
     if call.family in RINGS:
@@ -265,7 +274,7 @@ def script(call):
     """The method of ic.mjs. A constructor of a ring calls ic_ring_init."""
     if short(call) == "init":
         return ""
-    begin = {"rest": "return this.parted((rest) => ", "members": "return this.counted(", None: "this.done("}.get(outcome(call), "return this.member(")
+    begin = {"rest": "return this.parted((rest) => ", "members": "return this.counted(", "sum": "return this.summed(", None: "this.done("}.get(outcome(call), "return this.member(")
     begin += f"this.calls.{call.name}("
     head, words = f"  {script_name(call)}({', '.join(arg.name for arg in script_parameters(call))}) {{", list(script_words(call))
     line = f"{begin}{', '.join(words)}));"
@@ -282,11 +291,11 @@ def types(call):
     if short(call) == "init":
         return ""
     out, own = outcome(call), CLASSES[call.family]
-    kinds = {"given": own, "chain": CLASSES["stack"], "head": own, "hash": "bigint | number", "key": "bigint | number", "keys": "Words", "hashes": "Words", "count": "number"}
-    kind = lambda arg: kinds.get(arg.name) or ("Gap" if call.roles.get(arg.name) == "gap" else "Place")
+    kinds = {"given": own, "chain": CLASSES["stack"], "head": own, "keys": "Words", "hashes": "Words", "count": "number", "sums": "Sums", "kind": "SumKind"}
+    kind = lambda arg: kinds.get(arg.name) or ("bigint | number" if arg.type == "u64" else "Gap" if call.roles.get(arg.name) == "gap" else "Place")
     parameters = [f"{arg.name}: {kind(arg)}" for arg in script_parameters(call)]
-    result = {"rest": own, "members": "number", None: "void"}.get(out, "Gap")
-    words = bound_words(call, "null")
+    result = {"rest": own, "members": "number", "sum": "bigint", None: "void"}.get(out, "Gap")
+    words = bound_words(call, "null", "GREATEST")
     said, text = refusals(broken(call, words), "null", "the table's length"), sentences(call, words)
     if out in ("popped", "removed", "replaced", "found"):
         text += f" It returns null if {said.pop('NULL')}."

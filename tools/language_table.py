@@ -31,6 +31,7 @@ BELOW = {"ic_unsafe_ref", "ic_chain", "ic_linked_list", "ic_singly_linked_list",
          "ic_check", "ic_list_algorithms", "ic_workers", "ic_world_laws"}
 # What the other languages have of these: in C, C++, Rust and JavaScript.
 ALSO = {"Trees that keep their first and last member": ("`ic_tree_ends_*`", "`ic::tree_ends_view`", "`TreeEnds`", "`TreeWithEnds`"),
+        "Summaries over subtrees: lengths, positions, overlaps": ("`ic_tree_sums_*`", "`ic::tree_view::sums_*`", "`Sum`", "`Sums`"),
         "Links of 4-byte words": ("`struct ic_link2_32`", "`ic_link2_32`", "`Link2x32`", "`HalfWords`")}
 # The rows of the calls that keep the ends of a tree, by what is after `ends_` in their names.
 ENDED = {**{name: name for name in ("insert", "insert_left", "insert_right", "remove", "replace", "first", "last")}, "pop_first": "pop_front"}
@@ -86,13 +87,13 @@ def names_of(family, header):
 
 def others(family):
     """What stands apart from the type: the reads of a link's mark, and the other end of a walk."""
-    kind = f"Link{ {'list': 2, 'ring': 2, 'ring32': '2x32', 'tree': 3}.get(family, 1) }"
+    kind = f"Link{ {'list': 2, 'list32': '2x32', 'ring': 2, 'ring32': '2x32', 'tree': 3}.get(family, 1) }"
     yield from [("Rust", "", "is_linked")] * (f"link!({kind}, " in rust_text()["link"])
     yield from [("JavaScript", "", "isLinked")] * ("  isLinked(" in TYPES.read_text())
     yield "Rattle", "", "is_linked"
     if re.search(rf"^impl Bidirectional for {FAMILIES[family].rust} \{{", "".join(rust_text().values()), re.M):
         yield "Rust", "", "loop backwards"
-    if family in ("list", "xor", "ring", "ring32", "tree"):
+    if family in ("list", "list32", "xor", "ring", "ring32", "tree"):
         yield "Rattle", "", "loop backwards"
 
 

@@ -12,6 +12,7 @@ from checks import ROOT
 Family = collections.namedtuple("Family", "letter title cpp rust script rattle")
 FAMILIES = {
     "list": Family("L", "Doubly linked list", ("const_list_view", "list_view"), "List", "List", "LinkedList"),
+    "list32": Family("l", "Doubly linked list, words of 4 bytes", ("const_list32_view", "list32_view"), "List32", "List32", "LinkedList"),
     "ring": Family("R", "Ring", ("const_ring_view", "ring_view", "const_ring_members", "ring_members"), "ring", "Ring", "Ring"),
     "ring32": Family("r", "Ring, words of 4 bytes", ("const_ring32_view", "ring32_view", "const_ring32_members", "ring32_members"), "ring32", "Ring32", "Ring"),
     "stack": Family("S", "Singly linked list", ("const_stack_view", "stack_view"), "Stack", "Stack", "SinglyLinkedList"),
@@ -106,7 +107,7 @@ def cpp_items(names):
         if name in classes and name not in seen:
             seen[name] = classes[name]
             todo += re.findall(r"\w+", classes[name][0])
-    is_kind = {name: bool(re.search(r"is_bidirectional =|handle handle_of", body)) for name, (_, _, body) in seen.items()}
+    is_kind = {name: bool(re.search(r"is_bidirectional =|handle handle_of|static constexpr auto", body)) for name, (_, _, body) in seen.items()}
     kinds = "".join(body for name, (_, _, body) in seen.items() if is_kind[name])
     for name, (_, public, _) in seen.items():
         for comment, signature, body in cpp_members(public) if not is_kind[name] else []:

@@ -16,7 +16,7 @@ STATUS = re.compile(r"(IC_\w+) = \d+,?\s*/\* (.*?) \*/")
 STRUCT = re.compile(r"/\* ((?:(?!\*/).)*) \*/\n(struct (ic_\w+) \{\n.*?\n\};)", re.S)
 SAMPLE = re.compile(r"^```cpp\n(.*?)^```", re.M | re.S)
 RUST_TYPES = {"Cursor": "cursor", "CursorMut": "cursor", "View": "view", "Iter": "view", "Entry": "keyed", "VacantEntry": "keyed", "Link1": "link",
-              "Link2": "link", "Link3": "link", "Error": "error"}
+              "Link2": "link", "Link2x32": "link", "Link3": "link", "TreeEnds": "tree", "Sum": "sums", "SumKind": "sums", "Error": "error"}
 
 
 def bare(text):
@@ -32,7 +32,9 @@ def sample_in(text):
 
 def rust_prose(text):
     """A doc comment of Rust as Markdown: links as the words that they show, examples as code without hidden lines."""
-    text = re.sub(r"\[([^\[\]]+)\](?:\([^)]*\))?(?!:)", r"\1", text)
+    # Brackets of an example are arrays, and no links.
+    parts = re.split(r"(^```.*?^```$)", text, flags=re.M | re.S)
+    text = "".join(part if part.startswith("```") else re.sub(r"\[([^\[\]]+)\](?:\([^)]*\))?(?!:)", r"\1", part) for part in parts)
     text = re.sub(r"^# (?!\w+$).*\n", "", text, flags=re.M)
     return re.sub(r"^# (\w+)$", r"**\1.**", text, flags=re.M).replace("```\nuse ", "```rust\nuse ")
 
@@ -57,7 +59,7 @@ def introductions():
     """What the header says of each family before its calls."""
     text, found = HEADER.read_text(), {}
     for title, said, body in SECTION.findall(text):
-        family = re.search(r"\bic_(list|ring32|ring|stack|hash|xor|tree)_\w+\(", body)
+        family = re.search(r"\bic_(list32|list|ring32|ring|stack|hash|xor|tree)_\w+\(", body)
         if family and not title.startswith(("Words", "Reads")):
             found.setdefault(family[1], []).append((title, bare(said)))
     return found
@@ -67,7 +69,7 @@ def words_of(call):
     """What differs between the languages, as the header has it."""
     out = call_texts.outcome(call)
     return {"none": "`IC_NONE`", "self": "`list`", "rest": "`rest`, which has to be empty", "rest_has": ", or `rest` has members",
-            "accepted": "the status is `IC_OK`", "out": f"sets `*{out}` to {'how many there are' if out == 'members' else 'it'}"}
+            "greatest": "`IC_GREATEST`", "accepted": "the status is `IC_OK`", "out": f"sets `*{out}` to {'how many there are' if out == 'members' else 'it'}"}
 
 
 def called(call):
@@ -173,7 +175,7 @@ def common_page(entries):
     text += "\n## Words, loops and the version\n"
     said = ""
     for item in c_items():
-        if not re.match(r"(?i)ic_(?:list|ring32|ring|stack|hash|xor|tree)_", item.name):
+        if not re.match(r"(?i)ic_(?:list32|list|ring32|ring|stack|hash|xor|tree)_", item.name):
             text += heading(item.name, 3) + inline(item, said)
             said = item.comment
             entries.append((item.name, f"library/index.html#{item.name}", first_of(item.comment)))
@@ -195,7 +197,7 @@ def rust_page(entries):
         items = [it for block in blocks for it in rust_calls(block, 4)]
         items += rust_calls(dict(RUST_MACRO.findall(part))["link"], 12) if file == "link" else []
         for item in items:
-            shown = item.signature.replace("$Link", name).replace("$words", name[-1])
+            shown = item.signature.replace("$Link", name).replace("$words", name[-1]).replace("$Word", "u32" if name.endswith("32") else "u64").replace("[$first $(, $word)*]", "words")
             text += f"{code(shown, 'rust')}\n{rust_prose(item.comment)}\n"
             entries.append((f"{name}::{item.name}", f"library/rust.html#{name}", first_of(rust_prose(item.comment))))
     return text

@@ -6,9 +6,8 @@ import re
 FUNCTION = re.compile(r"^(?!\.)([\w.$]+):\n(.*?)^\.Lfunc_end\d+:", re.M | re.S)
 # The depth where a function begins, which has the return address on x86-64. Instructions that call a function, and that jump to one.
 Processor = collections.namedtuple("Processor", "entry call jump")
-# The functions that call themselves, and how often one stands within itself at most: by a run of each level, and by each level of a tree, below which
-# some are called once more, with no turn left.
-LEVELS = {"sort_front": 34, "check_below": 67, "first_below": 68, "first_above": 68, "sum_above": 68}
+# The functions that call themselves, and how often one stands within itself at most: by a run of each level, and by each level of a tree.
+LEVELS = {"sort_front": 34, "check_below": 67}
 THUMB = Processor(0, re.compile(r"bl\s+([a-z_][\w.$]*)"), re.compile(r"b(?:[a-z]{2})?(?:\.[nw])?\s+([a-z_][\w.$]*)$"))
 PROCESSORS = {
     "x86_64": Processor(8, re.compile(r"callq\s+([\w.$]+)"), re.compile(r"j\w+\s+([a-z_][\w.$]*)$")),

@@ -21,13 +21,13 @@ LINE = "crate-line.txt"
 # The README of a new repository.
 PAGE = """# {name}
 
-A repository of proved Rattle, begun over copies of crates of Fasciahyssop, intrusive collections that are proved.
+A repository of proved Rattle, which begins with copies of crates of Fasciahyssop, a library of proved intrusive collections.
 
 | Part | What it is |
 |---|---|
 | [`crates/{own}`](crates/{own}/README.md) | the crate that is yours to change |
 | the other crates | copies of version {version}, which a later run of `tools/vendor` renews |
-| [`crates.txt`](crates.txt) | each crate with the crates that it stands on, lowest first. Your own lines stand outside the two comments |
+| [`crates.txt`](crates.txt) | each crate with the crates that it uses, lowest first. Your own lines are outside the two comments |
 | [`HANDLES`](HANDLES) | which handles a program may have: threads, and to wait for them |
 | [`fasciahyssop.lock`](fasciahyssop.lock) | the version, the crates that were named, and the checksum of each file that was copied |
 | [`licenses`](licenses) | the licenses of the copies |
@@ -38,7 +38,7 @@ In `crates/{own}`:
 
 ```sh
 rt try --test # compiles, runs the tests, and proves nothing
-rt check      # proves the crate, and at first the crates that it stands on
+rt check      # proves the crate, and at first the crates that it uses
 ```
 
 At the top, `rt ci` is the gate. It proves all crates from nothing, and runs all tests.
@@ -51,7 +51,7 @@ Write its code in `crates/NAME/src/lib.rt`, or in `src/main.rt` if it is a progr
 NAME: ic_unsafe_ref ic_link_ops ic_pool
 ```
 
-A crate stands on those that its line names, and uses no other one. `rt check --start FUNCTION --allow-holes` writes the file of a proof, and prints the goals that
+A crate uses those that its line names, and no other one. `rt check --start FUNCTION --allow-holes` writes the file of a proof, and prints the goals that
 are left.
 
 ## The copies

@@ -123,77 +123,6 @@ static uint64_t doubly(const char *workload, const struct room *room, uint64_t *
     return hash + checksum;
 }
 
-/* ---- Rings, whose head is the place after those of the members ---- */
-
-/* A ring in its table. */
-struct ringed {
-    struct ic_link2 *links;
-    uint32_t places, head;
-};
-
-TIMED timed_ring_pair(const struct ringed *it, uint64_t operations) {
-    uint64_t failed = 0;
-    while (operations--) {
-        uint32_t place;
-        failed += ic_ring_pop_front(it->links, it->places, it->head, &place);
-        failed += ic_ring_push_back(it->links, it->places, it->head, place);
-    }
-    return failed;
-}
-
-TIMED timed_ring_touch(const struct ringed *it, const uint32_t *order, uint64_t operations) {
-    uint64_t random = 1, failed = 0;
-    while (operations--)
-        failed += ic_ring_move_before(it->links, it->places, it->head, order[below(&random, it->head)]);
-    return failed;
-}
-
-TIMED timed_ring_leave(const struct ringed *it, const uint32_t *order, uint64_t operations) {
-    uint64_t random = 1, failed = 0;
-    while (operations--) {
-        uint32_t place = order[below(&random, it->head)];
-        failed += ic_ring_remove(it->links, it->places, place);
-        failed += ic_ring_push_back(it->links, it->places, it->head, place);
-    }
-    return failed;
-}
-
-TIMED timed_ring_swap(const struct ringed *it, const uint32_t *order, uint64_t operations) {
-    uint64_t random = 1, failed = 0;
-    while (operations--) {
-        uint32_t one = order[below(&random, it->head)];
-        failed += ic_ring_swap(it->links, it->places, one, order[below(&random, it->head)]);
-    }
-    return failed;
-}
-
-TIMED timed_ring_range(const struct ringed *it, const uint32_t *order, uint64_t operations) {
-    uint64_t random = 1, failed = 0;
-    while (operations--) {
-        uint32_t first = ic_ring_next(it->links, it->places, it->head);
-        failed += ic_ring_move_range_before(it->links, it->places, it->head, first, order[below(&random, it->head)]);
-    }
-    return failed;
-}
-
-static uint64_t ring(const char *workload, const struct room *room, uint64_t *time) {
-    struct ringed it = {room_for((uint64_t)room->members + 1, sizeof *it.links), room->members + 1, room->members};
-    must(ic_ring_init(it.links, it.places, it.head));
-    for (uint32_t index = 0; index < room->members; index++)
-        must(ic_ring_push_back(it.links, it.places, it.head, room->order[index]));
-    uint64_t start = now();
-    uint64_t checksum = !strcmp(workload, "ring_pair")    ? timed_ring_pair(&it, room->operations)
-                        : !strcmp(workload, "ring_touch") ? timed_ring_touch(&it, room->order, room->operations)
-                        : !strcmp(workload, "ring_leave") ? timed_ring_leave(&it, room->order, room->operations)
-                        : !strcmp(workload, "ring_swap")  ? timed_ring_swap(&it, room->order, room->operations)
-                                                          : timed_ring_range(&it, room->order, room->operations);
-    *time = now() - start;
-    uint64_t hash = 0;
-    IC_RING_FOREACH(at, it.links, it.places, it.head)
-        hash = hash * 31 + room->values[at];
-    return hash + checksum;
-}
-
 /* ---- The sort of a doubly linked list ---- */
 
 TIMED timed_sort(struct ic_link2 *links, uint32_t members, const uint64_t *values, struct ic_list *list) {
@@ -556,7 +485,6 @@ int main(int count, char **words) {
     uint64_t checksum = !strcmp(words[1], "singly") ? singly(&room, &time)
                         : !strcmp(words[1], "sort") ? sorted(&room, &time)
                         : !strcmp(words[1], "xor")  ? xor_list(&room, &time)
-                        : !strncmp(words[1], "ring_", 5) ? ring(words[1], &room, &time)
                         : !strcmp(words[1], "hash_prime") ? hashed(words[1], &room, 1021, &time)
                         : !strncmp(words[1], "hash", 4) ? hashed(words[1], &room, 1024, &time)
                         : is_doubly                 ? doubly(words[1], &room, &time)

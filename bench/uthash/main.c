@@ -56,6 +56,27 @@ TIMED timed_hash_all(const struct object *table, uint64_t rounds) {
     return sum;
 }
 
+/* Doubles the buckets, as the table does by itself when its chains are long. */
+TIMED timed_hash_grow(struct object *table) {
+    HASH_EXPAND_BUCKETS(links, table->links.tbl, (void)0);
+    return 0;
+}
+
+/* Grows a table with half the buckets, again and again. */
+static uint64_t grow(struct object *objects, const uint64_t *order, uint64_t members, uint64_t rounds) {
+    bucket_bits--;
+    while (rounds--) {
+        struct object *table = NULL;
+        for (uint64_t index = 0; index < members; index++) {
+            struct object *object = &objects[order[index]];
+            HASH_ADD(links, table, value, sizeof object->value, object);
+        }
+        timed_hash_grow(table);
+        HASH_CLEAR(links, table);
+    }
+    return 0;
+}
+
 int main(int count, char **words) {
     if (count != 4)
         return 2;
@@ -71,7 +92,8 @@ int main(int count, char **words) {
         HASH_ADD(links, table, value, sizeof object->value, object);
     }
     uint64_t operations = strtoull(words[3], NULL, 10), start = now();
-    uint64_t sum = !strcmp(words[1], "hash_turn")  ? timed_hash_turn(&table, objects, order, members, operations)
+    uint64_t sum = !strcmp(words[1], "hash_grow")  ? grow(room_for(members, sizeof *objects), order, members, operations / members)
+                   : !strcmp(words[1], "hash_turn") ? timed_hash_turn(&table, objects, order, members, operations)
                    : !strcmp(words[1], "hash_all") ? timed_hash_all(table, operations / members)
                                                    : timed_hash_find(table, members, operations);
     printf("%" PRIu64 " %" PRIu64 "\n", now() - start, sum);

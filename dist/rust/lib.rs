@@ -18,7 +18,7 @@ pub const IC_NONE: u32 = u32::MAX;
 
 /// The call has made the edit, or has found what it looked for.
 pub const IC_OK: u32 = 0;
-/// A place is not below `places`, or there are fewer keys or hashes than places, or there is no bucket.
+/// A place is not below `places`, or there are fewer keys, hashes or sums than places, or there is no bucket.
 pub const IC_OUT_OF_RANGE: u32 = 1;
 /// The place to insert is in a list or tree of this table.
 pub const IC_LINKED: u32 = 2;
@@ -99,6 +99,19 @@ pub struct ic_tree_ends {
     pub last: u64,
 }
 
+/// What a tree with sums has for each place beside its link: a value that you write, and a sum that calls write.
+#[repr(C)]
+#[derive(Clone, Copy, Debug, Default, PartialEq, Eq, Hash)]
+pub struct ic_sum {
+    pub value: u64,
+    pub sum: u64,
+}
+
+/// What values make together: their sum, which is at most `u64::MAX`.
+pub const IC_SUM: u32 = 0;
+/// What values make together: the greatest of them.
+pub const IC_GREATEST: u32 = 1;
+
 /// The number of a place in a word, or 0 for `IC_NONE`.
 #[inline]
 #[must_use]
@@ -121,7 +134,7 @@ pub const fn ic_place(word: u64) -> u32 {
 }
 
 extern "C" {
-    // tools/c-calls --write writes from here: list list-keys list-transfer ring ring-check ring-keys ring32 stack stack-keys hash hash-growth xor tree tree-keys tree-steps tree-ends
+    // tools/c-calls --write writes from here: list list-fill list-keys list-transfer list32 ring ring-check ring-keys ring32 stack stack-keys hash hash-growth xor tree tree-keys tree-steps tree-ends tree-sums
     pub fn ic_list_push_front(table: *mut ic_link2, places: usize, list: *mut ic_list, place: u32) -> u32;
     pub fn ic_list_push_back(table: *mut ic_link2, places: usize, list: *mut ic_list, place: u32) -> u32;
     pub fn ic_list_pop_front(table: *mut ic_link2, places: usize, list: *mut ic_list, popped: *mut u32) -> u32;
@@ -149,6 +162,52 @@ extern "C" {
         given: *mut ic_list,
     ) -> u32;
     pub fn ic_list_append(table: *mut ic_link2, places: usize, list: *mut ic_list, given: *mut ic_list) -> u32;
+    pub fn ic_list32_push_front(table: *mut ic_link2_32, places: usize, list: *mut ic_list, place: u32) -> u32;
+    pub fn ic_list32_push_back(table: *mut ic_link2_32, places: usize, list: *mut ic_list, place: u32) -> u32;
+    pub fn ic_list32_pop_front(table: *mut ic_link2_32, places: usize, list: *mut ic_list, popped: *mut u32) -> u32;
+    pub fn ic_list32_pop_back(table: *mut ic_link2_32, places: usize, list: *mut ic_list, popped: *mut u32) -> u32;
+    pub fn ic_list32_insert_after(
+        table: *mut ic_link2_32,
+        places: usize,
+        list: *mut ic_list,
+        at: u32,
+        place: u32,
+    ) -> u32;
+    pub fn ic_list32_insert_before(
+        table: *mut ic_link2_32,
+        places: usize,
+        list: *mut ic_list,
+        at: u32,
+        place: u32,
+    ) -> u32;
+    pub fn ic_list32_remove(table: *mut ic_link2_32, places: usize, list: *mut ic_list, at: u32) -> u32;
+    pub fn ic_list32_replace(table: *mut ic_link2_32, places: usize, list: *mut ic_list, at: u32, place: u32) -> u32;
+    pub fn ic_list32_move_after(table: *mut ic_link2_32, places: usize, list: *mut ic_list, at: u32, place: u32)
+        -> u32;
+    pub fn ic_list32_move_before(
+        table: *mut ic_link2_32,
+        places: usize,
+        list: *mut ic_list,
+        at: u32,
+        place: u32,
+    ) -> u32;
+    pub fn ic_list32_move_to_front(table: *mut ic_link2_32, places: usize, list: *mut ic_list, place: u32) -> u32;
+    pub fn ic_list32_move_to_back(table: *mut ic_link2_32, places: usize, list: *mut ic_list, place: u32) -> u32;
+    pub fn ic_list32_splice_after(
+        table: *mut ic_link2_32,
+        places: usize,
+        list: *mut ic_list,
+        at: u32,
+        given: *mut ic_list,
+    ) -> u32;
+    pub fn ic_list32_splice_before(
+        table: *mut ic_link2_32,
+        places: usize,
+        list: *mut ic_list,
+        at: u32,
+        given: *mut ic_list,
+    ) -> u32;
+    pub fn ic_list32_append(table: *mut ic_link2_32, places: usize, list: *mut ic_list, given: *mut ic_list) -> u32;
     pub fn ic_list_fill(table: *mut ic_link2, places: usize, list: *mut ic_list, first: u32, count: u32) -> u32;
     pub fn ic_list_clear(table: *mut ic_link2, places: usize, list: *mut ic_list) -> u32;
     pub fn ic_list_split_after(
@@ -166,6 +225,22 @@ extern "C" {
         rest: *mut ic_list,
     ) -> u32;
     pub fn ic_list_check(table: *const ic_link2, places: usize, list: *const ic_list, members: *mut u64) -> u32;
+    pub fn ic_list32_clear(table: *mut ic_link2_32, places: usize, list: *mut ic_list) -> u32;
+    pub fn ic_list32_split_after(
+        table: *mut ic_link2_32,
+        places: usize,
+        list: *mut ic_list,
+        at: u32,
+        rest: *mut ic_list,
+    ) -> u32;
+    pub fn ic_list32_split_before(
+        table: *mut ic_link2_32,
+        places: usize,
+        list: *mut ic_list,
+        at: u32,
+        rest: *mut ic_list,
+    ) -> u32;
+    pub fn ic_list32_check(table: *const ic_link2_32, places: usize, list: *const ic_list, members: *mut u64) -> u32;
     pub fn ic_list_sort(
         table: *mut ic_link2,
         places: usize,
@@ -191,6 +266,22 @@ extern "C" {
     ) -> u32;
     pub fn ic_list_transfer_before(
         table: *mut ic_link2,
+        places: usize,
+        list: *mut ic_list,
+        at: u32,
+        given: *mut ic_list,
+        place: u32,
+    ) -> u32;
+    pub fn ic_list32_transfer_after(
+        table: *mut ic_link2_32,
+        places: usize,
+        list: *mut ic_list,
+        at: u32,
+        given: *mut ic_list,
+        place: u32,
+    ) -> u32;
+    pub fn ic_list32_transfer_before(
+        table: *mut ic_link2_32,
         places: usize,
         list: *mut ic_list,
         at: u32,
@@ -473,6 +564,87 @@ extern "C" {
         chain: *mut ic_stack,
         buckets: *mut ic_stack,
         bucket_count: usize,
+    ) -> u32;
+    pub fn ic_tree_sums_insert(
+        table: *mut ic_link3,
+        places: usize,
+        keys: *const u64,
+        key_count: usize,
+        sums: *mut ic_sum,
+        sum_count: usize,
+        kind: u32,
+        tree: *mut ic_tree,
+        place: u32,
+    ) -> u32;
+    pub fn ic_tree_sums_insert_left(
+        table: *mut ic_link3,
+        places: usize,
+        sums: *mut ic_sum,
+        sum_count: usize,
+        kind: u32,
+        tree: *mut ic_tree,
+        at: u32,
+        place: u32,
+    ) -> u32;
+    pub fn ic_tree_sums_insert_right(
+        table: *mut ic_link3,
+        places: usize,
+        sums: *mut ic_sum,
+        sum_count: usize,
+        kind: u32,
+        tree: *mut ic_tree,
+        at: u32,
+        place: u32,
+    ) -> u32;
+    pub fn ic_tree_sums_remove(
+        table: *mut ic_link3,
+        places: usize,
+        sums: *mut ic_sum,
+        sum_count: usize,
+        kind: u32,
+        tree: *mut ic_tree,
+        at: u32,
+    ) -> u32;
+    pub fn ic_tree_sums_renew(
+        table: *const ic_link3,
+        places: usize,
+        sums: *mut ic_sum,
+        sum_count: usize,
+        kind: u32,
+        at: u32,
+    ) -> u32;
+    pub fn ic_tree_sums_find(
+        table: *const ic_link3,
+        places: usize,
+        sums: *const ic_sum,
+        sum_count: usize,
+        kind: u32,
+        tree: *const ic_tree,
+        at: u32,
+        bound: u64,
+        found: *mut u32,
+    ) -> u32;
+    pub fn ic_tree_sums_before(
+        table: *const ic_link3,
+        places: usize,
+        sums: *const ic_sum,
+        sum_count: usize,
+        kind: u32,
+        at: u32,
+        sum: *mut u64,
+    ) -> u32;
+    pub fn ic_tree_sums_overlap(
+        table: *const ic_link3,
+        places: usize,
+        keys: *const u64,
+        key_count: usize,
+        sums: *const ic_sum,
+        sum_count: usize,
+        tree: *const ic_tree,
+        at: u32,
+        from: u64,
+        to: u64,
+        found: *mut u32,
     ) -> u32;
     // to here
 }

@@ -10,6 +10,7 @@
 export const NONE = 0xffffffff;
 export const STATUS = ["OK", "OUT_OF_RANGE", "LINKED", "NOT_LINKED", "NULL", "BROKEN"];
 export const [OK, OUT_OF_RANGE, LINKED, NOT_LINKED, NULL, BROKEN] = STATUS.keys();
+export const SUM = 0, GREATEST = 1;
 
 export class Refused extends Error {
   constructor(status) {
@@ -85,6 +86,7 @@ export class Library {
   links3(places) { return new Words(this, places, 3); }
   links2x32(places) { return new HalfWords(this, places, 2); }
   keys(places) { return new Words(this, places, 1); }
+  sums(places) { return new Sums(this, places, 2); }
   done(status) {
     if (status !== OK) throw new Refused(status);
   }
@@ -97,9 +99,11 @@ export class Library {
     return this.seen[0];
   }
   /** How many members the call has counted. */
-  counted(status) {
+  counted(status) { return Number(this.summed(status)); }
+  /** The number of 64 bits that the call has handed out. */
+  summed(status) {
     this.done(status);
-    return Number(new DataView(this.calls.memory.buffer).getBigUint64(this.out, true));
+    return new DataView(this.calls.memory.buffer).getBigUint64(this.out, true);
   }
 }
 
@@ -202,10 +206,11 @@ export class Words {
     if (this.seen?.buffer !== buffer) this.seen = new BigUint64Array(buffer, this.address, this.width * this.length);
     return this.seen;
   }
-  word(place, which = 0) {
+  word(place, which = 0) { return this.words[this.index(place, which)]; }
+  index(place, which) {
     if (!(u32(place, "place") < this.length)) refuseNumber(place, "place", `below ${this.length}`);
     if (!(u32(which, "which") < this.width)) refuseNumber(which, "which", `below ${this.width}`);
-    return this.words[this.width * place + which];
+    return this.width * place + which;
   }
   /** Whether a place is in a list, a ring or a tree of the table. */
   isLinked(place) {
@@ -271,6 +276,19 @@ function checkWidth(links, width, wordBytes) {
   if (links.width !== width || links.wordBytes !== wordBytes) throw new TypeError(`its table has ${width} words of ${wordBytes} bytes for each place`);
 }
 
+/** A value and a sum for each place of a tree. */
+export class Sums extends Words {
+  value(place) { return this.word(place, 0); }
+  sum(place) { return this.word(place, 1); }
+  setValue(place, value) { this.words[this.index(place, 0)] = u64(value, "value"); }
+}
+
+/** Sums as the calls take them. */
+function sumParts(sums, { library }) {
+  if (!(sums instanceof Sums) || sums.library !== library || sums.isFreed) throw new TypeError("its sums are those of the same module");
+  return sums.parts;
+}
+
 /** Keys as the calls take them, which are none where there are no words. */
 function keyParts(keys, { library }) {
   if (keys && (keys.width !== 1 || keys.wordBytes !== 8 || keys.library !== library || keys.isFreed)) throw new TypeError("its keys are words of the same module");
@@ -289,6 +307,7 @@ class Calls {
   done(status) { this.library.done(status); }
   member(status) { return this.library.member(status); }
   counted(status) { return this.library.counted(status); }
+  summed(status) { return this.library.summed(status); }
 }
 
 /** Removes each member for which `isUnwanted` returns true: a member after one, which `follow` finds, by `remove`. It returns how many there were. */
@@ -309,8 +328,8 @@ function removeIf(links, isUnwanted, follow, remove) {
 }
 
 class Collection extends Calls {
-  constructor(links, width, linkWidth, ends = null) {
-    super(links, linkWidth);
+  constructor(links, width, linkWidth, ends = null, wordBytes = 8) {
+    super(links, linkWidth, wordBytes);
     this.ends = ends ?? new Words(links.library, 1, width);
     this.self = this.library.at(this.ends.address);
   }
@@ -344,9 +363,9 @@ function* walk(links, at, next) {
   for (let left = links.length; left > 0 && links.isLinked(at); left--, at = next(at)) yield at;
 }
 
-/** A doubly linked list over links2. */
-export class List extends Collection {
-  constructor(links) { super(links, 2, 2); }
+/** What doubly linked lists of both widths have. */
+class Lists extends Collection {
+  constructor(links, wordBytes) { super(links, 2, 2, null, wordBytes); }
   get first() { return this.ends.place(0, 0); }
   get last() { return this.ends.place(0, 1); }
   next(at) { return this.links.beside(at, 0); }
@@ -355,7 +374,12 @@ export class List extends Collection {
   removeIf(isUnwanted) {
     return removeIf(this.links, isUnwanted, (_, at) => (at === null ? this.first : this.next(at)), (_, at) => this.remove(at));
   }
-  // tools/c-calls --write writes from here: list list-keys list-transfer
+}
+
+/** A doubly linked list over links2. */
+export class List extends Lists {
+  constructor(links) { super(links, 8); }
+  // tools/c-calls --write writes from here: list list-fill list-keys list-transfer
   pushFront(place) { this.done(this.calls.ic_list_push_front(this.table, this.places, this.self, placeNumber(place, "place"))); }
   pushBack(place) { this.done(this.calls.ic_list_push_back(this.table, this.places, this.self, placeNumber(place, "place"))); }
   popFront() { return this.member(this.calls.ic_list_pop_front(this.table, this.places, this.self, this.out)); }
@@ -405,6 +429,60 @@ export class List extends Collection {
   }
   transferBefore(at, given, place) {
     this.done(this.calls.ic_list_transfer_before(
+      this.table, this.places, this.self, placeNumber(at, "at"), this.given(given), placeNumber(place, "place"),
+    ));
+  }
+  // to here
+}
+
+/** A doubly linked list over links2x32. */
+export class List32 extends Lists {
+  constructor(links) { super(links, 4); }
+  // tools/c-calls --write writes from here: list32
+  pushFront(place) { this.done(this.calls.ic_list32_push_front(this.table, this.places, this.self, placeNumber(place, "place"))); }
+  pushBack(place) { this.done(this.calls.ic_list32_push_back(this.table, this.places, this.self, placeNumber(place, "place"))); }
+  popFront() { return this.member(this.calls.ic_list32_pop_front(this.table, this.places, this.self, this.out)); }
+  popBack() { return this.member(this.calls.ic_list32_pop_back(this.table, this.places, this.self, this.out)); }
+  insertAfter(at, place) {
+    this.done(this.calls.ic_list32_insert_after(this.table, this.places, this.self, placeNumber(at, "at"), placeNumber(place, "place")));
+  }
+  insertBefore(at, place) {
+    this.done(this.calls.ic_list32_insert_before(this.table, this.places, this.self, placeNumber(at, "at"), placeNumber(place, "place")));
+  }
+  remove(at) { this.done(this.calls.ic_list32_remove(this.table, this.places, this.self, placeNumber(at, "at"))); }
+  replace(at, place) {
+    this.done(this.calls.ic_list32_replace(this.table, this.places, this.self, placeNumber(at, "at"), placeNumber(place, "place")));
+  }
+  moveAfter(at, place) {
+    this.done(this.calls.ic_list32_move_after(this.table, this.places, this.self, placeNumber(at, "at"), placeNumber(place, "place")));
+  }
+  moveBefore(at, place) {
+    this.done(this.calls.ic_list32_move_before(this.table, this.places, this.self, placeNumber(at, "at"), placeNumber(place, "place")));
+  }
+  moveToFront(place) { this.done(this.calls.ic_list32_move_to_front(this.table, this.places, this.self, placeNumber(place, "place"))); }
+  moveToBack(place) { this.done(this.calls.ic_list32_move_to_back(this.table, this.places, this.self, placeNumber(place, "place"))); }
+  spliceAfter(at, given) {
+    this.done(this.calls.ic_list32_splice_after(this.table, this.places, this.self, placeNumber(at, "at"), this.given(given)));
+  }
+  spliceBefore(at, given) {
+    this.done(this.calls.ic_list32_splice_before(this.table, this.places, this.self, placeNumber(at, "at"), this.given(given)));
+  }
+  append(given) { this.done(this.calls.ic_list32_append(this.table, this.places, this.self, this.given(given))); }
+  clear() { this.done(this.calls.ic_list32_clear(this.table, this.places, this.self)); }
+  splitAfter(at) {
+    return this.parted((rest) => this.calls.ic_list32_split_after(this.table, this.places, this.self, placeNumber(at, "at"), rest));
+  }
+  splitBefore(at) {
+    return this.parted((rest) => this.calls.ic_list32_split_before(this.table, this.places, this.self, placeNumber(at, "at"), rest));
+  }
+  check() { return this.counted(this.calls.ic_list32_check(this.table, this.places, this.self, this.out)); }
+  transferAfter(at, given, place) {
+    this.done(this.calls.ic_list32_transfer_after(
+      this.table, this.places, this.self, placeNumber(at, "at"), this.given(given), placeNumber(place, "place"),
+    ));
+  }
+  transferBefore(at, given, place) {
+    this.done(this.calls.ic_list32_transfer_before(
       this.table, this.places, this.self, placeNumber(at, "at"), this.given(given), placeNumber(place, "place"),
     ));
   }
@@ -683,7 +761,11 @@ export class Tree extends Collection {
   right(at) { return this.links.beside(at, 1); }
   parent(at) { return this.links.beside(at, 2); }
   isBlack(at) { return this.links.hasMember(placeNumber(at, "at")) && (this.links.word(at, 2) & 1n) === 1n; }
-  // tools/c-calls --write writes from here: tree tree-keys tree-steps
+  sumsTotal(sums) {
+    sumParts(sums, this.links);
+    return this.root !== null && this.root < sums.length ? sums.sum(this.root) : 0n;
+  }
+  // tools/c-calls --write writes from here: tree tree-keys tree-steps tree-sums
   insertLeft(at, place) {
     this.done(this.calls.ic_tree_insert_left(this.table, this.places, this.self, placeNumber(at, "at"), placeNumber(place, "place")));
   }
@@ -719,6 +801,51 @@ export class Tree extends Collection {
   }
   next(at) { return this.member(this.calls.ic_tree_next(this.table, this.places, this.self, placeNumber(at, "at"), this.out)); }
   prev(at) { return this.member(this.calls.ic_tree_prev(this.table, this.places, this.self, placeNumber(at, "at"), this.out)); }
+  sumsInsert(sums, kind, place) {
+    this.done(this.calls.ic_tree_sums_insert(
+      this.table, this.places, this.keysAt, this.keyCount, ...sumParts(sums, this.links), u32(kind, "kind"), this.self,
+      placeNumber(place, "place"),
+    ));
+  }
+  sumsInsertLeft(sums, kind, at, place) {
+    this.done(this.calls.ic_tree_sums_insert_left(
+      this.table, this.places, ...sumParts(sums, this.links), u32(kind, "kind"), this.self, placeNumber(at, "at"),
+      placeNumber(place, "place"),
+    ));
+  }
+  sumsInsertRight(sums, kind, at, place) {
+    this.done(this.calls.ic_tree_sums_insert_right(
+      this.table, this.places, ...sumParts(sums, this.links), u32(kind, "kind"), this.self, placeNumber(at, "at"),
+      placeNumber(place, "place"),
+    ));
+  }
+  sumsRemove(sums, kind, at) {
+    this.done(this.calls.ic_tree_sums_remove(
+      this.table, this.places, ...sumParts(sums, this.links), u32(kind, "kind"), this.self, placeNumber(at, "at"),
+    ));
+  }
+  sumsRenew(sums, kind, at) {
+    this.done(this.calls.ic_tree_sums_renew(
+      this.table, this.places, ...sumParts(sums, this.links), u32(kind, "kind"), placeNumber(at, "at"),
+    ));
+  }
+  sumsFind(sums, kind, at, bound) {
+    return this.member(this.calls.ic_tree_sums_find(
+      this.table, this.places, ...sumParts(sums, this.links), u32(kind, "kind"), this.self, placeNumber(at, "at"), u64(bound, "bound"),
+      this.out,
+    ));
+  }
+  sumsBefore(sums, kind, at) {
+    return this.summed(this.calls.ic_tree_sums_before(
+      this.table, this.places, ...sumParts(sums, this.links), u32(kind, "kind"), placeNumber(at, "at"), this.out,
+    ));
+  }
+  sumsOverlap(sums, at, from, to) {
+    return this.member(this.calls.ic_tree_sums_overlap(
+      this.table, this.places, this.keysAt, this.keyCount, ...sumParts(sums, this.links), this.self, placeNumber(at, "at"),
+      u64(from, "from"), u64(to, "to"), this.out,
+    ));
+  }
   // to here
   insertUnique(place) {
     const at = placeNumber(place, "place"), isKnown = this.keys !== null && at < this.keys.length && !this.links.isLinked(place);
@@ -803,6 +930,23 @@ export class TreeWithEnds extends Tree {
     const rest = super.split(at);
     findEnds(this, rest);
     return rest;
+  }
+  // The edits that keep sums leave the ends as they are.
+  sumsInsert(sums, kind, place) {
+    super.sumsInsert(sums, kind, place);
+    findEnds(this);
+  }
+  sumsInsertLeft(sums, kind, at, place) {
+    super.sumsInsertLeft(sums, kind, at, place);
+    findEnds(this);
+  }
+  sumsInsertRight(sums, kind, at, place) {
+    super.sumsInsertRight(sums, kind, at, place);
+    findEnds(this);
+  }
+  sumsRemove(sums, kind, at) {
+    super.sumsRemove(sums, kind, at);
+    findEnds(this);
   }
   // tools/c-calls --write writes from here: tree-ends
   insert(place) {

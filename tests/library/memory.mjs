@@ -101,6 +101,12 @@ function late(ic) {
     keys.free();
     for (const call of [() => tree.insert(0), () => hashed.find(0, 0), () => sorted.sort(keys)]) assert.throws(call, TypeError);
     for (const it of [tree, hashed, sorted]) it.free(), it.links.free();
+    const sums = ic.sums(3), summed = new Tree(ic.links3(3));
+    sums.free();
+    for (const call of [() => summed.sumsRenew(sums, 0, null), () => summed.sumsTotal(sums)]) assert.throws(call, TypeError);
+    assert.throws(() => sums.value(0), RangeError);
+    summed.free();
+    summed.links.free();
   });
 }
 

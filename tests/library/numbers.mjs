@@ -52,6 +52,14 @@ function keyed(ic) {
   tree.insert(1);
   methods(tree, [["insert", "place"], ["insertUnique", "place"], ["insertBy", "place"], ["insertLeft", "at", "place"], ["insertRight", "at", "place"], ["remove", "at"], ["replace", "at", "place"],
     ["split", "at"], ["next", "at"], ["prev", "at"], ["left", "at"], ["right", "at"], ["parent", "at"], ["isBlack", "at"]]);
+  const sums = ic.sums(4);
+  refuses("kind", WRONG, (kind) => tree.sumsRenew(sums, kind, null));
+  refuses("at", WRONG, (at) => tree.sumsBefore(sums, 0, at));
+  refuses("bound", WRONG_WORDS, (bound) => tree.sumsFind(sums, 0, null, bound));
+  refuses("from", WRONG_WORDS, (from) => tree.sumsOverlap(sums, null, from, 0));
+  refuses("to", WRONG_WORDS, (to) => tree.sumsOverlap(sums, null, 0, to));
+  refuses("place", WRONG, (place) => sums.setValue(place, 0));
+  refuses("value", WRONG_WORDS, (value) => sums.setValue(0, value));
   for (const search of ["find", "lowerBound", "upperBound"]) refuses("key", WRONG_WORDS, (key) => tree[search](key));
   refuses("hash", WRONG_WORDS, (hash) => table.insert(hash, 0));
   refuses("hash", WRONG_WORDS, (hash) => table.find(hash, 0));
@@ -65,7 +73,7 @@ function keyed(ic) {
 
 /** A table that does not fit leaves the memory as it was, and the next one begins where it would have begun. */
 function lengths(ic) {
-  for (const make of ["links1", "links2", "links3", "keys"]) {
+  for (const make of ["links1", "links2", "links3", "keys", "sums"]) {
     const { top } = ic, bytes = ic.calls.memory.buffer.byteLength;
     refuses("length", WRONG_COUNTS, (length) => ic[make](length));
     for (const length of [2 ** 53 - 1, 2 ** 50]) assert.throws(() => ic[make](length), RangeError);

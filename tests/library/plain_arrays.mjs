@@ -1,7 +1,7 @@
 // Random calls of ic.mjs beside plain arrays, by each of the modules.
 //     node --experimental-wasm-memory64 tests/library/plain_arrays.mjs CALLS MODULE ..
 import assert from "node:assert";
-import { BROKEN, HashTable, LINKED, List, NOT_LINKED, NULL, OUT_OF_RANGE, Refused, Ring, Stack, Tree, TreeWithEnds, XorList, open } from "../../dist/wasm/ic.mjs";
+import { BROKEN, GREATEST, HashTable, LINKED, List, NOT_LINKED, NULL, OUT_OF_RANGE, Refused, Ring, SUM, Stack, Tree, TreeWithEnds, XorList, open } from "../../dist/wasm/ic.mjs";
 
 const [calls, ...modules] = process.argv.slice(2), PLACES = 20, REFUSED = "refused";
 let state = 7;
@@ -358,6 +358,39 @@ function treeWithEnds(ic, turns) {
   });
 }
 
+/** The same of a tree with sums: what the values of its members make together, from each of them on, in the order of the plain array. */
+function treeWithSums(ic, turns) {
+  const sums = ic.sums(PLACES), few = ic.sums(PLACES - 1), most = 2n ** 64n - 1n;
+  sorted(ic, turns, TreeWithEnds, (made, plain, place, key, position) => {
+    const kind = [SUM, GREATEST][random(2)], anyValue = () => (random(9) ? BigInt(random(20)) : most - BigInt(random(3)));
+    const both = (one, other) => (kind === SUM ? (one + other > most ? most : one + other) : one > other ? one : other);
+    const total = (members) => members.map((at) => sums.value(at)).reduce(both, 0n);
+    sums.setValue(place, anyValue());
+    made.sumsRenew(sums, kind, null);
+    sums.setValue(place, anyValue());
+    if (plain.includes(place)) made.sumsRenew(sums, kind, place);
+    assert.equal(made.sumsTotal(sums), total(plain));
+    if (!plain.includes(place)) {
+      made.sumsInsert(sums, kind, place);
+      const all = plain.toSpliced(position, 0, place);
+      assert.deepEqual([made.first, made.last], [all[0], all.at(-1)]);
+      assert.deepEqual(all.map((at) => made.sumsBefore(sums, kind, at)), all.map((_, i) => total(all.slice(0, i))));
+      made.sumsRemove(sums, kind, place);
+      assert.deepEqual([made.first, made.last], [orNull(plain[0]), orNull(plain.at(-1))]);
+      assert.deepEqual(plain.map((at) => made.sumsBefore(sums, kind, at)), plain.map((_, i) => total(plain.slice(0, i))));
+    }
+    const from = random(plain.length + 1), at = from ? plain[from - 1] : null, rest = plain.slice(from), bound = anyValue(), to = anyValue();
+    const overlaps = (it) => key(it) < to && bound < sums.value(it), index = plain.indexOf(place);
+    return [
+      ["sumsRenew", [sums, kind, place], () => (index < 0 ? REFUSED : null)],
+      ["sumsFind", [sums, kind, at, bound], () => orNull(rest.find((_, i) => total(rest.slice(0, i + 1)) > bound))],
+      ["sumsFind", [few, kind, at, bound], () => REFUSED],
+      ["sumsBefore", [sums, kind, place], () => (index < 0 ? REFUSED : total(plain.slice(0, index)))],
+      ...(kind === GREATEST ? [["sumsOverlap", [sums, at, bound, to], () => orNull(rest.find(overlaps))]] : []),
+    ];
+  });
+}
+
 function sorted(ic, turns, Kind, more) {
   const keys = ic.keys(PLACES), made = new Kind(ic.links3(PLACES), keys), plain = [];
   const key = (place) => Number(keys.word(place));
@@ -433,7 +466,7 @@ function refusals(ic) {
 
 for (const module of modules) {
   const ic = await open(new URL(`../../dist/wasm/${module}`, import.meta.url));
-  const parts = [doubly, rings, singly, hashed, xor, tree, treeWithEnds];
+  const parts = [doubly, rings, singly, hashed, xor, tree, treeWithEnds, treeWithSums];
   for (const part of parts) part(ic, Number(calls) / parts.length / modules.length);
   refusals(ic);
   const links = ic.links2(PLACES), list = new List(links), ring = new Ring(links, 0);
@@ -447,6 +480,7 @@ for (const module of modules) {
     assert.throws(() => sorted.append(given), TypeError);
     assert.throws(() => sorted.join(0, given), TypeError);
   }
+  for (const given of [null, ic.keys(PLACES), ic.links2(PLACES)]) assert.throws(() => sorted.sumsRenew(given, SUM, null), TypeError);
   for (const given of [ring, new Ring(ic.links2(PLACES), 0)]) assert.throws(() => ring.spliceBefore(0, given), TypeError);
   assert.throws(() => list.sort(links), TypeError);
   assert.throws(() => new Ring(ic.links1(PLACES), 0), TypeError);

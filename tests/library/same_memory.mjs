@@ -10,7 +10,7 @@ const declared = [...file("include/ic.h").toString().matchAll(/^uint32_t (ic_\w+
   name,
   parameters: parameters.split(",").map((it) => it.trim()),
   statuses: [0, 0, 0, 0, 0, 0],
-})).filter(({ name }) => !/^ic_(ring32|tree_sums)_/.test(name)); // Rings of 4-byte words and sums have tables of their own.
+}));
 
 let state = 1n;
 function random(below) {
@@ -18,11 +18,15 @@ function random(below) {
   return Number((state >> 33n) % BigInt(below));
 }
 const place = () => (random(40) === 0 ? NONE : random(PLACES + 2));
-const word = () => BigInt(random(3) === 0 ? random(16) : 8 * random(PLACES + 2) + random(2)) | (random(60) === 0 ? 1n << 60n : 0n);
+const half = () => BigInt(random(3) === 0 ? random(16) : 8 * random(PLACES + 2) + random(2));
+const word = () => half() | (random(60) === 0 ? 1n << 60n : 0n);
+const halves = () => half() | half() << 32n;
 
-// An area of each memory has the table, the keys, which are hashes, too, two lists or a tree, an out parameter, buckets, and the ends of the tree. Keys are words 48 to 79.
-const AREA = 1024, KEYS = [48, 80];
-const OFFSETS = { table: 0, keys: 8 * KEYS[0], hashes: 8 * KEYS[0], list: 640, tree: 640, chain: 640, given: 656, rest: 656, popped: 672, removed: 672, replaced: 672, found: 672, members: 672, buckets: 680, ends: 720 };
+// An area of each memory has the table, the keys, which are hashes, too, two lists or a tree, what a call hands out, buckets, the ends of the tree, and
+// the values with their sums. Keys are words 48 to 79, and values every second one of the words 96 to 119.
+const AREA = 1024, KEYS = [48, 80], SUMS = 96;
+const OUT = Object.fromEntries(["popped", "removed", "replaced", "found", "members", "sum"].map((name) => [name, 672]));
+const OFFSETS = { table: 0, keys: 8 * KEYS[0], hashes: 8 * KEYS[0], list: 640, tree: 640, chain: 640, given: 656, rest: 656, ...OUT, buckets: 680, ends: 720, sums: 8 * SUMS };
 const BUCKETS = 4;
 const bases = both.map((library) => library.take(AREA));
 const areas = both.map((library, at) => new BigUint64Array(library.calls.memory.buffer, bases[at], AREA / 8));
@@ -33,27 +37,34 @@ function write(at, value) {
 /** What a parameter gets in either memory, by its type and name. */
 function argument(parameter, length) {
   const [name] = parameter.match(/\w+$/);
-  if (parameter.includes("*")) return { offset: OFFSETS[name] };
+  if (parameter.includes("*")) return { offset: OFFSETS[name] ?? unknown(parameter) };
+  if (name === "kind") return { value: random(3) };
   if (name === "bucket_count") return { value: BigInt(random(40) === 0 ? 0 : BUCKETS) };
-  if (parameter.startsWith("ic_length")) return { value: BigInt(length) };
+  if (parameter.startsWith("ic_length")) return { value: BigInt(name !== "places" && random(40) === 0 ? random(PLACES) : length) };
   return { value: parameter.startsWith("uint64_t") ? BigInt(random(20)) : place() };
 }
 
-/** Zeroed memory with random keys at first, and later words that no call wrote. */
-function prepare(turn) {
+function unknown(parameter) {
+  throw new Error(`no part of the area is for ${parameter}`);
+}
+
+/** Zeroed memory with random keys and values at first, and later words that no call wrote, of 4 bytes if the kind has such. */
+function prepare(turn, any) {
   if (turn === 0) {
     areas.forEach((area) => area.fill(0n));
     for (let at = KEYS[0]; at < KEYS[1]; at++) write(at, BigInt(random(20)));
+    for (let place = 0; place < PLACES; place++) write(SUMS + 2 * place, BigInt(random(20)));
   } else if (turn > 200 && random(6) === 0) {
-    for (let at = 0; at < AREA / 8; at++) if (random(8) === 0) write(at, word());
+    for (let at = 0; at < AREA / 8; at++) if (random(8) === 0) write(at, any());
   }
 }
 
-const KINDS = ["ic_list", "ic_ring", "ic_stack", "ic_hash", "ic_xor", "ic_tree"].map((kind) => declared.filter(({ name }) => name.startsWith(kind)));
+// A table is of one kind, so the calls of a round are of one kind.
+const kindOf = ({ name }) => name.split("_")[1], names = [...new Set(declared.map(kindOf))];
+const KINDS = names.map((name) => ({ any: name.endsWith("32") ? halves : word, calls: declared.filter((call) => kindOf(call) === name) }));
 for (let turn = 0; turn < calls; turn++) {
-  prepare(turn % 400);
-  // A table is of one kind, so the calls of a round are of one kind.
-  const kind = KINDS[Math.floor(turn / 400) % KINDS.length], call = kind[random(kind.length)];
+  const kind = KINDS[Math.floor(turn / 400) % KINDS.length], call = kind.calls[random(kind.calls.length)];
+  prepare(turn % 400, kind.any);
   const length = random(10) === 0 ? random(PLACES) : PLACES, words = call.parameters.map((it) => argument(it, length));
   const said = both.map((library, at) =>
     library.calls[call.name](...words.map((it) => ("offset" in it ? library.at(bases[at] + it.offset) : it.value))),

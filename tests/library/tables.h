@@ -13,11 +13,11 @@
 
 enum { MOST = 24 }; /* how many places a table has at most */
 
-/* Only hostile.c tries the last one, rings with words of 4 bytes. */
-enum kind { KIND_LIST, KIND_STACK, KIND_XOR, KIND_TREE, KINDS, KIND_RING32 = KINDS, TRIED_KINDS };
+/* Only hostile.c tries the last one, lists and rings with words of 4 bytes. */
+enum kind { KIND_LIST, KIND_STACK, KIND_XOR, KIND_TREE, KINDS, KIND_NARROW = KINDS, TRIED_KINDS };
 
 /* How many words of 8 bytes a link and a list of each kind have. */
-static const struct { size_t link, list; } sizes[TRIED_KINDS] = {{2, 2}, {1, 1}, {1, 2}, {3, 1}, {1, 0}};
+static const struct { size_t link, list; } sizes[TRIED_KINDS] = {{2, 2}, {1, 1}, {1, 2}, {3, 1}, {1, 2}};
 
 static inline uint32_t place(size_t places) {
     switch (below(8)) {
@@ -54,6 +54,8 @@ static inline struct ic_list chain(enum kind kind, void *table, const uint32_t *
         uint64_t before = i ? ic_word(members[i - 1]) : 0, behind = i + 1 < count ? ic_word(members[i + 1]) : 0;
         if (kind == KIND_LIST)
             ((struct ic_link2 *)table)[members[i]] = (struct ic_link2){behind + 1, before};
+        else if (kind == KIND_NARROW)
+            ((struct ic_link2_32 *)table)[members[i]] = (struct ic_link2_32){(uint32_t)behind + 1, (uint32_t)before};
         else
             ((struct ic_link1 *)table)[members[i]].next = (kind == KIND_XOR ? before ^ behind : behind) + 1;
     }

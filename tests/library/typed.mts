@@ -1,6 +1,6 @@
 // What ic.d.mts lets a program write, and what it refuses. It is checked, and not run:
 //     tsc --noEmit --strict --target es2022 --module nodenext --moduleResolution nodenext --lib es2022,dom tests/library/typed.mts
-import { HashTable, List, Refused, Ring, Stack, Tree, TreeWithEnds, XorList, open, type Gap } from "../../dist/wasm/ic.mjs";
+import { HashTable, List, Refused, Ring, Stack, SUM, GREATEST, Sums, Tree, TreeWithEnds, XorList, open, type Gap } from "../../dist/wasm/ic.mjs";
 
 const ic = await open(new URL("ic.wasm", import.meta.url));
 const list = new List(ic.links2(100));
@@ -26,6 +26,11 @@ tree.clear();
 for (const place of tree) console.log(place + 1, tree.find(50n), tree.lowerBound(20));
 const timers: Tree = new TreeWithEnds(ic.links3(4), keys);
 const soonest: Gap[] = timers instanceof TreeWithEnds ? [timers.first, timers.last, timers.popFirst()] : [];
+const sums: Sums = ic.sums(4);
+sums.setValue(3, 50);
+tree.sumsRenew(sums, SUM, null);
+const position: bigint = tree.sumsBefore(sums, SUM, 3) + sums.value(3) + sums.sum(3) + tree.sumsTotal(sums);
+const places: Gap[] = [tree.sumsFind(sums, GREATEST, null, 3n), tree.sumsOverlap(sums, 3, 10, 20n)];
 list.sort(keys);
 list.merge(keys, rest);
 stack.remove(3);
@@ -92,6 +97,10 @@ list.next(null);
 tree.popFront();
 // @ts-expect-error: a tree that keeps no ends has no first member at hand
 tree.first;
+// @ts-expect-error: keys are no sums
+tree.sumsRenew(keys, SUM, null);
+// @ts-expect-error: no such kind of sums
+tree.sumsFind(sums, 2, null, 3n);
 // @ts-expect-error: a ring has no memory of its own
 ring.free();
 // @ts-expect-error: a member leaves by yes or no

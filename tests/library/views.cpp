@@ -8,6 +8,7 @@
 #include "ic.hpp"
 #include "common.h"
 #include <algorithm>
+#include <cstring>
 #include <list>
 #include <map>
 #include <vector>
@@ -189,8 +190,9 @@ void edit_two_way(lists<View> &it, int which, std::uint32_t index, std::uint32_t
 }
 
 /// Moves a member to an end, or into a gap beside another one or itself.
-void move(lists<ic::list_view> &it, int which, std::uint32_t index) {
-    const ic::list_view view = it.view(which);
+template <class View>
+void move(lists<View> &it, int which, std::uint32_t index) {
+    const View view = it.view(which);
     auto &plain = it.plain[which];
     const auto member = std::next(plain.begin(), index), gap = std::next(plain.begin(), below(static_cast<std::uint32_t>(plain.size()) + 1));
     switch (below(4)) {
@@ -237,8 +239,9 @@ void sort_and_merge(lists<View> &it, int which) {
 }
 
 /// Moves a member of the other list into a gap of this one.
-void transfer(lists<ic::list_view> &it, int which, std::uint32_t index) {
-    const ic::list_view view = it.view(which), other = it.view(1 - which);
+template <class View>
+void transfer(lists<View> &it, int which, std::uint32_t index) {
+    const View view = it.view(which), other = it.view(1 - which);
     auto &plain = it.plain[which], &others = it.plain[1 - which];
     const auto at = std::next(view.begin(), index);
     const auto member = std::next(others.begin(), below(static_cast<std::uint32_t>(others.size())));
@@ -252,15 +255,18 @@ void transfer(lists<ic::list_view> &it, int which, std::uint32_t index) {
         plain.splice(std::next(plain.begin(), index), others, member);
 }
 
-void edit_own(lists<ic::list_view> &it, int which, std::uint32_t index) {
-    const ic::list_view view = it.view(which), other = it.view(1 - which);
+/// An edit of a doubly linked list of either width, of which those with words of 4 bytes have no sorts and merges.
+template <class View>
+void edit_doubly(lists<View> &it, int which, std::uint32_t index) {
+    const View view = it.view(which), other = it.view(1 - which);
     auto &plain = it.plain[which], &others = it.plain[1 - which];
     const std::uint32_t place = below(places + 1), at = *std::next(view.begin(), index);
     const std::uint32_t before = index ? *std::next(view.begin(), index - 1) : ic::none;
     const ic::status linking = to_link(view, place);
     const auto member = std::next(plain.begin(), index);
     if (below(16) == 0) {
-        sort_and_merge(it, which);
+        if constexpr (std::is_same_v<View, ic::list_view>)
+            sort_and_merge(it, which);
     } else if (!others.empty() && below(8) == 0) {
         transfer(it, which, index);
     } else if (at != ic::none && below(3) == 0) {
@@ -283,6 +289,9 @@ void edit_own(lists<ic::list_view> &it, int which, std::uint32_t index) {
     } else if (made(view.split_after(before, other), ic::status::ok))
         others.splice(others.begin(), plain, member, plain.end());
 }
+
+void edit_own(lists<ic::list_view> &it, int which, std::uint32_t index) { edit_doubly(it, which, index); }
+void edit_own(lists<ic::list32_view> &it, int which, std::uint32_t index) { edit_doubly(it, which, index); }
 
 void edit_own(lists<ic::stack_view> &it, int which, std::uint32_t index) {
     const ic::stack_view view = it.view(which), rest = it.view(1 - which);
@@ -327,6 +336,9 @@ void edit_own(lists<ic::xor_view> &it, int which, std::uint32_t index) {
     } else if (other.empty() && made(view.split_between(before, *at, rest), ic::status::ok))
         other.splice(other.begin(), plain, std::next(plain.begin(), index), plain.end());
 }
+
+/// Lists of words of 4 bytes have no fills.
+void fill(lists<ic::list32_view> &, int) {}
 
 /// Links a run of places, which the first one of them that is refused refuses.
 template <class View>
@@ -820,8 +832,13 @@ void step(chains &it) {
 /// Writes random words over some links or heads, most of which lead to a place of a table of this length, or just beyond.
 template <class Element>
 void spoil(Element *elements, std::size_t count, std::uint32_t length) {
-    for (std::uint64_t *word = reinterpret_cast<std::uint64_t *>(elements), *end = reinterpret_cast<std::uint64_t *>(elements + count); word != end; word++)
-        *word = below(8) ? ic_word(below(length + 2)) + below(2) : any();
+    const auto some = [&] { return ic_word(below(length + 2)) + below(2); };
+    for (std::size_t at = 0; at != count * sizeof(Element); at += sizeof(std::uint64_t)) {
+        std::uint64_t word = below(8) ? some() : any();
+        if constexpr (std::is_same_v<Element, ic_link2_32>)
+            word |= some() << 32;
+        std::memcpy(reinterpret_cast<char *>(elements) + at, &word, sizeof word);
+    }
 }
 
 /// Loops forwards, by iterators that were at the end backwards, and by erase, which may be refused.
@@ -895,6 +912,7 @@ void check_any() {
 int main(int count, char **words) {
     const std::uint64_t wanted = calls_wanted(count, words);
     lists<ic::list_view> doubly;
+    lists<ic::list32_view> narrow;
     lists<ic::stack_view> singly;
     lists<ic::xor_view> both;
     trees sorted;
@@ -907,11 +925,13 @@ int main(int count, char **words) {
         step(narrow_circles);
         step(hashed);
         step(doubly);
+        step(narrow);
         step(singly);
         step(both);
         step(sorted);
         step(kept);
         check_any<ic::list_view>();
+        check_any<ic::list32_view>();
         check_any<ic::stack_view>();
         check_any<ic::xor_view>();
         check_any<ic::tree_view>();

@@ -21,19 +21,19 @@ use ic_xor_linked_list::XorLinkedList;
 
 /// A collection over such links.
 pub(crate) trait Collection<L: LinkOps>: Drop {
-    // The table shows a sequence for it.
-    ghost Shown: { Table L.Entry → Self → Type 0 };
+    // The table represents a sequence for it.
+    ghost Represented: { Table L.Entry → Self → Type 0 };
 
     /// Puts the object in, unless its link is refused, and says whether it did. Where there is none, it takes the first member off, and then
     /// all others.
     fn put_or_empty(&mut self, links: &mut L, object: Option<UnsafeRef<u64>>) -> bool
         requires covered { IfSome object (λ o. IsCovered (L.table links.old) o) }
-        requires shown { Shown (L.table links.old) self.old }
-        ensures shown { Shown (L.table links.new) self.new };
+        requires shown { Represented (L.table links.old) self.old }
+        ensures shown { Represented (L.table links.new) self.new };
 }
 
 impl<L: SinglyLinkedListOps> Collection<L> for SinglyLinkedList<u64> {
-    ghost Shown = { singly.ShowsSome L.successor };
+    ghost Represented = { singly.RepresentsSome L.successor };
 
     fn put_or_empty(&mut self, links: &mut L, object: Option<UnsafeRef<u64>>) -> bool {
         match object {
@@ -48,7 +48,7 @@ impl<L: SinglyLinkedListOps> Collection<L> for SinglyLinkedList<u64> {
 }
 
 impl<L: LinkedListOps> Collection<L> for LinkedList<u64> {
-    ghost Shown = { doubly.ShowsSome L.neighbors };
+    ghost Represented = { doubly.RepresentsSome L.neighbors };
 
     fn put_or_empty(&mut self, links: &mut L, object: Option<UnsafeRef<u64>>) -> bool {
         match object {
@@ -63,7 +63,7 @@ impl<L: LinkedListOps> Collection<L> for LinkedList<u64> {
 }
 
 impl<L: XorLinkedListOps> Collection<L> for XorLinkedList<u64> {
-    ghost Shown = { xor.ShowsSome L.linked L.Joins };
+    ghost Represented = { xor.RepresentsSome L.linked L.Joins };
 
     fn put_or_empty(&mut self, links: &mut L, object: Option<UnsafeRef<u64>>) -> bool {
         match object {
@@ -94,7 +94,7 @@ impl KeyAdapter for ByValue {
 }
 
 impl<L: RBTreeOps> Collection<L> for RBTree<ByValue> {
-    ghost Shown = { λ t tree. trees.ShowsSome L.node t (root_of tree) };
+    ghost Represented = { λ t tree. trees.RepresentsSome L.node t (root_of tree) };
 
     fn put_or_empty(&mut self, links: &mut L, object: Option<UnsafeRef<u64>>) -> bool {
         match object {

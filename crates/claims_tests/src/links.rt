@@ -47,7 +47,7 @@ struct Watch<'c> {
 }
 
 impl Gate for Watch<'_> {
-    ghost Told = { λ gate worker answered. Unit {0} };
+    ghost Reported = { λ gate worker answered. Unit {0} };
 
     fn passed(&self, _worker: usize, answered: usize) {
         let Ok(mut hand) = self.hand.try_borrow_mut() else {
@@ -119,7 +119,7 @@ fn turns_with(links: AnyLinks) -> bool {
     }
 }
 
-// Two parties in turn, then four in threads, and one at last, behind one whose links are dropped while they hold a place.
+// Two parties in turn, then four in threads, and one at last, after one whose links are dropped while they hold a place.
 // Promise: four tables of claims.
 // Promise: links that are dropped.
 #[test]

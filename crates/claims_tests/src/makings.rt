@@ -17,7 +17,7 @@ type Making = (u64, usize, usize, &'static str);
 const NONE: u64 = u64::MAX;
 
 // Of one place and holder there are four requests: the words as a list, the table's own words and its empty row of slots, and the holders.
-// Behind a refusal the same call finds memory. A fifth is not asked for, by audit and claim neither.
+// After a refusal the same call finds memory. A fifth is not asked for, by audit and claim neither.
 const MAKINGS: &[Making] = &[
     (NONE, 0, 2, ""),
     (NONE, 4_294_967_297, 1, "1 TooManyPlaces"),
@@ -34,7 +34,7 @@ const MAKINGS: &[Making] = &[
     (4, 1, 1, ""),
 ];
 
-// Whether of the holders, one after the other, the first alone can claim place 0, each behind an audit of all.
+// Whether of the holders, one after the other, the first alone can claim place 0, each after an audit of all.
 fn is_first_alone(claims: &Claims<&Rationed>, holders: &mut Vec<Holder, &Rationed>) -> bool
     requires { All (λ h. IsOf claims.now h) holders.old.items }
 {

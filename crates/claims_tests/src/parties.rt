@@ -41,8 +41,8 @@ impl<L: PlainLinkOps, A: Allocator> Links for AtomicLinkOps<'_, L, A> {
 // Puts the object at the place with that index in, unless some party holds it, and says whether it did. Where the links do not cover that
 // place, the collection is emptied.
 fn put<L: Links, C: Collection<L>>(collection: &mut C, links: &mut L, index: usize) -> bool
-    requires { C.Shown (L.table links.old) collection.old }
-    ensures { C.Shown (L.table links.new) collection.new }
+    requires { C.Represented (L.table links.old) collection.old }
+    ensures { C.Represented (L.table links.new) collection.new }
 {
     match Place::new(index) {
         Some(place) if index < links.covers() => {
@@ -74,7 +74,7 @@ pub(crate) fn are_seen<L: Links, C: Collection<L>, M: Links + LinkedListOps>(
     links: &mut L,
     other: &mut M,
 ) -> bool
-    requires { C.Shown (L.table links.old) collection }
+    requires { C.Represented (L.table links.old) collection }
 {
     let mut list: LinkedList<u64> = LinkedList::new();
     let mut as_wanted = true;
@@ -121,7 +121,7 @@ pub(crate) fn take_off<L: Links + LinkedListOps>(links: &mut L) -> Option<[usize
 
 /// Tries to put each of a hundred objects in, and empties the collection then, a hundred times over. Whether it had one.
 pub(crate) fn take_turns<L: Links + Drop, C: Collection<L>>(mut collection: C, mut links: L) -> bool
-    requires { C.Shown (L.table links) collection }
+    requires { C.Represented (L.table links) collection }
 {
     let mut had_any = false;
     for turn in 0..TURNS {

@@ -71,7 +71,7 @@ impl<C: Clock> Meeting<'_, C> {
 }
 
 impl<C: Clock> Gate for Meeting<'_, C> {
-    ghost Told = { λ gate worker answered. Unit {0} };
+    ghost Reported = { λ gate worker answered. Unit {0} };
 
     fn passed(&self, worker: usize, answered: usize) {
         match (worker, answered) {
@@ -86,7 +86,7 @@ impl<C: Clock> Gate for Meeting<'_, C> {
 }
 
 // Whether the list of the first worker begins with another place than the first one.
-fn is_behind(lists: &[Vec<Place>]) -> bool {
+fn is_after(lists: &[Vec<Place>]) -> bool {
     let [list, ..] = lists else {
         return true;
     };
@@ -121,7 +121,7 @@ fn is_shared<R: Threads + Wait + Clock + Sync>(
         listed = listed.saturating_add(list.len());
     }
     let is_each_once = (listed == places) & (doubles(places, &lists) == 0);
-    let is_met = !is_meeting | (gate.is_met() & is_behind(&lists));
+    let is_met = !is_meeting | (gate.is_met() & is_after(&lists));
     is_each_once & (lists.len() == workers) & is_met
 }
 

@@ -1,23 +1,21 @@
 -- That a cursor can be made anew on the member to which another moved, and on the one from which it moves.
 use Rattle.std.proofs.Common.{◌≡◌, Option, Some, List, [], ◌∷◌, ◌++◌, append_assoc, drop, sym, ◌∙◌}
-use Rattle.ic_unsafe_ref.specs.declared.place.Place.{Place}
-use Rattle.ic_link_ops.specs.Positions.{Site, ShowsAt, Stands, MovesOn}
-use Rattle.ic_link_ops.specs.Tables.{Table}
+use Rattle.ic_link_ops.specs.Prelude.{Place, Table, CursorState, RepresentsAt, IsValidCursor, MovesOn}
 use Rattle.ic_link_ops.proofs.Positions.{member_there}
 use Rattle.ic_link_ops.proofs.SequenceLemmas.{first_is, last_of_push}
-use Rattle.ic_chain.specs.Standing.{HasMemberBehind, HasMemberBefore}
+use Rattle.ic_chain.specs.Standing.{HasMemberAfter, HasMemberBefore}
 
-module _ {L E H : Type 0} {S : Table E → H → List Place → Type 0} {table : L → Table E} {at : Site L H} {next : Option Place} {p : Place}
-    (stands : Stands S table at) (on : MovesOn S table at next) where
-  pub member_behind : next ≡ Some p → HasMemberBehind (ShowsAt S table at) p at.position
-  member_behind is = record {
+module _ {L E H : Type 0} {S : Table E → H → List Place → Type 0} {table : L → Table E} {at : CursorState L H} {next : Option Place} {p : Place}
+    (stands : IsValidCursor S table at) (on : MovesOn S table at next) where
+  pub member_after : next ≡ Some p → HasMemberAfter (RepresentsAt S table at) p at.position
+  member_after is = record {
     front = stands.gap.front;
     back = drop 1 stands.gap.back;
     shown = rw (first_is stands.gap.back (sym is ∙ on.leads stands.gap stands.shown stands.after)) at stands.shown;
     neighbor = stands.after;
   }
 
-  pub member_before : at.position ≡ Some p → HasMemberBefore (ShowsAt S table at) p next
+  pub member_before : at.position ≡ Some p → HasMemberBefore (RepresentsAt S table at) p next
   member_before is =
       let m = member_there stands is in record {
         front = m.front;

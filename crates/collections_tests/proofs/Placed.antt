@@ -1,9 +1,7 @@
 -- That an object stands at each member, where one stands at each covered place.
 use Rattle.std.proofs.Common.{◌≡◌, ℕ, true, Option, Some, None, List, [], ◌∷◌}
-use Rattle.ic_unsafe_ref.specs.declared.place.Place.{Place}
-use Rattle.ic_unsafe_ref.specs.Objects.{Objects, is_placed}
+use Rattle.ic_link_ops.specs.Prelude.{Place, Objects, is_placed, ArePlaced}
 use Rattle.ic_link_ops.specs.Chains.{IsChain}
-use Rattle.ic_link_ops.specs.PlacedObjects.{ArePlaced}
 
 -- `Between`: what the entry of a member says. It says that its place is linked, which only a covered one is
 pub chain_placed : {E : Type 0} (Between : E → Option Place → Option Place → Type 0) (entry : Place → E) (o : Objects ℕ)

@@ -2,31 +2,24 @@
 use Rattle.std.proofs.Common.{◌≡◌, ◌≤◌, ◌<◌, ◌+◌, ◌⊎◌, ℕ, zero, suc, Bool, true, false, Option, Some, None, Result, Ok, Err, OnOk, IfOk, OnSome, IfSome, IfNone, drop, slice_get, List, [], ◌∷◌, ◌++◌, refl, sym, ap, ◌∙◌, subst, arith, inl, inr}
 use Rattle.std.specs.Result.{is_ok}
 use Rattle.std.specs.declared.cmp.Ordering.{Ordering}
-use Rattle.ic_unsafe_ref.specs.declared.place.Place.{Place}
-use Rattle.ic_unsafe_ref.specs.Objects.{Objects, is_placed}
-use Rattle.ic_unsafe_ref.specs.Places.{index_of}
+use Rattle.ic_link_ops.specs.Prelude.{Place, index_of, Objects, is_placed, Cut, join, insert, remove, at_front, but_last, Table, Extent, IsCovered, IsLinked, HasMember, RepresentsPlaced, LinkStep, acquires, releases}
 use Rattle.ic_unsafe_ref.proofs.PlaceLemmas.{same_or_not}
 use Rattle.ic_link_ops.specs.Edits.{Inserts}
-use Rattle.ic_link_ops.specs.LinkSteps.{LinkStep, acquires, releases}
-use Rattle.ic_link_ops.specs.PlacedObjects.{ShowsPlaced}
-use Rattle.ic_link_ops.specs.Positions.{HasMember}
-use Rattle.ic_link_ops.specs.RedBlackTree.{Node, Shows}
-use Rattle.ic_link_ops.specs.Sequences.{Cut, join, insert, remove, at_front, but_last}
-use Rattle.ic_link_ops.specs.Tables.{Table, Extent, IsCovered, IsLinked}
+use Rattle.ic_link_ops.specs.RedBlackTree.{Node, Represents}
 use Rattle.ic_link_ops.specs.Times.{one_at, times_in}
 use Rattle.ic_link_ops.proofs.Each.{all_members}
 use Rattle.ic_link_ops.proofs.SequenceLemmas.{none_not, some_same}
-use Rattle.ic_link_ops.proofs.ShownTrees.{holds_linked, one_sequence, shows_nothing}
+use Rattle.ic_link_ops.proofs.RepresentedTrees.{holds_linked, one_sequence, represents_nothing}
 use Rattle.ic_link_ops.proofs.Times.{one_at_other, times_append}
 use Rattle.ic_rbtree.specs.Closed.{IsNode}
-use Rattle.ic_rbtree.specs.Kept.{Kept, alone, ended, ShowsFor, ShowsKept, IsEmptied}
+use Rattle.ic_rbtree.specs.Kept.{Kept, alone, ended, RepresentsFor, RepresentsKept, IsEmptied}
 use Rattle.ic_rbtree.specs.Ordered.{InsertsInOrder}
 use Rattle.ic_rbtree.specs.Tree.{head_of}
 use Rattle.ic_rbtree.specs.declared.tree.RBTree.{RBTree}
 use Rattle.ic_rbtree.proofs.KeptHeads.{shown}
 use Rattle.ic_augmented.specs.Consistent.{IsConsistent, IsJoined}
 use Rattle.ic_augmented.specs.Sums.{Sums}
-use Rattle.ic_augmented.specs.SummedSteps.{IsAcquired, DoesSummed}
+use Rattle.ic_augmented.specs.SummedSteps.{IsAcquired, TraceSummed}
 use Rattle.ic_augmented.specs.declared.summed.Summed.{Summed}
 use Rattle.ic_augmented.proofs.StepLemmas.{kept_right}
 use Rattle.collections_tests.specs.Ready.{IsReady}
@@ -50,7 +43,7 @@ pub if_some : {X : Type 0} (F : X → Type 0) {x : X} (r : Option X) → r ≡ S
 if_some F (Some y) e holds = subst F (some_same e) holds
 if_some F None e holds = absurd (none_not _ e)
 
--- a member, and what stands in front of it and behind
+-- a member, and what stands before it and after
 record Parted (s : List Place) (p : Place) : Type 0 where
   pub front : List Place
   pub back : List Place
@@ -66,14 +59,14 @@ pub stands_at : (shows : List Place → Type 0) (s : List Place) (k : ℕ) {p : 
 stands_at shows s k shown e = let a = at_position s k e in record { front = a.front; back = a.back; shown = subst shows a.same shown }
 
 -- a sequence without its first, or without its last, has no place more often
-few_behind : (s : List Place) (q : Place) → times_in q (drop 1 s) ≤ times_in q s
-few_behind [] q = omega arith
-few_behind (x ∷ s) q = omega arith
+few_after : (s : List Place) (q : Place) → times_in q (drop 1 s) ≤ times_in q s
+few_after [] q = omega arith
+few_after (x ∷ s) q = omega arith
 
-few_in_front : (s : List Place) (q : Place) → times_in q (but_last s) ≤ times_in q s
-few_in_front [] q = omega arith
-few_in_front (x ∷ []) q = omega arith
-few_in_front (x ∷ y ∷ s) q = omega (arith, few_in_front (y ∷ s) q)
+few_before : (s : List Place) (q : Place) → times_in q (but_last s) ≤ times_in q s
+few_before [] q = omega arith
+few_before (x ∷ []) q = omega arith
+few_before (x ∷ y ∷ s) q = omega (arith, few_before (y ∷ s) q)
 
 -- where no place stands more often, but p by one, each was there or is linked
 pub one_more : (p : Place) (rest : List LinkStep) (s t : List Place) → ((q : Place) → times_in q t ≤ times_in q s + one_at q p) → (q : Place) → 1 ≤ times_in q t → IsAcquired q (acquires p ∷ rest) ⊎ (1 ≤ times_in q s)
@@ -83,10 +76,10 @@ one_more p rest s t few q m = elim (same_or_not q p) [
 ]
 
 module _ {E : Type 0} (n : E → Node) where
-  -- nothing is shown for a tree with no members
-  pub nothing_shown : (v : Table E) (k : Kept) → IsEmptied k → ShowsFor n v k []
-  nothing_shown v (alone root) e = subst (λ (o : Option Place). Shows n v o []) (sym e) (shows_nothing v)
-  nothing_shown v (ended h) e = rw e (record { shown = shows_nothing v; front_is = refl; back_is = refl })
+  -- nothing is represented for a tree with no members
+  pub nothing_represented : (v : Table E) (k : Kept) → IsEmptied k → RepresentsFor n v k []
+  nothing_represented v (alone root) e = subst (λ (o : Option Place). Represents n v o []) (sym e) (represents_nothing v)
+  nothing_represented v (ended h) e = rw e (record { shown = represents_nothing v; front_is = refl; back_is = refl })
 
   -- what is right in two sequences is so in both together
   pub both_right : {S : Type 0} (v : Table E) (z : Sums S) (s t : List Place) → IsConsistent n v z s → IsConsistent n v z t → IsConsistent n v z (s ++ t)
@@ -95,19 +88,19 @@ module _ {E : Type 0} (n : E → Node) where
     by zero none = ht q (omega (arith, m, none, times_append q s t)) but x e
     by (suc k) some = hs q (omega (arith, some)) but x e
 
-module _ {N M E S A H : Type 0} {Does : N → N → List LinkStep → Type 0} {n : E → Node} {table : N → Table E} {sums : M → Sums S} {Covers : M → Place → Type 0} (kept : H → Kept)
+module _ {N M E S A H : Type 0} {Trace : N → N → List LinkStep → Type 0} {n : E → Node} {table : N → Table E} {sums : M → Sums S} {Covers : M → Place → Type 0} (kept : H → Kept)
     {old new : Summed N M} {tree : RBTree A H} (ready : IsReady kept n table sums Covers tree old) where
-  -- what was right in a sequence that is shown is so in each whose places come from it, after steps
-  pub parts_right : {steps : List LinkStep} → DoesSummed Does n table sums Covers old new steps → (s t : List Place) → ShowsKept kept n (table old.links) (head_of tree) s
+  -- what was right in a sequence that is represented is so in each whose places come from it, after steps
+  pub parts_right : {steps : List LinkStep} → TraceSummed Trace n table sums Covers old new steps → (s t : List Place) → RepresentsKept kept n (table old.links) (head_of tree) s
       → ((q : Place) → 1 ≤ times_in q t → IsAcquired q steps ⊎ (1 ≤ times_in q s)) → IsConsistent n (table new.links) (sums new.sums) t
   parts_right d s t was among =
       kept_right d s t among (subst (IsConsistent n (table old.links) (sums old.sums)) (one_sequence (shown (kept (head_of tree)) ready.shown) (shown (kept (head_of tree)) was)) ready.right)
 
-module _ {N M E S A H : Type 0} {Does : N → N → List LinkStep → Type 0} {n : E → Node} {table : N → Table E} {sums : M → Sums S} {Covers : M → Place → Type 0} (kept : H → Kept)
+module _ {N M E S A H : Type 0} {Trace : N → N → List LinkStep → Type 0} {n : E → Node} {table : N → Table E} {sums : M → Sums S} {Covers : M → Place → Type 0} (kept : H → Kept)
     {old new : Summed N M} {tree after : RBTree A H} (ready : IsReady kept n table sums Covers tree old) where
   -- AFTER STEPS, where each member was one or was linked
-  pub ready_after : {steps : List LinkStep} → DoesSummed Does n table sums Covers old new steps → (table new.links).extent ≡ (table old.links).extent
-      → (s t : List Place) → ShowsKept kept n (table old.links) (head_of tree) s → ShowsKept kept n (table new.links) (head_of after) t
+  pub ready_after : {steps : List LinkStep} → TraceSummed Trace n table sums Covers old new steps → (table new.links).extent ≡ (table old.links).extent
+      → (s t : List Place) → RepresentsKept kept n (table old.links) (head_of tree) s → RepresentsKept kept n (table new.links) (head_of after) t
       → ((q : Place) → 1 ≤ times_in q t → IsAcquired q steps ⊎ (1 ≤ times_in q s)) → IsReady kept n table sums Covers after new
   ready_after d extent s t was is among = record {
     covers = ap (λ (e : Extent). e.places) extent ∙ ready.covers;
@@ -118,64 +111,64 @@ module _ {N M E S A H : Type 0} {Does : N → N → List LinkStep → Type 0} {n
   }
 
   -- where there are no new ones
-  pub less_ready : {steps : List LinkStep} → DoesSummed Does n table sums Covers old new steps → (table new.links).extent ≡ (table old.links).extent
-      → (s t : List Place) → ShowsKept kept n (table old.links) (head_of tree) s → ShowsKept kept n (table new.links) (head_of after) t
+  pub less_ready : {steps : List LinkStep} → TraceSummed Trace n table sums Covers old new steps → (table new.links).extent ≡ (table old.links).extent
+      → (s t : List Place) → RepresentsKept kept n (table old.links) (head_of tree) s → RepresentsKept kept n (table new.links) (head_of after) t
       → ((q : Place) → times_in q t ≤ times_in q s) → IsReady kept n table sums Covers after new
   less_ready d extent s t was is few = ready_after d extent s t was is (λ q m. inr (omega (arith, m, few q)))
 
   -- where p has come in
-  pub more_ready : {p : Place} {rest : List LinkStep} → DoesSummed Does n table sums Covers old new (acquires p ∷ rest) → (table new.links).extent ≡ (table old.links).extent
-      → (s t : List Place) → ShowsKept kept n (table old.links) (head_of tree) s → ShowsKept kept n (table new.links) (head_of after) t
+  pub more_ready : {p : Place} {rest : List LinkStep} → TraceSummed Trace n table sums Covers old new (acquires p ∷ rest) → (table new.links).extent ≡ (table old.links).extent
+      → (s t : List Place) → RepresentsKept kept n (table old.links) (head_of tree) s → RepresentsKept kept n (table new.links) (head_of after) t
       → ((q : Place) → times_in q t ≤ times_in q s + one_at q p) → IsReady kept n table sums Covers after new
   more_ready {p} {rest} d extent s t was is few = ready_after d extent s t was is (one_more p rest s t few)
 
   -- AN INSERT at a gap
-  pub inserted_ready : {p : Place} → DoesSummed Does n table sums Covers old new (acquires p ∷ []) → (gap : Cut) → ShowsKept kept n (table old.links) (head_of tree) (join gap)
-      → Inserts (ShowsKept kept n) (table old.links) (table new.links) (head_of after) gap p → IsReady kept n table sums Covers after new
+  pub inserted_ready : {p : Place} → TraceSummed Trace n table sums Covers old new (acquires p ∷ []) → (gap : Cut) → RepresentsKept kept n (table old.links) (head_of tree) (join gap)
+      → Inserts (RepresentsKept kept n) (table old.links) (table new.links) (head_of after) gap p → IsReady kept n table sums Covers after new
   inserted_ready {p} d gap was i =
       more_ready d i.frame.extent (join gap) (insert gap p) was i.shows (λ q. omega (arith, times_append q gap.front gap.back, times_append q gap.front (p ∷ gap.back)))
 
-  pub in_order_ready : {p : Place} {at : Place → Ordering} → DoesSummed Does n table sums Covers old new (acquires p ∷ [])
-      → InsertsInOrder (ShowsKept kept n) at (table old.links) (table new.links) (head_of after) ready.members p → IsReady kept n table sums Covers after new
-  in_order_ready d i = inserted_ready d i.gap (subst (ShowsKept kept n (table old.links) (head_of tree)) (sym i.same) ready.shown) i.inserted
+  pub in_order_ready : {p : Place} {at : Place → Ordering} → TraceSummed Trace n table sums Covers old new (acquires p ∷ [])
+      → InsertsInOrder (RepresentsKept kept n) at (table old.links) (table new.links) (head_of after) ready.members p → IsReady kept n table sums Covers after new
+  in_order_ready d i = inserted_ready d i.gap (subst (RepresentsKept kept n (table old.links) (head_of tree)) (sym i.same) ready.shown) i.inserted
 
   -- ONE MEMBER in the place of another
-  pub replaced_ready : {p out : Place} → DoesSummed Does n table sums Covers old new (acquires p ∷ releases out ∷ []) → (table new.links).extent ≡ (table old.links).extent
-      → (front back : List Place) → ShowsKept kept n (table old.links) (head_of tree) (front ++ out ∷ back) → ShowsKept kept n (table new.links) (head_of after) (front ++ p ∷ back)
+  pub replaced_ready : {p out : Place} → TraceSummed Trace n table sums Covers old new (acquires p ∷ releases out ∷ []) → (table new.links).extent ≡ (table old.links).extent
+      → (front back : List Place) → RepresentsKept kept n (table old.links) (head_of tree) (front ++ out ∷ back) → RepresentsKept kept n (table new.links) (head_of after) (front ++ p ∷ back)
       → IsReady kept n table sums Covers after new
   replaced_ready {p} {out} d extent front back was is =
       more_ready d extent (front ++ out ∷ back) (front ++ p ∷ back) was is (λ q. omega (arith, times_append q front (out ∷ back), times_append q front (p ∷ back)))
 
   -- A REMOVAL
-  pub removed_ready : {p : Place} → DoesSummed Does n table sums Covers old new (releases p ∷ []) → (table new.links).extent ≡ (table old.links).extent
-      → (front back : List Place) → ShowsKept kept n (table old.links) (head_of tree) (front ++ p ∷ back) → ShowsKept kept n (table new.links) (head_of after) (front ++ back)
+  pub removed_ready : {p : Place} → TraceSummed Trace n table sums Covers old new (releases p ∷ []) → (table new.links).extent ≡ (table old.links).extent
+      → (front back : List Place) → RepresentsKept kept n (table old.links) (head_of tree) (front ++ p ∷ back) → RepresentsKept kept n (table new.links) (head_of after) (front ++ back)
       → IsReady kept n table sums Covers after new
   removed_ready {p} d extent front back was is =
       less_ready d extent (front ++ p ∷ back) (front ++ back) was is (λ q. omega (arith, times_append q front back, times_append q front (p ∷ back)))
 
   -- ALL MEMBERS GONE
-  pub none_ready : {steps : List LinkStep} → DoesSummed Does n table sums Covers old new steps → (table new.links).extent ≡ (table old.links).extent → IsEmptied (kept (head_of after))
+  pub none_ready : {steps : List LinkStep} → TraceSummed Trace n table sums Covers old new steps → (table new.links).extent ≡ (table old.links).extent → IsEmptied (kept (head_of after))
       → IsReady kept n table sums Covers after new
-  none_ready d extent emptied = less_ready d extent ready.members [] ready.shown (nothing_shown n (table new.links) (kept (head_of after)) emptied) (λ q. omega arith)
+  none_ready d extent emptied = less_ready d extent ready.members [] ready.shown (nothing_represented n (table new.links) (kept (head_of after)) emptied) (λ q. omega arith)
 
-module _ {N M E S A H : Type 0} (Does : N → N → List LinkStep → Type 0) {n : E → Node} {table : N → Table E} {sums : M → Sums S} {Covers : M → Place → Type 0} (kept : H → Kept)
+module _ {N M E S A H : Type 0} (Trace : N → N → List LinkStep → Type 0) {n : E → Node} {table : N → Table E} {sums : M → Sums S} {Covers : M → Place → Type 0} (kept : H → Kept)
     {old new : Summed N M} {tree after : RBTree A H} (ready : IsReady kept n table sums Covers tree old) where
   -- A POP at either end, which may find nothing
-  pub first_popped : (r : Option Place) → IfSome r (λ p. DoesSummed Does n table sums Covers old new (releases p ∷ [])) → IfNone r ((after ≡ tree) × (new ≡ old))
-      → (table new.links).extent ≡ (table old.links).extent → ShowsKept kept n (table new.links) (head_of after) (remove (at_front ready.members)) → IsReady kept n table sums Covers after new
-  first_popped (Some p) d same extent is = less_ready kept ready d extent ready.members (drop 1 ready.members) ready.shown is (few_behind ready.members)
+  pub first_popped : (r : Option Place) → IfSome r (λ p. TraceSummed Trace n table sums Covers old new (releases p ∷ [])) → IfNone r ((after ≡ tree) × (new ≡ old))
+      → (table new.links).extent ≡ (table old.links).extent → RepresentsKept kept n (table new.links) (head_of after) (remove (at_front ready.members)) → IsReady kept n table sums Covers after new
+  first_popped (Some p) d same extent is = less_ready kept ready d extent ready.members (drop 1 ready.members) ready.shown is (few_after ready.members)
   first_popped None d same extent is = rw (same.0, same.1) ready
 
-  pub last_popped : (r : Option Place) → IfSome r (λ p. DoesSummed Does n table sums Covers old new (releases p ∷ [])) → IfNone r ((after ≡ tree) × (new ≡ old))
-      → (table new.links).extent ≡ (table old.links).extent → ShowsKept kept n (table new.links) (head_of after) (but_last ready.members) → IsReady kept n table sums Covers after new
-  last_popped (Some p) d same extent is = less_ready kept ready d extent ready.members (but_last ready.members) ready.shown is (few_in_front ready.members)
+  pub last_popped : (r : Option Place) → IfSome r (λ p. TraceSummed Trace n table sums Covers old new (releases p ∷ [])) → IfNone r ((after ≡ tree) × (new ≡ old))
+      → (table new.links).extent ≡ (table old.links).extent → RepresentsKept kept n (table new.links) (head_of after) (but_last ready.members) → IsReady kept n table sums Covers after new
+  last_popped (Some p) d same extent is = less_ready kept ready d extent ready.members (but_last ready.members) ready.shown is (few_before ready.members)
   last_popped None d same extent is = rw (same.0, same.1) ready
 
 -- STEPS BEHIND OTHER EDITS, which have left as many places, as much room, and what is right
-module _ {N M E S A H : Type 0} {Does : N → N → List LinkStep → Type 0} {n : E → Node} {table : N → Table E} {sums : M → Sums S} {Covers : M → Place → Type 0} (kept : H → Kept)
+module _ {N M E S A H : Type 0} {Trace : N → N → List LinkStep → Type 0} {n : E → Node} {table : N → Table E} {sums : M → Sums S} {Covers : M → Place → Type 0} (kept : H → Kept)
     {mid new : Summed N M} {after : RBTree A H} where
-  pub ready_behind : {steps : List LinkStep} → DoesSummed Does n table sums Covers mid new steps → (table mid.links).extent.places ≡ 8 → ((q : Place) → IsCovered (table mid.links) q → Covers mid.sums q)
-      → (table new.links).extent ≡ (table mid.links).extent → (s t : List Place) → IsConsistent n (table mid.links) (sums mid.sums) s → ShowsKept kept n (table new.links) (head_of after) t
+  pub ready_behind : {steps : List LinkStep} → TraceSummed Trace n table sums Covers mid new steps → (table mid.links).extent.places ≡ 8 → ((q : Place) → IsCovered (table mid.links) q → Covers mid.sums q)
+      → (table new.links).extent ≡ (table mid.links).extent → (s t : List Place) → IsConsistent n (table mid.links) (sums mid.sums) s → RepresentsKept kept n (table new.links) (head_of after) t
       → ((q : Place) → 1 ≤ times_in q t → IsAcquired q steps ⊎ (1 ≤ times_in q s)) → IsReady kept n table sums Covers after new
   ready_behind d places room extent s t right is among = record {
     covers = ap (λ (e : Extent). e.places) extent ∙ places;
@@ -194,7 +187,7 @@ module _ {N M E S A H : Type 0} {n : E → Node} {table : N → Table E} {sums :
   pub linked_room : (p : Place) → IsNode n (table summed.links) p → Covers summed.sums p
   linked_room p is = ready.room p (linked_covered p is)
 
-  pub ready_placed : {T : Type 0} (objects : Objects T) → ((q : Place) → index_of q < 8 → is_placed objects q ≡ true) → ShowsPlaced (ShowsKept kept n (table summed.links) (head_of tree)) objects
+  pub ready_placed : {T : Type 0} (objects : Objects T) → ((q : Place) → index_of q < 8 → is_placed objects q ≡ true) → RepresentsPlaced (RepresentsKept kept n (table summed.links) (head_of tree)) objects
   ready_placed objects each = record {
     members = ready.members;
     shown = ready.shown;

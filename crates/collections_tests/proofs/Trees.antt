@@ -1,22 +1,18 @@
--- That a table shows nothing for a tree with no root, where members are placed, and that a vacant entry can insert.
+-- That a table represents nothing for a tree with no root, where members are placed, and that a vacant entry can insert.
 use Rattle.std.proofs.Common.{◌≡◌, true, Option, None, List, [], ◌∷◌, refl}
 use Rattle.std.specs.List.{AllByRecursion}
 use Rattle.std.specs.declared.cmp.Ordering.{Ordering}
-use Rattle.ic_unsafe_ref.specs.declared.place.Place.{Place}
-use Rattle.ic_unsafe_ref.specs.Objects.{Objects, is_placed}
-use Rattle.ic_unsafe_ref.specs.Places.{index_of}
+use Rattle.ic_link_ops.specs.Prelude.{Place, index_of, Objects, is_placed, Table, IsCovered, ArePlaced, RepresentsPlaced}
 use Rattle.ic_link_ops.specs.EntryLaws.{linked_in_range}
 use Rattle.ic_link_ops.specs.Links.{link_of}
-use Rattle.ic_link_ops.specs.PlacedObjects.{ArePlaced, ShowsPlaced}
 use Rattle.ic_link_ops.specs.PlainTables.{entries, linked_by}
-use Rattle.ic_link_ops.specs.RedBlackTree.{Node, Shows}
-use Rattle.ic_link_ops.specs.Tables.{Table, IsCovered}
+use Rattle.ic_link_ops.specs.RedBlackTree.{Node, Represents}
 use Rattle.ic_link_ops.specs.ThreeWords.{no_words, has_link, node_of}
-use Rattle.ic_link_ops.proofs.ShownTrees.{shows_nothing}
+use Rattle.ic_link_ops.proofs.RepresentedTrees.{represents_nothing}
 use Rattle.ic_link_ops.proofs.Trees.{tree_covered}
 use Rattle.ic_rbtree.specs.CursorMut.{CursorOf}
 use Rattle.ic_rbtree.specs.Entry.{IfVacant, IsVacantFor, CanInsert}
-use Rattle.ic_rbtree.specs.PlainTrees.{TreeLinkOps, plain_table, PlainShows, PlainShowsSome}
+use Rattle.ic_rbtree.specs.PlainTrees.{TreeLinkOps, plain_table, PlainRepresents, PlainRepresentsSome}
 use Rattle.ic_rbtree.specs.Tree.{root_of}
 use Rattle.ic_rbtree.specs.declared.keys.entry.Entry.{Entry}
 use Rattle.ic_rbtree.specs.declared.keys.entry.Entry.TheVariants.{Occupied, Vacant}
@@ -24,8 +20,8 @@ use Rattle.ic_rbtree.specs.declared.keys.entry.InsertCursor.{InsertCursor}
 use Rattle.ic_rbtree.specs.declared.tree.RBTree.{RBTree}
 use Rattle.ic_rbtree.specs.Kept.{alone}
 
-pub none_shown : {A : Type 0} (links : TreeLinkOps A) (root : Option Place) → root ≡ None → PlainShowsSome links root
-none_shown links root e = ([], rw e (shows_nothing {n = node_of} (plain_table links)))
+pub none_represented : {A : Type 0} (links : TreeLinkOps A) (root : Option Place) → root ≡ None → PlainRepresentsSome links root
+none_represented links root e = ([], rw e (represents_nothing {n = node_of} (plain_table links)))
 
 -- where an object stands at each covered place, one stands at each member, which is covered
 module _ {A : Type 0} (links : TreeLinkOps A) {T : Type 0} (o : Objects T) (all : (q : Place) → IsCovered (plain_table links) q → is_placed o q ≡ true) where
@@ -33,16 +29,16 @@ module _ {A : Type 0} (links : TreeLinkOps A) {T : Type 0} (o : Objects T) (all 
   each_placed [] h = tt
   each_placed (x ∷ s) h = (all x h.0, each_placed s h.1)
 
-  pub shows_placed : (root : Option Place) → PlainShowsSome links root → ShowsPlaced (PlainShows links root) o
-  shows_placed root (s, h) =
+  pub represents_placed : (root : Option Place) → PlainRepresentsSome links root → RepresentsPlaced (PlainRepresents links root) o
+  represents_placed root (s, h) =
       let linked_is_covered = linked_in_range (linked_by has_link) (link_of no_words) refl (entries links) in
       let covered : AllByRecursion (λ q. IsCovered (plain_table links) q) s
       = rw (← h.held.order) (tree_covered node_of (plain_table links) (λ q k. linked_is_covered (index_of q) k) None h.tree h.held.entries) in
       record { members = s; shown = h; placed = each_placed s covered }
 
--- a vacant entry of a tree that is shown has a gap where it inserts. `P` and `Q`: whatever else is known of it
+-- a vacant entry of a tree that is represented has a gap where it inserts. `P` and `Q`: whatever else is known of it
 module _ {A L V K E : Type 0} (n : E → Node) (table : L → Table E) (at : Place → Ordering) (P Q : InsertCursor A L (Option Place) → Type 0) (tree : RBTree A (Option Place)) (links : L) {s : List Place}
-    (shown : Shows n (table links) (root_of tree) s) where
+    (shown : Represents n (table links) (root_of tree) s) where
   pub can_insert : (e : Entry A L (Option Place) V K) → IfVacant e (IsVacantFor n at (table links) s) → IfVacant e (λ v. P v × Q v × (v.tree.now ≡ tree) × (v.links.now ≡ links))
       → IfVacant e (CanInsert alone n table)
   can_insert (Occupied c) f b = tt

@@ -1,9 +1,8 @@
 -- A tree of the first eight places whose fresh summaries are right, with room for one at each place.
 use Rattle.std.specs.Prelude.{◌≡◌, List}
-use Rattle.ic_unsafe_ref.specs.declared.place.Place.{Place}
+use Rattle.ic_link_ops.specs.Prelude.{Place, Table, IsCovered}
 use Rattle.ic_link_ops.specs.RedBlackTree.{Node}
-use Rattle.ic_link_ops.specs.Tables.{Table, IsCovered}
-use Rattle.ic_rbtree.specs.Kept.{Kept, ShowsKept}
+use Rattle.ic_rbtree.specs.Kept.{Kept, RepresentsKept}
 use Rattle.ic_rbtree.specs.Tree.{head_of}
 use Rattle.ic_rbtree.specs.declared.tree.RBTree.{RBTree}
 use Rattle.ic_augmented.specs.Consistent.{IsConsistent}
@@ -12,10 +11,10 @@ use Rattle.ic_augmented.specs.Summed.{links_of, sums_of}
 use Rattle.ic_augmented.specs.declared.summed.Summed.{Summed}
 
 module _ {H N M E S A : Type 0} (kept : H → Kept) (n : E → Node) (table : N → Table E) (sums : M → Sums S) (Covers : M → Place → Type 0) where
-  -- THE TREE IS READY for edits, for a refresh, and for questions behind that
+  -- THE TREE IS READY for edits, for a refresh, and for questions after that
   pub record IsReady (tree : RBTree A H) (summed : Summed N M) : Type 0 where
     pub covers : (table (links_of summed)).extent.places ≡ 8
     pub members : List Place
-    pub shown : ShowsKept kept n (table (links_of summed)) (head_of tree) members
+    pub shown : RepresentsKept kept n (table (links_of summed)) (head_of tree) members
     pub right : IsConsistent n (table (links_of summed)) (sums (sums_of summed)) members
     pub room : (q : Place) → IsCovered (table (links_of summed)) q → Covers (sums_of summed) q

@@ -1,9 +1,9 @@
 //! The doubly linked list: edits by a cursor that borrows the list, cursors that keep it, and a walk that takes its members off.
 
 ghost use Rattle.std.specs.Prelude.{◌≡◌};
-ghost use Rattle.ic_link_ops.specs.Chains.{ShowsChain, ShowsSomeChain};
+ghost use Rattle.ic_link_ops.specs.Chains.{RepresentsChain, RepresentsSomeChain};
 ghost use Rattle.ic_cursors.specs.CursorMut as edits;
-ghost use Rattle.ic_chain.specs.Standing.{StandsAt};
+ghost use Rattle.ic_chain.specs.Standing.{IsValidAt};
 
 use crate::lists::{ListFixture, list_of};
 use crate::notes::{assert_words, write_object, write_values};
@@ -12,7 +12,7 @@ use ic_cursors::CursorMut;
 use ic_link_ops::linked_list::TwoWords;
 use ic_link_ops::{LinkOps, TwoNarrowWords};
 use ic_linked_list::DoublyLinked;
-use ic_test_support::answers::write_places;
+use ic_test_support::answers::{replaced, write_places};
 use ic_test_support::notes::{Answer, Text};
 use ic_test_support::objects::{place_at, reference};
 use ic_test_support::tables::write_linked;
@@ -25,20 +25,23 @@ pub(crate) type DoublyFixture = ListFixture<DoublyLinked, TwoWords>;
 /// The same over links of 4-byte words.
 pub(crate) type NarrowDoublyFixture = ListFixture<DoublyLinked, TwoNarrowWords>;
 
-// Makes each edit by a cursor on the last of the members 0, 1 and 2, and notes what came out. Notes what is in front of the cursor, none, when
-// that part was put behind it, and whether it is at null two steps on.
+// Makes each edit by a cursor on the last of the members 0, 1 and 2, and notes what came out. Notes what is before the cursor, none, when
+// that part was put after it, and whether it is at null two steps on.
 fn write_edits<K: DoubleEnded + BidirectionalLinks<L>, L: LinkOps>(
     notes: &mut Text,
     cursor: &mut CursorMut<'_, Chain<K, u64>, L>,
 )
     requires covers { (L.table (edits.links_of cursor.old)).extent.places ≡ 8 }
-    requires stands { edits.IsStanding (StandsAt (ShowsChain K.Between K.kept) L.table K.Position.member K.Position.CachesNext) cursor.old }
-    ensures stands { edits.IsStanding (StandsAt (ShowsChain K.Between K.kept) L.table K.Position.member K.Position.CachesNext) cursor.new }
+    requires stands { edits.IsValid (IsValidAt (RepresentsChain K.Between K.kept) L.table K.Position.member K.Position.CachesNext) cursor.old }
+    ensures stands { edits.IsValid (IsValidAt (RepresentsChain K.Between K.kept) L.table K.Position.member K.Position.CachesNext) cursor.new }
     ensures borrows { edits.SameBorrows cursor.old cursor.new }
 {
     let _ = cursor.insert_after(reference(3));
     let _ = cursor.insert_before(reference(4));
-    write_object(notes, cursor.replace_with(reference(5)).ok());
+    notes.add(
+        replaced(cursor.replace_with(reference(5)), place_at(5)),
+        " ",
+    );
     cursor.move_prev();
     cursor.move_prev();
     write_object(notes, cursor.remove());
@@ -71,14 +74,15 @@ fn doubly_linked_list(rt: HostRuntime) {
     assert_words(&rt, &notes, "2 1 3 none no  0 4 5  10");
 }
 
-// The same edits over links of 4-byte words, and where the cursor and the ends are then.
+// The same edits over links of 4-byte words, by a cursor that goes from null to the last member, and where it is then.
 // Promise: edits of a list over 4-byte words.
 #[test]
 fn doubly_linked_list_over_narrow_links(rt: HostRuntime) {
     let alloc = rt.alloc();
     let mut notes = Text::new(alloc);
     let mut fixture: NarrowDoublyFixture = list_of(&rt, alloc, 3);
-    let mut cursor = fixture.list.back_mut(&mut fixture.links);
+    let mut cursor = fixture.list.cursor_mut(&mut fixture.links);
+    cursor.move_prev();
     write_edits(&mut notes, &mut cursor);
     write_places(&mut notes, &[cursor.get_ptr()]);
     assert_words(&rt, &notes, "2 1 3 none no  0");
@@ -91,7 +95,7 @@ fn write_on_member<K: NamesNext + DoubleEnded + BidirectionalLinks<L>, L: LinkOp
     list: Chain<K, u64>,
     links: &L,
 )
-    requires shown { ShowsSomeChain K.Between K.kept (L.table links.now) list }
+    requires shown { RepresentsSomeChain K.Between K.kept (L.table links.now) list }
 {
     let place = place_at(1);
     assert!(rt; list.contains(links, place));

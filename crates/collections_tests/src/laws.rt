@@ -1,13 +1,13 @@
 //! The laws of several calls together, on doubly linked lists.
 
 ghost use Rattle.std.specs.Prelude.{◌≡◌, None};
-ghost use Rattle.ic_link_ops.specs.Chains.{ShowsChain, ShowsSomeChain};
-ghost use Rattle.ic_link_ops.specs.DoublyEntries.{plain_table, PlainShowsSome};
+ghost use Rattle.ic_link_ops.specs.Chains.{RepresentsChain, RepresentsSomeChain};
+ghost use Rattle.ic_link_ops.specs.DoublyEntries.{plain_table, PlainRepresentsSome};
 ghost use Rattle.ic_cursors.specs.Cursor as reads;
-ghost use Rattle.ic_chain.specs.Standing.{StandsAt};
+ghost use Rattle.ic_chain.specs.Standing.{IsValidAt};
 
 use crate::doubly::DoublyFixture;
-use crate::lent::write_turned;
+use crate::lent::{write_moved, write_turned};
 use crate::lists::list_of;
 use crate::notes::{assert_words, write_object};
 use ic_chain::{BidirectionalLinks, Chain, DoubleEnded, ForwardLinks, laws};
@@ -26,7 +26,7 @@ fn write_front<K: ForwardLinks<L>, L: LinkOps>(
     links: &mut L,
 )
     requires covers { (L.table links.old).extent.places ≡ 8 }
-    requires shown { ShowsSomeChain K.Between K.kept (L.table links.old) list.old }
+    requires shown { RepresentsSomeChain K.Between K.kept (L.table links.old) list.old }
 {
     let object = reference(5);
     let place = object.place();
@@ -46,7 +46,7 @@ fn write_back<K: DoubleEnded + BidirectionalLinks<L>, L: LinkOps>(
     links: &mut L,
 )
     requires covers { (L.table links.old).extent.places ≡ 8 }
-    requires shown { ShowsSomeChain K.Between K.kept (L.table links.old) list.old }
+    requires shown { RepresentsSomeChain K.Between K.kept (L.table links.old) list.old }
 {
     laws::push_then_pop::<K, L>();
     let Ok(()) = list.push_back(links, reference(5)) else {
@@ -61,7 +61,7 @@ fn write_ends<K: DoubleEnded + BidirectionalLinks<L>, L: LinkOps>(
     notes: &mut Text,
     mut cursor: Cursor<'_, Chain<K, u64>, L>,
 )
-    requires stands { reads.IsStanding (StandsAt (ShowsChain K.Between K.kept) L.table K.Position.member K.Position.CachesNext) cursor }
+    requires stands { reads.IsValid (IsValidAt (RepresentsChain K.Between K.kept) L.table K.Position.member K.Position.CachesNext) cursor }
     requires null { reads.position K.Position.member cursor ≡ None }
 {
     let (front, back) = laws::null_there_and_back(&mut cursor);
@@ -76,9 +76,9 @@ fn write_apart(
     second: &mut DoublyFixture,
 )
     requires first_covers { (plain_table first.old.links).extent.places ≡ 8 }
-    requires first_shown { PlainShowsSome first.old.links first.old.list }
+    requires first_represented { PlainRepresentsSome first.old.links first.old.list }
     requires second_covers { (plain_table second.old.links).extent.places ≡ 8 }
-    requires second_shown { PlainShowsSome second.old.links second.old.list }
+    requires second_represented { PlainRepresentsSome second.old.links second.old.list }
 {
     let place = place_at(5);
     assert!(rt; !first.links.is_linked(place) && !second.links.is_linked(place));
@@ -108,8 +108,16 @@ fn laws_of_lists(rt: HostRuntime) {
         let mut fixture: DoublyFixture = list_of(&rt, alloc, 2);
         write_back(&mut notes, &mut fixture.list, &mut fixture.links);
     }
+    {
+        let mut fixture: DoublyFixture = list_of(&rt, alloc, 3);
+        write_moved(&mut notes, &mut fixture.list, &mut fixture.links);
+    }
     let mut first = list_of(&rt, alloc, 2);
     let mut second = list_of(&rt, alloc, 0);
     write_apart(&rt, &mut notes, &mut first, &mut second);
-    assert_words(&rt, &notes, "0 1 0 5 no  5 0 1  yes 0 1 5  5");
+    assert_words(
+        &rt,
+        &notes,
+        "0 1 0 5 no  5 0 1  2 1 0 2 2 1 0 1  yes 0 1 5  5",
+    );
 }

@@ -1,24 +1,24 @@
 //! A list that is lent together with the table of its links, and a cursor at a member by its reference.
 
 ghost use Rattle.std.specs.Prelude.{◌≡◌};
-ghost use Rattle.ic_link_ops.specs.Chains.{ShowsSomeChain};
+ghost use Rattle.ic_link_ops.specs.Chains.{RepresentsSomeChain};
 
-use ic_chain::{Chain, DoubleEnded, ForwardLinks, NamesNext};
+use ic_chain::{BidirectionalLinks, Chain, DoubleEnded, ForwardLinks, NamesBoth, NamesNext};
 use ic_link_ops::LinkOps;
 use ic_test_support::answers::write_places;
 use ic_test_support::notes::Text;
 use ic_unsafe_ref::UnsafeRef;
 
-/// Moves the first member behind all others, on the list and its links lent together, and notes where a cursor at it is and the ends.
+/// Moves the first member after all others, on the list and its links lent together, and notes where a cursor at it is and the ends.
 pub(crate) fn write_turned<K: DoubleEnded + NamesNext + ForwardLinks<L>, L: LinkOps>(
     notes: &mut Text,
     list: &mut Chain<K, u64>,
     links: &mut L,
 )
     requires covers { (L.table links.old).extent.places ≡ 8 }
-    requires shown { ShowsSomeChain K.Between K.kept (L.table links.old) list.old }
+    requires shown { RepresentsSomeChain K.Between K.kept (L.table links.old) list.old }
     ensures covers { (L.table links.new).extent.places ≡ 8 }
-    ensures shown { ShowsSomeChain K.Between K.kept (L.table links.new) list.new }
+    ensures shown { RepresentsSomeChain K.Between K.kept (L.table links.new) list.new }
 {
     let mut lent = list.lend(links);
     let Some(first) = lent.pop_front() else {
@@ -33,4 +33,31 @@ pub(crate) fn write_turned<K: DoubleEnded + NamesNext + ForwardLinks<L>, L: Link
         .cursor_mut_from_ptr(links, UnsafeRef::new(place))
         .get_ptr();
     write_places(notes, &[turned, list.first(), list.last()]);
+}
+
+/// Takes the last member off and puts it before all others, after them, and before them again, and then it takes it off by its reference: all on
+/// the list and its links lent together. It notes the ends after each move, and after the list is given back.
+pub(crate) fn write_moved<K, L: LinkOps>(notes: &mut Text, list: &mut Chain<K, u64>, links: &mut L)
+where
+    K: DoubleEnded + NamesBoth<L> + BidirectionalLinks<L>,
+    requires covers { (L.table links.old).extent.places ≡ 8 }
+    requires shown { RepresentsSomeChain K.Between K.kept (L.table links.old) list.old }
+{
+    let mut lent = list.lend(links);
+    let Some(last) = lent.pop_back() else {
+        return;
+    };
+    let place = last.place();
+    let Ok(()) = lent.push_front(last) else {
+        return;
+    };
+    let object = UnsafeRef::new(place);
+    write_places(notes, &[lent.list.first(), lent.list.last()]);
+    lent.move_to_back(&object);
+    write_places(notes, &[lent.list.first(), lent.list.last()]);
+    lent.move_to_front(&object);
+    write_places(notes, &[lent.list.first(), lent.list.last()]);
+    lent.remove(&object);
+    lent.finish();
+    write_places(notes, &[list.first(), list.last()]);
 }

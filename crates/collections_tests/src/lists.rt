@@ -1,8 +1,8 @@
 //! Lists of any kind, over the plain table of their links.
 
 ghost use Rattle.std.specs.Prelude.{◌≡◌, ◌≤◌};
-ghost use Rattle.ic_link_ops.specs.Chains.{ShowsChain, ShowsSomeChain};
-ghost use Rattle.ic_link_ops.specs.PlacedObjects.{ShowsPlaced};
+ghost use Rattle.ic_link_ops.specs.Chains.{RepresentsChain, RepresentsSomeChain};
+ghost use Rattle.ic_link_ops.specs.PlacedObjects.{RepresentsPlaced};
 ghost use Rattle.ic_link_ops.specs.PlainTables.{table};
 
 use ic_chain::{Chain, ForwardLinks, ListKind};
@@ -37,7 +37,7 @@ pub(crate) fn filled<K: ForwardLinks<L>, L: LinkOps>(links: &mut L, members: usi
     requires covered { (L.table links.old).extent.places ≡ 8 }
     requires few { members ≤ 8 }
     ensures covers { (L.table links.new).extent.places ≡ 8 }
-    ensures shown { ShowsSomeChain K.Between K.kept (L.table links.new) result }
+    ensures shown { RepresentsSomeChain K.Between K.kept (L.table links.new) result }
 {
     let mut list = Chain::new();
     for given in 0..members {
@@ -54,7 +54,7 @@ pub(crate) fn list_of<K: ForwardLinks<PlainTable<W>>, W: Words>(
 ) -> ListFixture<K, W>
     requires { members ≤ 8 }
     ensures covers { (table W.width W.unlinked result.links).extent.places ≡ 8 }
-    ensures shown { ShowsPlaced (ShowsChain K.Between K.kept (table W.width W.unlinked result.links) result.list) result.objects }
+    ensures shown { RepresentsPlaced (RepresentsChain K.Between K.kept (table W.width W.unlinked result.links) result.list) result.objects }
 {
     let (objects, mut links) = eight_objects(alloc, TENS).expect(rt, "memory");
     let list = filled(&mut links, members);

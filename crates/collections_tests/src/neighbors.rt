@@ -1,9 +1,9 @@
 //! Cursors of an XOR list that are made on a member whose neighbor is told.
 
-ghost use Rattle.ic_link_ops.specs.Chains.{ShowsChain, ShowsSomeChain};
+ghost use Rattle.ic_link_ops.specs.Chains.{RepresentsChain, RepresentsSomeChain};
 ghost use Rattle.ic_cursors.specs.Cursor as reads;
 ghost use Rattle.ic_cursors.specs.CursorMut as edits;
-ghost use Rattle.ic_chain.specs.Standing.{StandsAt, HasMemberBehind, HasMemberBefore};
+ghost use Rattle.ic_chain.specs.Standing.{IsValidAt, HasMemberAfter, HasMemberBefore};
 
 use crate::lists::list_of;
 use crate::notes::{assert_words, write_values};
@@ -17,26 +17,26 @@ use ic_unsafe_ref::{Objects, UnsafeRef};
 use ic_xor_linked_list::laws;
 use std::process::Abort;
 
-// The second member, and the one in front of it, by a cursor on the first.
+// The second member, and the one before it, by a cursor on the first.
 fn second<K: Reversible + BidirectionalLinks<L>, L: LinkOps>(
     rt: &impl Abort,
     mut cursor: Cursor<'_, Chain<K, u64>, L>,
 ) -> (UnsafeRef<u64>, Option<UnsafeRef<u64>>)
-    requires stands { reads.IsStanding (StandsAt (ShowsChain K.Between K.kept) L.table K.Position.member K.Position.CachesNext) cursor }
-    ensures { HasMemberBehind (ShowsChain K.Between K.kept (L.table (reads.links_of cursor.entry)) (reads.list_of cursor.entry)) result.0 result.1 }
+    requires stands { reads.IsValid (IsValidAt (RepresentsChain K.Between K.kept) L.table K.Position.member K.Position.CachesNext) cursor }
+    ensures { HasMemberAfter (RepresentsChain K.Between K.kept (L.table (reads.links_of cursor.entry)) (reads.list_of cursor.entry)) result.0 result.1 }
 {
     let first = cursor.clone_pointer();
     cursor.move_next();
     (cursor.clone_pointer().expect(rt, "a second member"), first)
 }
 
-// The last member, and what is behind it: nothing, by a cursor on it.
+// The last member, and what is after it: nothing, by a cursor on it.
 fn last<K: Reversible + BidirectionalLinks<L>, L: LinkOps>(
     rt: &impl Abort,
     cursor: Cursor<'_, Chain<K, u64>, L>,
 ) -> (UnsafeRef<u64>, Option<UnsafeRef<u64>>)
-    requires stands { reads.IsStanding (StandsAt (ShowsChain K.Between K.kept) L.table K.Position.member K.Position.CachesNext) cursor }
-    ensures { HasMemberBefore (ShowsChain K.Between K.kept (L.table (reads.links_of cursor.entry)) (reads.list_of cursor.entry)) result.0 result.1 }
+    requires stands { reads.IsValid (IsValidAt (RepresentsChain K.Between K.kept) L.table K.Position.member K.Position.CachesNext) cursor }
+    ensures { HasMemberBefore (RepresentsChain K.Between K.kept (L.table (reads.links_of cursor.entry)) (reads.list_of cursor.entry)) result.0 result.1 }
 {
     let behind = cursor.peek_next().clone_pointer();
     (cursor.clone_pointer().expect(rt, "a last member"), behind)
@@ -50,7 +50,7 @@ fn write_borrowed<K: Reversible + BidirectionalLinks<L>, L: LinkOps>(
     links: &mut L,
     objects: &Objects<u64>,
 )
-    requires shown { ShowsSomeChain K.Between K.kept (L.table links.old) list.old }
+    requires shown { RepresentsSomeChain K.Between K.kept (L.table links.old) list.old }
 {
     let (object, next) = last(rt, list.back(&*links));
     let before = list
@@ -71,7 +71,7 @@ fn write_next<K: Reversible + BidirectionalLinks<L>, L: LinkOps>(
     notes: &mut Text,
     cursor: &mut CursorMut<'_, Chain<K, u64>, L>,
 )
-    requires stands { edits.IsStanding (StandsAt (ShowsChain K.Between K.kept) L.table K.Position.member K.Position.CachesNext) cursor.old }
+    requires stands { edits.IsValid (IsValidAt (RepresentsChain K.Between K.kept) L.table K.Position.member K.Position.CachesNext) cursor.old }
 {
     cursor.move_next();
     write_places(notes, &[cursor.get_ptr()]);
@@ -84,7 +84,7 @@ fn write_kept<K: Reversible + BidirectionalLinks<L>, L: LinkOps>(
     list: Chain<K, u64>,
     links: &L,
 )
-    requires shown { ShowsSomeChain K.Between K.kept (L.table links.now) list }
+    requires shown { RepresentsSomeChain K.Between K.kept (L.table links.now) list }
 {
     let (object, prev) = second(rt, list.front(links));
     let read = list.cursor_from_ptr_and_prev(links, object, prev).get_ptr();
@@ -115,7 +115,7 @@ fn cursors_from_neighbors(rt: HostRuntime) {
     }
     {
         let mut fixture: XorFixture = list_of(&rt, alloc, 3);
-        laws::reversed_is_shown(&mut fixture.list, &fixture.links);
+        laws::reversed_is_represented(&mut fixture.list, &fixture.links);
         write_borrowed(
             &rt,
             &mut notes,

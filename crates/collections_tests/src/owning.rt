@@ -2,7 +2,7 @@
 //! cursor.
 
 ghost use Rattle.std.specs.Prelude.{◌≡◌};
-ghost use Rattle.ic_link_ops.specs.Chains.{ShowsSomeChain};
+ghost use Rattle.ic_link_ops.specs.Chains.{RepresentsSomeChain};
 
 use crate::doubly::DoublyFixture;
 use crate::lists::list_of;
@@ -20,7 +20,7 @@ fn write_moves<K: DoubleEnded + BidirectionalLinks<L>, L: LinkOps>(
     list: Chain<K, u64>,
     links: &L,
 )
-    requires shown { ShowsSomeChain K.Between K.kept (L.table links.now) list }
+    requires shown { RepresentsSomeChain K.Between K.kept (L.table links.now) list }
 {
     let at_null = list.cursor_owning();
     let null = at_null.get_ptr();
@@ -33,14 +33,14 @@ fn write_moves<K: DoubleEnded + BidirectionalLinks<L>, L: LinkOps>(
 }
 
 // Puts objects beside the first of the members 0, 1 and 2, and takes them out again, and notes both that came out. Then the list is split
-// behind the cursor and in front of it, the parts change places, and it notes where the cursor is, the first member, and the cursor at null.
+// after the cursor and before it, the parts change places, and it notes where the cursor is, the first member, and the cursor at null.
 fn write_edits<K: DoubleEnded + BidirectionalLinks<L>, L: LinkOps>(
     notes: &mut Text,
     list: Chain<K, u64>,
     links: &mut L,
 )
     requires covers { (L.table links.old).extent.places ≡ 8 }
-    requires shown { ShowsSomeChain K.Between K.kept (L.table links.old) list }
+    requires shown { RepresentsSomeChain K.Between K.kept (L.table links.old) list }
 {
     let mut cursor = list.front_owning(&*links);
     let _ = cursor.insert_after(links, reference(3));
@@ -59,14 +59,14 @@ fn write_edits<K: DoubleEnded + BidirectionalLinks<L>, L: LinkOps>(
     write_places(notes, &[cursor.get_ptr()]);
 }
 
-// Puts the object at 3 in the place of the member behind a cursor on the first, takes it off again, and notes both that came out.
-fn write_edits_behind<K: SingleEnded + ForwardLinks<L>, L: LinkOps>(
+// Puts the object at 3 in the place of the member after a cursor on the first, takes it off again, and notes both that came out.
+fn write_edits_after<K: SingleEnded + ForwardLinks<L>, L: LinkOps>(
     notes: &mut Text,
     list: Chain<K, u64>,
     links: &mut L,
 )
     requires covers { (L.table links.old).extent.places ≡ 8 }
-    requires shown { ShowsSomeChain K.Between K.kept (L.table links.old) list }
+    requires shown { RepresentsSomeChain K.Between K.kept (L.table links.old) list }
 {
     let mut cursor = list.front_owning(&*links);
     write_object(notes, cursor.replace_next_with(links, reference(3)).ok());
@@ -87,6 +87,6 @@ fn owning_cursors(rt: HostRuntime) {
         write_edits(&mut notes, fixture.list.take(), &mut fixture.links);
     }
     let mut fixture: SinglyFixture = list_of(&rt, alloc, 2);
-    write_edits_behind(&mut notes, fixture.list.take(), &mut fixture.links);
+    write_edits_after(&mut notes, fixture.list.take(), &mut fixture.links);
     assert_words(&rt, &notes, "none 0 1 3  3 5  0 4  none  1 3");
 }

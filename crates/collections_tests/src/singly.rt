@@ -1,9 +1,9 @@
-//! The singly linked list: a walk with no last member to end at, and the edits behind a cursor.
+//! The singly linked list: a walk with no last member to end at, and the edits after a cursor.
 
 ghost use Rattle.std.specs.Prelude.{◌≡◌};
-ghost use Rattle.ic_link_ops.specs.Chains.{ShowsChain};
+ghost use Rattle.ic_link_ops.specs.Chains.{RepresentsChain};
 ghost use Rattle.ic_cursors.specs.CursorMut as edits;
-ghost use Rattle.ic_chain.specs.Standing.{StandsAt};
+ghost use Rattle.ic_chain.specs.Standing.{IsValidAt};
 
 use crate::lists::{ListFixture, list_of};
 use crate::notes::{assert_words, write_object, write_values};
@@ -22,25 +22,25 @@ pub(crate) type SinglyFixture = ListFixture<SinglyLinked, OneWord<Singly>>;
 /// The same over links of 4-byte words.
 pub(crate) type NarrowSinglyFixture = ListFixture<SinglyLinked, OneNarrowWord<Singly>>;
 
-// Puts the object at 3 in the place of the member behind the cursor, takes it off again, and notes both that came out.
+// Puts the object at 3 in the place of the member after the cursor, takes it off again, and notes both that came out.
 fn write_edits<K: SingleEnded + ForwardLinks<L>, L: LinkOps>(
     notes: &mut Text,
     cursor: &mut CursorMut<'_, Chain<K, u64>, L>,
 )
     requires covers { (L.table (edits.links_of cursor.old)).extent.places ≡ 8 }
-    requires stands { edits.IsStanding (StandsAt (ShowsChain K.Between K.kept) L.table K.Position.member K.Position.CachesNext) cursor.old }
+    requires stands { edits.IsValid (IsValidAt (RepresentsChain K.Between K.kept) L.table K.Position.member K.Position.CachesNext) cursor.old }
 {
     write_object(notes, cursor.replace_next_with(reference(3)).ok());
     write_object(notes, cursor.remove_next());
 }
 
-// Splits the list behind the cursor, and notes where the cursor is and the other part begins, and where a step on leads when the parts are
+// Splits the list after the cursor, and notes where the cursor is and the other part begins, and where a step on leads when the parts are
 // together again.
 fn write_parts<K: SingleEnded + ForwardLinks<L>, L: LinkOps>(
     notes: &mut Text,
     cursor: &mut CursorMut<'_, Chain<K, u64>, L>,
 )
-    requires stands { edits.IsStanding (StandsAt (ShowsChain K.Between K.kept) L.table K.Position.member K.Position.CachesNext) cursor.old }
+    requires stands { edits.IsValid (IsValidAt (RepresentsChain K.Between K.kept) L.table K.Position.member K.Position.CachesNext) cursor.old }
 {
     laws::split_then_splice::<K, L>();
     let rest = cursor.split_after();

@@ -1,8 +1,8 @@
 //! Walks over lists: over the objects from both ends, and those that take members off and are dropped.
 
 ghost use Rattle.std.specs.Prelude.{◌≡◌};
-ghost use Rattle.ic_link_ops.specs.Chains.{ShowsChain, ShowsSomeChain};
-ghost use Rattle.ic_link_ops.specs.PlacedObjects.{ShowsPlaced};
+ghost use Rattle.ic_link_ops.specs.Chains.{RepresentsChain, RepresentsSomeChain};
+ghost use Rattle.ic_link_ops.specs.PlacedObjects.{RepresentsPlaced};
 ghost use Rattle.ic_link_ops.specs.PlainTables.{table};
 ghost use Rattle.ic_chain.specs.Iter.{CanWalk};
 
@@ -26,7 +26,7 @@ fn write_walk<'a, K: DoubleEnded + BidirectionalLinks<L>, L: LinkOps>(
     links: &'a L,
     objects: &'a Objects<u64>,
 )
-    requires { ShowsPlaced (ShowsChain K.Between K.kept (L.table links.now) list.now) objects.now }
+    requires { RepresentsPlaced (RepresentsChain K.Between K.kept (L.table links.now) list.now) objects.now }
 {
     let mut walk = list.iter(links, objects);
     notes.add(value(walk.next()), " ");
@@ -69,7 +69,7 @@ fn take_first<K: ForwardLinks<L>, L: LinkOps>(
     list: Chain<K, u64>,
     links: &mut L,
 ) -> Option<UnsafeRef<u64>>
-    requires shown { ShowsSomeChain K.Between K.kept (L.table links.old) list }
+    requires shown { RepresentsSomeChain K.Between K.kept (L.table links.old) list }
 {
     let mut rest = list.into_iter(links);
     rest.next()
@@ -82,7 +82,7 @@ fn write_dropped<K: ForwardLinks<PlainTable<W>>, W: Words>(
     notes: &mut Text,
     fixture: &mut ListFixture<K, W>,
 )
-    requires shown { ShowsSomeChain K.Between K.kept (table W.width W.unlinked fixture.old.links) fixture.old.list }
+    requires shown { RepresentsSomeChain K.Between K.kept (table W.width W.unlinked fixture.old.links) fixture.old.list }
 {
     let first = take_first(fixture.list.take(), &mut fixture.links);
     write_object(notes, first);
@@ -138,7 +138,7 @@ fn finish_first<K: ForwardLinks<L>, L: LinkOps>(
     list: Chain<K, u64>,
     links: &mut L,
 ) -> Option<UnsafeRef<u64>>
-    requires shown { ShowsSomeChain K.Between K.kept (L.table links.old) list }
+    requires shown { RepresentsSomeChain K.Between K.kept (L.table links.old) list }
 {
     let mut rest = list.into_iter(links);
     let first = rest.next();
@@ -151,7 +151,7 @@ fn finish_both<K: DoubleEnded + BidirectionalLinks<L>, L: LinkOps>(
     list: Chain<K, u64>,
     links: &mut L,
 ) -> (Option<UnsafeRef<u64>>, Option<UnsafeRef<u64>>)
-    requires shown { ShowsSomeChain K.Between K.kept (L.table links.old) list }
+    requires shown { RepresentsSomeChain K.Between K.kept (L.table links.old) list }
 {
     let mut rest = list.into_iter(links);
     let first = rest.next();

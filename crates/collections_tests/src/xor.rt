@@ -1,8 +1,8 @@
 //! The XOR list: a cursor, which reads each entry by a neighbor.
 
-ghost use Rattle.ic_link_ops.specs.Chains.{ShowsChain};
+ghost use Rattle.ic_link_ops.specs.Chains.{RepresentsChain};
 ghost use Rattle.ic_cursors.specs.Cursor as reads;
-ghost use Rattle.ic_chain.specs.Standing.{StandsAt};
+ghost use Rattle.ic_chain.specs.Standing.{IsValidAt};
 
 use crate::lists::{ListFixture, list_of};
 use crate::notes::assert_words;
@@ -20,12 +20,12 @@ pub(crate) type XorFixture = ListFixture<XorLinked, OneWord<Xor>>;
 /// The same over links of 4-byte words.
 pub(crate) type NarrowXorFixture = ListFixture<XorLinked, OneNarrowWord<Xor>>;
 
-// Notes where a cursor is, and where it would be a step back; where it is after that step, and what is behind a copy of it.
+// Notes where a cursor is, and where it would be a step back; where it is after that step, and what is after a copy of it.
 fn write_read<K: DoubleEnded + BidirectionalLinks<L>, L: LinkOps>(
     notes: &mut Text,
     mut cursor: Cursor<'_, Chain<K, u64>, L>,
 )
-    requires stands { reads.IsStanding (StandsAt (ShowsChain K.Between K.kept) L.table K.Position.member K.Position.CachesNext) cursor }
+    requires stands { reads.IsValid (IsValidAt (RepresentsChain K.Between K.kept) L.table K.Position.member K.Position.CachesNext) cursor }
 {
     write_places(notes, &[cursor.get_ptr(), cursor.peek_prev().get_ptr()]);
     cursor.move_prev();

@@ -1,4 +1,4 @@
--- Connections that are open: the one that was touched last in front, and a clock.
+-- Connections that are open: the one that was touched last first, and a clock.
 use Rattle.std.specs.Prelude.{◌≡◌, ℕ, ◌-◌, ◌<◌, ◌≤◌, Option, None, IsSome, List, [], ◌∷◌, ◌++◌, length, reverse}
 use Rattle.std.specs.List.{AllByRecursion}
 use Rattle.ic_keyed.specs.Keyed.{value_with, without, EndsWith, HaveOwnKeys}
@@ -17,7 +17,7 @@ connection_with id live = value_with (λ (c : Connection). c.id) id live
 abbrev pub others_than : ℕ → List Connection → List Connection
 others_than id live = without (λ (c : Connection). c.id) id live
 
--- none was seen after this time, and none after one in front of it
+-- none was seen after this time, and none after one before it
 abbrev pub IsAged : ℕ → List Connection → Type 0
 IsAged time [] = Unit {0}
 IsAged time (c ∷ live) = (c.seen ≤ time) × IsAged c.seen live
@@ -39,7 +39,7 @@ abbrev pub IsRefused : OpenError → ℕ → List Connection → Type 0
 IsRefused AlreadyOpen id live = IsSome (connection_with id live)
 IsRefused NoRoom id live = connection_with id live ≡ None
 
--- THE OLDEST ARE CLOSED, so many: they stand behind what the caller had, the one that was idle for longest first, and the others keep
+-- THE OLDEST ARE CLOSED, so many: they stand after what the caller had, the one that was idle for longest first, and the others keep
 -- their order
 pub record Expires (count : ℕ) (had has : List Connection) (old new : Table) : Type 0 where
   pub gone : List Connection

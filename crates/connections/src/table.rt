@@ -21,7 +21,7 @@ use std::marker::Model;
 /// Connections that are open, and a clock.
 ///
 /// A clause sees them from the one that was touched last to the one that has been idle for longest. No two have one id, and none was seen
-/// before one behind it or after the clock's time (`IsSound`).
+/// before one after it or after the clock's time (`IsSound`).
 #[derive(Drop)]
 pub struct ConnectionTable<I: Index<Connection, A>, A: Allocator = Global> {
     live: Keyed<Connection, I, A>,
@@ -152,7 +152,7 @@ impl<I: Index<Connection, A>, A: Allocator> ConnectionTable<I, A> {
         self.live.pop_last()
     }
 
-    /// Closes so many connections, those that have been idle for longest, or all if there are fewer. It puts them behind those in `gone`,
+    /// Closes so many connections, those that have been idle for longest, or all if there are fewer. It puts them after those in `gone`,
     /// the one first that was idle for longest.
     ///
     /// If `gone` cannot grow, those that are closed by then are in `gone`, and all others are open.
@@ -184,7 +184,7 @@ impl<I: Index<Connection, A>, A: Allocator> ConnectionTable<I, A> {
         }
     }
 
-    /// Closes all connections that have been idle for longer than this. It puts them behind those in `gone`, the one first that was
+    /// Closes all connections that have been idle for longer than this. It puts them after those in `gone`, the one first that was
     /// idle for longest.
     ///
     /// If `gone` cannot grow, those that are closed by then are in `gone`, and all others are open.

@@ -1,8 +1,6 @@
 -- THE LAWS OF ALL KINDS: what users of a collection ask, whatever its kind. Each is one line a kind.
 use Rattle.std.proofs.Common.{◌≡◌, true, None, List, refl, sym, subst}
-use Rattle.ic_unsafe_ref.specs.declared.place.Place.{Place}
-use Rattle.ic_link_ops.specs.Sequences.{IsAbsent, IsDistinct, IsDisjoint}
-use Rattle.ic_link_ops.specs.Tables.{Table, IsCovered, IsUnlinked, KeepsBeside}
+use Rattle.ic_link_ops.specs.Prelude.{Place, IsAbsent, IsDistinct, IsDisjoint, Table, IsCovered, IsUnlinked, ChangesOnlyIn}
 use Rattle.ic_link_ops.specs.XorLaws.{joins_one_other, joins_finds_other}
 use Rattle.ic_link_ops.specs.Chains.{no_members}
 use Rattle.ic_link_ops.specs.LinkedList as doubly
@@ -13,72 +11,72 @@ use Rattle.ic_link_ops.proofs.CollectionLaws.{IsKind}
 use Rattle.ic_link_ops.proofs.SinglyLists as singly_laws
 use Rattle.ic_link_ops.proofs.DoublyLists as doubly_laws
 use Rattle.ic_link_ops.proofs.XorLists as xor_laws
-use Rattle.ic_link_ops.proofs.ShownTrees as tree_laws
+use Rattle.ic_link_ops.proofs.RepresentedTrees as tree_laws
 use Rattle.ic_rbtree.proofs.Members as tree_members
 use Rattle.ic_rbtree.specs.Tree.{root_of}
 use Rattle.ic_any_collection.specs.declared.entry.Entry.{Entry}
 use Rattle.ic_any_collection.specs.declared.any_table.AnyTable.{AnyTable}
-use Rattle.ic_any_collection.specs.AnyTables.{look, covered_where_linked}
+use Rattle.ic_any_collection.specs.AnyTables.{table_in, covered_where_linked}
 use Rattle.ic_any_collection.specs.Entries.{is_linked, neighbors, successor, node, Joins, other}
 use Rattle.ic_any_collection.specs.declared.any_collection.AnyCollection.{AnyCollection}
 use Rattle.ic_any_collection.specs.declared.any_collection.AnyCollection.TheVariants.{Singly, Doubly, Xor, Tree}
-use Rattle.ic_any_collection.specs.AnyCollection.{ShowsIn, members_in, Keeps, Held}
+use Rattle.ic_any_collection.specs.AnyCollection.{RepresentsIn, members_in, Keeps, Held}
 
 -- only covered places are linked: so it is in the table of every field
 abbrev pub IsLawful : Table Entry → Type 0
 IsLawful t = (q : Place) → is_linked (t.entry q) ≡ true → IsCovered t q
 
-pub lawful : {M : Type 0} (links : AnyTable M) → IsLawful (look links)
+pub lawful : {M : Type 0} (links : AnyTable M) → IsLawful (table_in links)
 lawful links q h = covered_where_linked links q h
 
 -- what each kind brings
-pub singly_kind : IsKind (singly.Shows successor) is_linked (singly.list_from None)
+pub singly_kind : IsKind (singly.Represents successor) is_linked (singly.list_from None)
 singly_kind = singly_laws.singly_lists (λ e. refl)
 
-pub doubly_kind : IsKind (doubly.Shows neighbors) is_linked no_members
+pub doubly_kind : IsKind (doubly.Represents neighbors) is_linked no_members
 doubly_kind = doubly_laws.doubly_lists (λ e. refl)
 
-pub xor_kind : IsKind (xor.Shows is_linked Joins) is_linked no_members
+pub xor_kind : IsKind (xor.Represents is_linked Joins) is_linked no_members
 xor_kind = xor_laws.xor_lists (λ e a b c j k. joins_one_other e.word a b c j k)
 
-pub tree_kind : IsKind (tree.Shows node) is_linked None
+pub tree_kind : IsKind (tree.Represents node) is_linked None
 tree_kind = tree_laws.red_black_trees (λ e. refl)
 
 module _ {V : Type 0} where
-  -- a table shows one sequence, which the walk gives
-  pub one_sequence : (t : Table Entry) → IsLawful t → (m : AnyCollection V) (s : List Place) → ShowsIn t m s → members_in t m ≡ s
-  one_sequence t law (Singly l at) s shown = singly_laws.members_shown t law l s shown
-  one_sequence t law (Doubly l at) s shown = doubly_laws.members_shown t law l s shown
-  one_sequence t law (Xor l at) s shown = xor_laws.members_shown other (λ e a b j. joins_finds_other e.word a b j) t law l s shown
-  one_sequence t law (Tree l at) s shown = tree_members.members_shown t law (root_of l) s shown
+  -- a table represents one sequence, which the walk gives
+  pub one_sequence : (t : Table Entry) → IsLawful t → (m : AnyCollection V) (s : List Place) → RepresentsIn t m s → members_in t m ≡ s
+  one_sequence t law (Singly l at) s shown = singly_laws.members_represented t law l s shown
+  one_sequence t law (Doubly l at) s shown = doubly_laws.members_represented t law l s shown
+  one_sequence t law (Xor l at) s shown = xor_laws.members_represented other (λ e a b j. joins_finds_other e.word a b j) t law l s shown
+  one_sequence t law (Tree l at) s shown = tree_members.members_represented t law (root_of l) s shown
 
   -- no place stands twice in it
-  pub distinct : (t : Table Entry) (m : AnyCollection V) (s : List Place) → ShowsIn t m s → IsDistinct s
+  pub distinct : (t : Table Entry) (m : AnyCollection V) (s : List Place) → RepresentsIn t m s → IsDistinct s
   distinct t (Singly l at) s shown = singly_kind.distinct t _ s shown
   distinct t (Doubly l at) s shown = doubly_kind.distinct t _ s shown
   distinct t (Xor l at) s shown = xor_kind.distinct t _ s shown
   distinct t (Tree l at) s shown = tree_kind.distinct t _ s shown
 
   -- the frame
-  pub shown_frame : (old new : Table Entry) (m : AnyCollection V) (s touched : List Place) → ShowsIn old m s → IsDisjoint s touched
-      → ((q : Place) → IsAbsent q touched → new.entry q ≡ old.entry q) → ShowsIn new m s
-  shown_frame old new (Singly l at) s touched shown apart same = singly_kind.frame old new _ s touched shown apart same
-  shown_frame old new (Doubly l at) s touched shown apart same = doubly_kind.frame old new _ s touched shown apart same
-  shown_frame old new (Xor l at) s touched shown apart same = xor_kind.frame old new _ s touched shown apart same
-  shown_frame old new (Tree l at) s touched shown apart same = tree_kind.frame old new _ s touched shown apart same
+  pub represented_frame : (old new : Table Entry) (m : AnyCollection V) (s touched : List Place) → RepresentsIn old m s → IsDisjoint s touched
+      → ((q : Place) → IsAbsent q touched → new.entry q ≡ old.entry q) → RepresentsIn new m s
+  represented_frame old new (Singly l at) s touched shown apart same = singly_kind.frame old new _ s touched shown apart same
+  represented_frame old new (Doubly l at) s touched shown apart same = doubly_kind.frame old new _ s touched shown apart same
+  represented_frame old new (Xor l at) s touched shown apart same = xor_kind.frame old new _ s touched shown apart same
+  represented_frame old new (Tree l at) s touched shown apart same = tree_kind.frame old new _ s touched shown apart same
 
   -- an unlinked place is no member
-  pub unlinked_absent : (t : Table Entry) (m : AnyCollection V) (s : List Place) {p : Place} → ShowsIn t m s → IsUnlinked is_linked t p → IsAbsent p s
+  pub unlinked_absent : (t : Table Entry) (m : AnyCollection V) (s : List Place) {p : Place} → RepresentsIn t m s → IsUnlinked is_linked t p → IsAbsent p s
   unlinked_absent t (Singly l at) s {p} shown free = singly_kind.free t _ s p shown free
   unlinked_absent t (Doubly l at) s {p} shown free = doubly_kind.free t _ s p shown free
   unlinked_absent t (Xor l at) s {p} shown free = xor_kind.free t _ s p shown free
   unlinked_absent t (Tree l at) s {p} shown free = tree_kind.free t _ s p shown free
 
   -- A TABLE WITH THE SAME ENTRIES AT ITS MEMBERS keeps the collection
-  pub keeps_frame : {old new : Table Entry} (m : AnyCollection V) (s touched : List Place) → Keeps old m s → IsDisjoint s touched → KeepsBeside old new touched → Keeps new m s
+  pub keeps_frame : {old new : Table Entry} (m : AnyCollection V) (s touched : List Place) → Keeps old m s → IsDisjoint s touched → ChangesOnlyIn old new touched → Keeps new m s
   keeps_frame {old} {new} m s touched kept apart frame = record {
     carried = rw frame.extent kept.carried;
-    shown = shown_frame old new m s touched kept.shown apart frame.others;
+    shown = represented_frame old new m s touched kept.shown apart frame.others;
     stands = kept.stands;
   }
 

@@ -1,240 +1,263 @@
--- Edits of a collection: what the call of a kind says, in the words of all kinds.
-use Rattle.std.proofs.Common.{◌≡◌, ◌∙◌, Bool, true, false, is_some, ap, OnOk, OnErr, IfOk, Option, Some, None, IfSome, IfNone, List, [], ◌∷◌, drop, refl, sym, subst, append-nil}
+-- Edits of a collection and moves of its cursor: what the call of a kind says, in the words of all kinds.
+use Rattle.std.proofs.Common.{◌≡◌, ◌∙◌, Bool, true, false, is_some, ap, Option, Some, None, List, [], ◌∷◌, refl, sym, subst, append-nil}
 use Rattle.std.specs.Bool.{OnTrue, OnFalse}
-use Rattle.ic_unsafe_ref.specs.declared.place.Place.{Place}
-use Rattle.ic_link_ops.specs.Sequences.{Cut, join, insert, remove, at_front, first, last, but_last, IsAfter, IsBefore}
-use Rattle.ic_link_ops.specs.Tables.{Table, KeepsBeside, IsLinked}
-use Rattle.ic_link_ops.specs.LinkSteps.{LinkStep, Replays, acquires, releases}
-use Rattle.ic_link_ops.specs.Positions.{site}
-use Rattle.ic_link_ops.specs.EditsAt.{InsertsBeside, RemovesThere, RemovesNext, ReplacesThere, ReplacesNext}
-use Rattle.ic_link_ops.specs.Chains.{Ends}
-use Rattle.ic_link_ops.proofs.SequenceLemmas.{none_not, split_last}
-use Rattle.ic_cursors.specs.Answers.{inserted, replaced}
-use Rattle.ic_xor_linked_list.specs.Position.{PlaceAndNext, member_of}
+use Rattle.ic_link_ops.specs.Prelude.{Place, Cut, join, at_front, at_back, first, last, IsAfter, IsBefore, Table, IsLinked, site, LinkStep, acquires, releases, ChangesOnlyIn, MovesOn, MovesBack}
+use Rattle.ic_link_ops.specs.Edits.{Replaces}
+use Rattle.ic_link_ops.specs.EditsAt.{ReplacesThere, ReplacesNext}
+use Rattle.ic_cursors.specs.Answers.{replaced}
+use Rattle.ic_any_collection.specs.declared.kind.Kind.{Kind}
+use Rattle.ic_any_collection.specs.declared.kind.Kind.TheVariants as kind
+use Rattle.ic_any_collection.specs.declared.gap.Gap.{Gap}
+use Rattle.ic_any_collection.specs.declared.gap.Gap.TheVariants.{Front, Back, Before, After}
+use Rattle.ic_any_collection.specs.Kinds.{is_singly}
+use Rattle.ic_any_collection.specs.Gaps.{can_insert, can_remove, can_replace, from, is_after, beside, rests, onward, onto, IsGapAt, IsFrontOf}
+use Rattle.ic_any_collection.specs.GapEdits.{InsertsInGap, RemovesInGap}
 use Rattle.ic_any_collection.specs.declared.entry.Entry.{Entry}
 use Rattle.ic_any_collection.specs.Entries.{is_linked}
 use Rattle.ic_any_collection.specs.declared.any_table.AnyTable.{AnyTable}
+use Rattle.ic_any_collection.specs.AnyTables.{table_in}
 use Rattle.ic_any_collection.specs.declared.any_collection.AnyCollection.{AnyCollection}
-use Rattle.ic_any_collection.specs.declared.any_collection.AnyCollection.TheVariants.{Xor}
-use Rattle.ic_any_collection.specs.AnyCollection.{cursor_in, members_in, Held}
-use Rattle.ic_any_collection.specs.Edits.{AtGap, Leaves, Moves, Puts, Takes, Swaps}
-use Rattle.ic_any_collection.specs.Refusals.{put_if, swapped_if, refusal_in, refusal_of_object, refusal_of_swap}
-use Rattle.ic_any_collection.proofs.Moving.{Turned, cut_shown, turned_keeps, moves}
+use Rattle.ic_any_collection.specs.AnyCollection.{IsCursorIn, cursor_in, members_in, Keeps, Held}
+use Rattle.ic_any_collection.specs.Edits.{AtGap, Moves, Puts, Swaps, TakesIfAny, SwapsIfAny, IsUnchanged}
+use Rattle.ic_any_collection.proofs.Standing.{gap_after_cursor, gap_before_cursor}
+use Rattle.ic_any_collection.proofs.Made.{IsMade}
 
--- what the table of a field says of its steps, and of a link that it refuses
-abbrev pub Does : {L : Type 0} → (L → Table Entry) → L → L → List LinkStep → Type 0
-Does table old new steps = Replays is_linked (table old) (table new) steps
+-- what the table of a field says of a link that it refuses
+abbrev pub Refused : {L M : Type 0} → (L → AnyTable M) → L → L → Place → Type 0
+Refused field old new p = IsLinked is_linked (table_in (field old)) p × (new ≡ old)
 
-abbrev pub Refused : {L : Type 0} → (L → Table Entry) → L → L → Place → Type 0
-Refused table old new p = IsLinked is_linked (table old) p × (new ≡ old)
+-- GAPS. The one that is meant is there,
+pub gap_there : {V : Type 0} {t : Table Entry} (gap : Gap) (m : AnyCollection V) → Held t m → AtGap (members_in t m) (IsGapAt gap (cursor_in m))
+gap_there Front m held = (at_front _, refl, refl)
+gap_there Back m held = (at_back _, append-nil _, refl)
+gap_there Before m held = gap_before_cursor m held
+gap_there After m held = gap_after_cursor m held
 
--- THE REFUSAL of an object is that of its link
-pub tested : (t t' : Table Entry) (p : Place) (Rest : Type 0) (acquired : Bool) → OnTrue acquired (Replays is_linked t t' (acquires p ∷ [])) → OnFalse acquired (IsLinked is_linked t p × Rest)
-    → refusal_in (put_if acquired) ≡ refusal_of_object t p
-tested t t' p Rest true links refused = rw links.was refl
-tested t t' p Rest false links refused = rw refused.0 refl
+-- beside the position from which the edit is made
+pub gap_beside : (gap : Gap) (cursor : Option Place) (cut : Cut) → IsGapAt gap cursor cut → beside (is_after gap) cut (rests gap cursor)
+gap_beside Front cursor cut h = h
+gap_beside Back cursor cut h = h
+gap_beside Before cursor cut h = h
+gap_beside After cursor cut h = h
 
--- the collection is left with s as its members
-pub leaves : {V H : Type 0} {Shows : Table Entry → H → List Place → Type 0} {t t' : Table Entry} {head head' : H} {m m' : AnyCollection V} {s touched : List Place} {cursor : Option Place}
-    → Turned Shows t t' head head' m m' → Held t m → Shows t' head' s → cursor_in m' ≡ cursor → KeepsBeside t t' touched → Leaves t t' m m' s cursor touched
-leaves {s = s} turned held shown is frame = record {
-  kept = turned_keeps turned held frame.extent s shown;
-  alike = turned.alike;
-  cursor_is = is;
-  frame = frame;
-}
+-- a kind that leads both ways has its members swapped at the cursor alone, one that leads on after it alone; and a tree has them taken out there
+pub replaced_before : (gap : Gap) (k : Kind) → is_singly k ≡ false → can_replace gap k ≡ true → gap ≡ Before
+replaced_before Front k both can = cc
+replaced_before Back k both can = cc
+replaced_before Before k both can = refl
+replaced_before After k both can = cc
 
--- a call that changed neither the table nor the head leaves the collection as it was
-stays : {V H : Type 0} {Shows : Table Entry → H → List Place → Type 0} {t t' : Table Entry} {head head' : H} {m m' : AnyCollection V}
-    → Turned Shows t t' head head' m m' → Held t m → t' ≡ t → head' ≡ head → cursor_in m' ≡ cursor_in m → Moves t m m' (cursor_in m)
-stays {Shows = Shows} {t = t} {head = head} {head' = head'} {m = m} {m' = m'} turned held same list at = moves (subst (λ u. Turned Shows t u head head' m m') same turned) list held at
+pub replaced_after : (gap : Gap) → can_replace gap kind.Singly ≡ true → gap ≡ After
+replaced_after Front can = cc
+replaced_after Back can = cc
+replaced_after Before can = cc
+replaced_after After can = refl
 
--- AT AN END, after which the cursor is at null. A push,
-pub pushes : {V H : Type 0} {Shows : Table Entry → H → List Place → Type 0} {t t' : Table Entry} {head head' : H} {m m' : AnyCollection V} {p : Place} (Null : Type 0) (acquired : Bool) (gap : Cut)
-    → join gap ≡ members_in t m → Held t m → OnTrue acquired (Shows t' head' (insert gap p)) → OnTrue acquired (Replays is_linked t t' (acquires p ∷ []))
-    → KeepsBeside t t' (p ∷ members_in t m) → OnTrue acquired Null → (Null → Shows t' head' (insert gap p) → Turned Shows t t' head head' m m' × (cursor_in m' ≡ None))
-    → OnOk (put_if acquired) (Puts t t' m m' gap p None)
-pushes Null true gap cut held shown links frame null turned =
-    let there = turned null shown in record { leaves = leaves there.0 held shown there.1 frame; links = links }
-pushes Null false gap cut held shown links frame null turned = tt
+pub removed_before : (gap : Gap) → can_remove gap kind.Tree ≡ true → gap ≡ Before
+removed_before Front can = cc
+removed_before Back can = cc
+removed_before Before can = refl
+removed_before After can = cc
 
--- which a linked object refuses,
-pub push_stays : {V L H P : Type 0} (made : H → P → AnyCollection V) (table : L → Table Entry) {M : Type 0} (field : L → AnyTable M) (old new : L) (l l' : H) (at at' : P) (Linked : Type 0) (acquired : Bool)
-    → Held (table old) (made l at) → OnFalse acquired (Linked × (new ≡ old)) → OnFalse acquired ((l' ≡ l) × (at' ≡ at))
-    → OnErr (put_if acquired) ((field new ≡ field old) × Moves (table old) (made l at) (made l' at') (cursor_in (made l at)))
-push_stays made table field old new l l' at at' Linked true held refused same = tt
-push_stays made table field old new l l' at at' Linked false held refused same = (ap field refused.1, rw (same.0, same.1) (record { kept = held; alike = refl; cursor_is = refl }))
+pub inserted_after : (gap : Gap) → can_insert gap kind.Singly ≡ true → is_after gap ≡ true
+inserted_after Front can = refl
+inserted_after Back can = cc
+inserted_after Before can = cc
+inserted_after After can = refl
 
--- and a member that is taken out
-module _ {V H : Type 0} {Shows : Table Entry → H → List Place → Type 0} {t t' : Table Entry} {head head' : H} {m m' : AnyCollection V} (turned : Turned Shows t t' head head' m m')
-    (held : Held t m) (null : cursor_in m' ≡ None) (frame : KeepsBeside t t' (members_in t m)) where
-  pub pops_first : (out : Option Place) → out ≡ first (members_in t m) → Shows t' head' (remove (at_front (members_in t m))) → IfSome out (λ p. Replays is_linked t t' (releases p ∷ []))
-      → IfSome out (λ p. Takes t t' m m' (at_front (members_in t m)) p None)
-  pops_first None is shown released = tt
-  pops_first (Some p) is shown released = record { there = sym is; leaves = leaves turned held shown null frame; links = released }
+-- something is there
+some_there : (o : Option Place) → (o ≡ None → ⊥) → true ≡ is_some o
+some_there None some = absurd (some refl)
+some_there (Some p) some = refl
 
-  pub pops_last : (out : Option Place) → out ≡ last (members_in t m) → Shows t' head' (but_last (members_in t m)) → IfSome out (λ p. Replays is_linked t t' (releases p ∷ []))
-      → IfSome out (λ p. AtGap (members_in t m) (λ gap. (gap.back ≡ p ∷ []) × Takes t t' m m' gap p None))
-  pops_last None is shown released = tt
-  pops_last (Some p) is shown released = (
-    record { front = but_last (members_in t m); back = p ∷ [] },
-    sym (split_last (members_in t m) (sym is)),
-    (refl, record { there = refl; leaves = leaves turned held (rw append-nil shown) null frame; links = released }),
-  )
+module _ {V L M E H C P : Type 0} {made : C → P → AnyCollection V} {own : L → Table E} {Trace : L → L → List LinkStep → Type 0}
+    {Represents : Table E → H → List Place → Type 0} {field : L → AnyTable M} {IsValid : L → C → P → Type 0} {head_of : C → H} {member : P → Option Place} (kind_of : IsMade made own Trace Represents field IsValid head_of member) where
+  abbrev table : L → Table Entry
+  table links = table_in (field links)
 
--- an empty list, of which none is
-pub pops_none : {V L H : Type 0} {Shows : Table Entry → H → List Place → Type 0} {M : Type 0} (table : L → Table Entry) (field : L → AnyTable M) {old new : L} {head head' : H} {m m' : AnyCollection V} (out : Option Place)
-    → Turned Shows (table old) (table new) head head' m m' → Held (table old) m → cursor_in m' ≡ None → (out ≡ None → members_in (table old) m ≡ [])
-    → IfNone out ((head' ≡ head) × (new ≡ old)) → IfNone out ((members_in (table old) m ≡ []) × (field new ≡ field old) × Moves (table old) m m' None)
-pops_none table field (Some p) turned held null empty same = tt
-pops_none {Shows = Shows} table field {old = old} {head = head} {head' = head'} {m = m} {m' = m'} None turned held null empty same =
-    (empty refl, ap field same.1, moves (subst (λ t. Turned Shows (table old) t head head' m m') (ap table same.1) turned) same.0 held null)
+  -- the collection, and its members, before the call
+  abbrev members : L → C → P → List Place
+  members links c at = members_in (table links) (made c at)
 
-module _ {V L H : Type 0} {Shows : Table Entry → H → List Place → Type 0} {table : L → Table Entry} {old new : L} {head head' : H} {m m' : AnyCollection V} where
-  -- A REMOVAL of the member that the cursor is on
-  pub takes : {result : Option Place} → RemovesThere Shows table (Does table) (site old head (cursor_in m)) result (site new head' (cursor_in m'))
-      → Turned Shows (table old) (table new) head head' m m' → Held (table old) m → AtGap (members_in (table old) m) (λ gap. IsBefore gap (cursor_in m))
-      → IfSome result (λ p. AtGap (members_in (table old) m) (λ gap. IsBefore gap (cursor_in m) × Takes (table old) (table new) m m' gap p (first (drop 1 gap.back))))
-  takes {result = None} e turned held at = tt
-  takes {result = Some p} e turned held at =
-      let shown = cut_shown turned held at.0 at.1 in
-      let out = e.removed at.0 shown at.2 in
-      let frame : KeepsBeside (table old) (table new) (members_in (table old) m) = rw (← at.1) out.frame in (
-        at.0,
-        at.1,
-        (
-          at.2,
-          record {
-            there = sym at.2 ∙ sym e.answer;
-            leaves = leaves turned held out.shows (e.moved at.0 shown at.2) frame;
-            links = e.released;
-          },
-        ),
-      )
+  shown_cut : (links : L) {c : C} {at : P} → Held (table links) (made c at) → (gap : Cut) → join gap ≡ members links c at → Represents (own links) (head_of c) (join gap)
+  shown_cut links {c} {at} held gap same = rw same (kind_of.shown links c at (members links c at) held.shown)
 
-  -- a removal of the member behind the cursor
-  pub takes_next : {result : Option Place} → RemovesNext Shows table (Does table) (site old head (cursor_in m)) result (site new head' (cursor_in m'))
-      → Turned Shows (table old) (table new) head head' m m' → Held (table old) m → AtGap (members_in (table old) m) (λ gap. IsAfter gap (cursor_in m))
-      → IfSome result (λ p. AtGap (members_in (table old) m) (λ gap. IsAfter gap (cursor_in m) × Takes (table old) (table new) m m' gap p (cursor_in m)))
-  takes_next {result = None} e turned held at = tt
-  takes_next {result = Some p} e turned held at =
-      let shown = cut_shown turned held at.0 at.1 in
-      let out = e.removed at.0 shown at.2 in
-      let frame : KeepsBeside (table old) (table new) (members_in (table old) m) = rw (← at.1) out.frame in (
-        at.0,
-        at.1,
-        (
-          at.2,
-          record {
-            there = sym (e.answer at.0 shown at.2);
-            leaves = leaves turned held out.shows e.position frame;
-            links = e.released;
-          },
-        ),
-      )
+  -- THE COLLECTION IS KEPT where its table represents a sequence and its position stands; the cursor is on the member of that,
+  keeps : {t : Table Entry} {links : L} {c c' : C} {at at' : P} {s u : List Place} → Keeps t (made c at) s → (table links).extent ≡ t.extent
+      → Represents (own links) (head_of c') u → IsValid links c' at' → Keeps (table links) (made c' at') u
+  keeps {links = links} {c = c} {c' = c'} {at = at} {at' = at'} {u = u} held extent shown valid = record {
+    carried = rw (extent, kind_of.alike c c' at at') held.carried;
+    shown = kind_of.shows links c' at' u shown;
+    stands = kind_of.stands links c' at' u shown valid;
+  }
 
--- THE REFUSALS of an insert beside a position, and of a replacement there
-module _ {L H T : Type 0} {Shows : Table Entry → H → List Place → Type 0} {table : L → Table Entry} {old new : L} {head head' : H} {at at' : Option Place} {p : Place} where
-  pub puts_tested : {IsBeside : Cut → Option Place → Type 0} (acquired : Bool) → InsertsBeside Shows table (Does table) {T = T} (Refused table) IsBeside (site old head at) p (inserted p acquired) (site new head' at')
-      → refusal_in (put_if acquired) ≡ refusal_of_object (table old) p
-  puts_tested true e = rw e.acquired.was refl
-  puts_tested false e = rw e.refused.0 refl
+  -- and moves there, where neither the table nor the head is another,
+  pub moves : {links : L} {c c' : C} {at at' : P} {cursor : Option Place} → Held (table links) (made c at) → head_of c' ≡ head_of c → IsValid links c' at' → member at' ≡ cursor
+      → Moves (table links) (made c at) (made c' at') cursor
+  moves {links} {c} {c'} {at} {at'} held same valid is = record {
+    kept = keeps held refl (rw same (kind_of.shown links c at (members links c at) held.shown)) valid;
+    alike = kind_of.alike c c' at at';
+    cursor_is = kind_of.position c' at' ∙ is;
+  }
 
-  pub swaps_tested : (out : Option Place) (acquired : Bool) → ReplacesThere Shows table (Does table) {T = T} (Refused table) (site old head at) p (replaced out p acquired) (site new head' at') → out ≡ at
-      → refusal_in (swapped_if out acquired) ≡ refusal_of_swap true (is_some at) (table old) p
-  swaps_tested None acquired e is = rw (← is) refl
-  swaps_tested (Some out) false e is = rw (← is, e.refused.1.0) refl
-  swaps_tested (Some out) true e is = rw (← is, e.exchanged.1.was) refl
+  -- or stays where its position does
+  stays : (links : L) {c c' : C} {at at' : P} → Held (table links) (made c at) → head_of c' ≡ head_of c → at' ≡ at → Moves (table links) (made c at) (made c' at') (cursor_in (made c at))
+  stays links {c} {c'} {at} {at'} held same there = record {
+    kept = record {
+      carried = rw (kind_of.alike c c' at at') held.carried;
+      shown = kind_of.shows links c' at' (members links c at) (rw same (kind_of.shown links c at (members links c at) held.shown));
+      stands = rw there (kind_of.stays c c' at (members links c at) held.stands);
+    };
+    alike = kind_of.alike c c' at at';
+    cursor_is = kind_of.position c' at' ∙ ap member there ∙ sym (kind_of.position c at);
+  }
 
-module _ {V L H T : Type 0} {Shows : Table Entry → H → List Place → Type 0} {table : L → Table Entry} {old new : L} {head head' : H} {m m' : AnyCollection V} where
-  -- AN INSERT BESIDE THE CURSOR,
-  module _ {IsBeside : Cut → Option Place → Type 0} {p : Place} where
-    pub puts : (acquired : Bool) → InsertsBeside Shows table (Does table) {T = T} (Refused table) IsBeside (site old head (cursor_in m)) p (inserted p acquired) (site new head' (cursor_in m'))
-        → Turned Shows (table old) (table new) head head' m m' → Held (table old) m → AtGap (members_in (table old) m) (λ gap. IsBeside gap (cursor_in m))
-        → OnOk (put_if acquired) (AtGap (members_in (table old) m) (λ gap. IsBeside gap (cursor_in m) × Puts (table old) (table new) m m' gap p (cursor_in m)))
-    puts true e turned held at =
-        let put = e.inserted at.0 (cut_shown turned held at.0 at.1) at.2 in
-        let frame : KeepsBeside (table old) (table new) (p ∷ members_in (table old) m) = rw (← at.1) put.frame in
-        (at.0, at.1, (at.2, record { leaves = leaves turned held put.shows e.position frame; links = e.acquired }))
-    puts false e turned held at = tt
+  -- WHAT THE KIND'S CALLS ASK: the cursor's position stands,
+  pub at_cursor : {links : L} {c : C} {at : P} → Held (table links) (made c at) → IsValid links c at
+  at_cursor {links} {c} {at} held = kind_of.valid links c at (members links c at) (kind_of.shown links c at (members links c at) held.shown) held.stands
+
+  -- and that from which an edit is made
+  pub at_start : {links : L} {c : C} {at : P} (null : P) (gap : Gap) → Held (table links) (made c at) → ((s : List Place) → IsCursorIn s (made c null)) → IsValid links c (from gap null at)
+  at_start {links} {c} {at} null Front held nulls = kind_of.valid links c null (members links c at) (kind_of.shown links c at (members links c at) held.shown) (nulls (members links c at))
+  at_start {links} {c} {at} null Back held nulls = kind_of.valid links c null (members links c at) (kind_of.shown links c at (members links c at) held.shown) (nulls (members links c at))
+  at_start null Before held nulls = at_cursor held
+  at_start null After held nulls = at_cursor held
+
+  -- the gap that is meant, beside the position
+  at_gap : (links : L) {c : C} {at : P} (gap : Gap) → Held (table links) (made c at) → AtGap (members links c at) (IsGapAt gap (member at))
+  at_gap links {c} {at} gap held = subst (λ x. AtGap (members links c at) (IsGapAt gap x)) (kind_of.position c at) (gap_there gap (made c at) held)
+
+  -- A MOVE on,
+  pub goes_on : {links : L} {c : C} {at at' : P} → MovesOn Represents own (site links (head_of c) (member at)) (member at') → IsValid links c at' → Held (table links) (made c at)
+      → AtGap (members links c at) (λ gap. IsAfter gap (member at) × Moves (table links) (made c at) (made c at') (first gap.back))
+  goes_on e valid held =
+      let g = at_gap _ After held in (g.0, g.1, (g.2, moves held refl valid (e.leads g.0 (shown_cut _ held g.0 g.1) g.2)))
+
+  -- and back
+  pub goes_back : {links : L} {c : C} {at at' : P} → MovesBack Represents own (site links (head_of c) (member at)) (member at') → IsValid links c at' → Held (table links) (made c at)
+      → AtGap (members links c at) (λ gap. IsBefore gap (member at) × Moves (table links) (made c at) (made c at') (last gap.front))
+  goes_back e valid held =
+      let g = at_gap _ Before held in (g.0, g.1, (g.2, moves held refl valid (e.leads g.0 (shown_cut _ held g.0 g.1) g.2)))
+
+  -- AN INSERT,
+  module _ {T : Type 0} {gap : Gap} {p : Place} {links links' : L} {c c' : C} {at at' : P} where
+    pub inserts : {acquired : Bool} → InsertsInGap Represents own Trace IsValid head_of member T (Refused field) gap p acquired links links' c c' at at' → Held (table links) (made c at)
+        → OnTrue acquired (AtGap (members links c at) (λ cut. IsGapAt gap (member at) cut × Puts (table links) (table links') (made c at) (made c' at') cut p (rests gap (member at))))
+    inserts {acquired = true} e held =
+        let g = at_gap _ gap held in
+        let put = e.made.inserted g.0 (shown_cut _ held g.0 g.1) (rw e.starts (gap_beside gap (member at) g.0 g.2)) in
+        let frame : ChangesOnlyIn (table links) (table links') (p ∷ members links c at) = rw (← g.1) (kind_of.frame links links' _ put.frame) in (
+          g.0,
+          g.1,
+          (
+            g.2,
+            record {
+              leaves = record {
+                kept = keeps held frame.extent put.shows (subst (IsValid links' c') (sym e.goes) e.stands);
+                alike = kind_of.alike c c' at at';
+                cursor_is = kind_of.position c' at' ∙ ap member e.goes ∙ e.made.position ∙ e.starts;
+                frame = frame;
+              };
+              links = kind_of.traced links links' _ e.made.acquired;
+            },
+          ),
+        )
+    inserts {acquired = false} e held = tt
 
     -- which a linked object refuses
-    pub puts_stays : {M : Type 0} (field : L → AnyTable M) (acquired : Bool)
-        → InsertsBeside Shows table (Does table) {T = T} (Refused table) IsBeside (site old head (cursor_in m)) p (inserted p acquired) (site new head' (cursor_in m'))
-        → Turned Shows (table old) (table new) head head' m m' → Held (table old) m
-        → OnErr (put_if acquired) ((field new ≡ field old) × Moves (table old) m m' (cursor_in m))
-    puts_stays field true e turned held = tt
-    puts_stays field false e turned held = (ap field e.refused.1, stays turned held (ap table e.refused.1) e.unchanged.1 e.position)
+    pub inserts_not : {acquired : Bool} → InsertsInGap Represents own Trace IsValid head_of member T (Refused field) gap p acquired links links' c c' at at' → Held (table links) (made c at)
+        → OnFalse acquired (IsLinked is_linked (table links) p × IsUnchanged (field links) (field links') (made c at) (made c' at'))
+    inserts_not {acquired = true} e held = tt
+    inserts_not {acquired = false} e held = (e.made.refused.0, (ap field e.made.refused.1, stays _ held e.made.unchanged.1 e.stays))
 
-  -- A REPLACEMENT of the member that the cursor is on,
-  module _ {p : Place} (out : Option Place) (acquired : Bool)
-      (e : ReplacesThere Shows table (Does table) {T = T} (Refused table) (site old head (cursor_in m)) p (replaced out p acquired) (site new head' (cursor_in m'))) (is : out ≡ cursor_in m) where
-    pub swaps : Turned Shows (table old) (table new) head head' m m' → Held (table old) m → AtGap (members_in (table old) m) (λ gap. IsBefore gap (cursor_in m))
-        → IfOk (swapped_if out acquired) (λ out. AtGap (members_in (table old) m) (λ gap. IsBefore gap (cursor_in m) × Swaps (table old) (table new) m m' gap p out (Some p)))
-    swaps turned held at = by out acquired e where
-      by : (out : Option Place) (acquired : Bool) → ReplacesThere Shows table (Does table) {T = T} (Refused table) (site old head (cursor_in m)) p (replaced out p acquired) (site new head' (cursor_in m'))
-          → IfOk (swapped_if out acquired) (λ out. AtGap (members_in (table old) m) (λ gap. IsBefore gap (cursor_in m) × Swaps (table old) (table new) m m' gap p out (Some p)))
-      by None acquired e = tt
-      by (Some out) false e = tt
-      by (Some out) true e =
-          let put = e.replaced at.0 (cut_shown turned held at.0 at.1) at.2 in
-          let frame : KeepsBeside (table old) (table new) (p ∷ members_in (table old) m) = rw (← at.1) put.frame in
-          (at.0, at.1, (at.2, record { there = sym at.2 ∙ e.answer; leaves = leaves turned held put.shows e.moved frame; links = e.exchanged }))
+  -- A REMOVAL
+  pub removes : {gap : Gap} {out : Option Place} {links links' : L} {c c' : C} {at at' : P} → RemovesInGap Represents own Trace IsValid head_of member gap out links links' c c' at at' → Held (table links) (made c at)
+      → AtGap (members links c at) (λ cut. IsFrontOf gap (members links c at) (member at) cut × (out ≡ first cut.back) × TakesIfAny (field links) (field links') (made c at) (made c' at') cut (onward gap (member at) cut) out)
+  removes {gap} {out = None} {links} {links'} {c} {c'} {at} {at'} e held =
+      let g = e.taken (members links c at) (kind_of.shown links c at (members links c at) held.shown) (at_gap _ gap held) in
+      (g.0, g.1, (g.2.0, g.2.1, (ap field e.none.1, moves held e.none.0 (subst (λ l. IsValid l c' at') e.none.1 e.stands) g.2.3)))
+  removes {gap} {out = Some p} {links} {links'} {c} {c'} {at} {at'} e held =
+      let g = e.taken (members links c at) (kind_of.shown links c at (members links c at) held.shown) (at_gap _ gap held) in
+      let out = g.2.2 in
+      let frame : ChangesOnlyIn (table links) (table links') (members links c at) = rw (← g.1) (kind_of.frame links links' _ out.frame) in (
+        g.0,
+        g.1,
+        (
+          g.2.0,
+          g.2.1,
+          record {
+            there = sym g.2.1;
+            leaves = record {
+              kept = keeps held frame.extent out.shows e.stands;
+              alike = kind_of.alike c c' at at';
+              cursor_is = kind_of.position c' at' ∙ g.2.3;
+              frame = frame;
+            };
+            links = kind_of.traced links links' _ e.released;
+          },
+        ),
+      )
 
-    -- which null and a linked object refuse
-    pub swaps_stays : {M : Type 0} (field : L → AnyTable M) → Turned Shows (table old) (table new) head head' m m' → Held (table old) m
-        → OnErr (swapped_if out acquired) ((field new ≡ field old) × Moves (table old) m m' (cursor_in m))
-    swaps_stays field turned held = by out acquired e where
-      by : (out : Option Place) (acquired : Bool) → ReplacesThere Shows table (Does table) {T = T} (Refused table) (site old head (cursor_in m)) p (replaced out p acquired) (site new head' (cursor_in m'))
-          → OnErr (swapped_if out acquired) ((field new ≡ field old) × Moves (table old) m m' (cursor_in m))
-      by None acquired e = (ap field e.refused.1, stays turned held (ap table e.refused.1) e.unchanged.1 e.unchanged.2)
-      by (Some out) false e = (ap field e.refused.1.1, stays turned held (ap table e.refused.1.1) e.unchanged.1 e.unchanged.2)
-      by (Some out) true e = tt
+  -- what a swap that is refused leaves, and one that is not
+  unchanged : {links links' : L} {c c' : C} {at at' : P} → Held (table links) (made c at) → IsValid links' c' at' → links' ≡ links → head_of c' ≡ head_of c → member at' ≡ member at
+      → IsUnchanged (field links) (field links') (made c at) (made c' at')
+  unchanged {c = c} {c' = c'} {at = at} {at' = at'} held valid same head there = (ap field same, moves held head (subst (λ l. IsValid l c' at') same valid) (there ∙ sym (kind_of.position c at)))
 
-  -- a replacement of the member behind the cursor,
-  module _ {p : Place} (at : AtGap (members_in (table old) m) (λ gap. IsAfter gap (cursor_in m))) (turned : Turned Shows (table old) (table new) head head' m m') (held : Held (table old) m) where
-    pub swaps_next : (out : Option Place) (acquired : Bool) → ReplacesNext Shows table (Does table) {T = T} (Refused table) (site old head (cursor_in m)) p (replaced out p acquired) (site new head' (cursor_in m'))
-        → IfOk (swapped_if out acquired) (λ out. AtGap (members_in (table old) m) (λ gap. IsAfter gap (cursor_in m) × Swaps (table old) (table new) m m' gap p out (cursor_in m)))
-    swaps_next None acquired e = tt
-    swaps_next (Some out) false e = tt
-    swaps_next (Some out) true e =
-        let shown = cut_shown turned held at.0 at.1 in
-        let put = e.replaced at.0 shown at.2 in
-        let frame : KeepsBeside (table old) (table new) (p ∷ members_in (table old) m) = rw (← at.1) put.frame in
-        (at.0, at.1, (at.2, record { there = e.answer at.0 shown at.2; leaves = leaves turned held put.shows e.position frame; links = e.exchanged }))
+  swapped : (links : L) {links' : L} {c c' : C} {at at' : P} {p : Place} → Held (table links) (made c at) → IsValid links' c' at' → (cut : Cut) → join cut ≡ members links c at
+      → {out : Place} → first cut.back ≡ Some out → {cursor : Option Place} → member at' ≡ cursor
+      → Replaces Represents (own links) (own links') (head_of c') cut p → Trace links links' (acquires p ∷ releases out ∷ [])
+      → Swaps (table links) (table links') (made c at) (made c' at') cut p out cursor
+  swapped links {links'} {c} {c'} {at} {at'} {p} held valid cut same there on put exchanged =
+      let frame : ChangesOnlyIn (table links) (table links') (p ∷ members links c at) = rw (← same) (kind_of.frame links links' _ put.frame) in record {
+        there = there;
+        leaves = record { kept = keeps held frame.extent put.shows valid; alike = kind_of.alike c c' at at'; cursor_is = kind_of.position c' at' ∙ on; frame = frame };
+        links = kind_of.traced links links' _ exchanged;
+      }
 
-    -- and its refusal
-    pub swaps_next_tested : (out : Option Place) (acquired : Bool) → ReplacesNext Shows table (Does table) {T = T} (Refused table) (site old head (cursor_in m)) p (replaced out p acquired) (site new head' (cursor_in m'))
-        → AtGap (members_in (table old) m) (λ gap. IsAfter gap (cursor_in m) × (refusal_in (swapped_if out acquired) ≡ refusal_of_swap true (is_some (first gap.back)) (table old) p))
-    swaps_next_tested None acquired e = (at.0, at.1, (at.2, rw (e.refused at.0 (cut_shown turned held at.0 at.1) at.2).0 refl))
-    swaps_next_tested (Some out) false e =
-        let why = e.refused at.0 (cut_shown turned held at.0 at.1) at.2 in (at.0, at.1, (at.2, by (first at.0.back) why.0 why.1.0))
+  -- A SWAP of the member that the cursor is on,
+  module _ {T : Type 0} {p : Place} {links links' : L} {c c' : C} {at at' : P} (held : Held (table links) (made c at)) (valid : IsValid links' c' at') where
+    pub replaces : {gap : Gap} → gap ≡ Before → (out : Option Place) (acquired : Bool) → out ≡ member at
+        → ReplacesThere Represents own Trace {T = T} (Refused field) (site links (head_of c) (member at)) p (replaced (member at) p acquired) (site links' (head_of c') (member at'))
+        → AtGap (members links c at) (λ cut. IsFrontOf gap (members links c at) (member at) cut × (is_some out ≡ is_some (first cut.back))
+        × SwapsIfAny (field links) (field links') (made c at) (made c' at') cut p (onto gap (member at) p) out acquired)
+    replaces is out acquired same e =
+        rw is (by out acquired (subst (λ o. ReplacesThere Represents own Trace {T = T} (Refused field) (site links (head_of c) (member at)) p (replaced o p acquired) (site links' (head_of c') (member at'))) (sym same) e))
       where
-        by : (there : Option Place) → (there ≡ None → ⊥) → IsLinked is_linked (table old) p → refusal_in (swapped_if (Some out) false) ≡ refusal_of_swap true (is_some there) (table old) p
-        by None some linked = absurd (some refl)
-        by (Some q) some linked = rw linked refl
-    swaps_next_tested (Some out) true e = (at.0, at.1, (at.2, rw (e.answer at.0 (cut_shown turned held at.0 at.1) at.2, e.exchanged.1.was) refl))
+        g : AtGap (members links c at) (λ cut. IsBefore cut (member at))
+        g = at_gap _ Before held
 
-    pub swaps_next_stays : {M : Type 0} (field : L → AnyTable M) (out : Option Place) (acquired : Bool)
-        → ReplacesNext Shows table (Does table) {T = T} (Refused table) (site old head (cursor_in m)) p (replaced out p acquired) (site new head' (cursor_in m'))
-        → OnErr (swapped_if out acquired) ((field new ≡ field old) × Moves (table old) m m' (cursor_in m))
-    swaps_next_stays field None acquired e =
-        let same = (e.refused at.0 (cut_shown turned held at.0 at.1) at.2).1 in (ap field same, stays turned held (ap table same) e.unchanged.1 e.position)
-    swaps_next_stays field (Some out) false e =
-        let same = (e.refused at.0 (cut_shown turned held at.0 at.1) at.2).1.1 in (ap field same, stays turned held (ap table same) e.unchanged.1 e.position)
-    swaps_next_stays field (Some out) true e = tt
+        by : (out : Option Place) (acquired : Bool)
+            → ReplacesThere Represents own Trace {T = T} (Refused field) (site links (head_of c) (member at)) p (replaced out p acquired) (site links' (head_of c') (member at'))
+            → AtGap (members links c at) (λ cut. IsBefore cut (member at) × (is_some out ≡ is_some (first cut.back))
+            × SwapsIfAny (field links) (field links') (made c at) (made c' at') cut p (Some p) out acquired)
+        by None acquired e = (g.0, g.1, (g.2, sym (ap is_some (sym g.2 ∙ e.refused.0)), unchanged held valid e.refused.1 e.unchanged.1 e.unchanged.2))
+        by (Some out) false e =
+            (g.0, g.1, (g.2, some_there (first g.0.back) (λ none. e.refused.0 (g.2 ∙ none)), (e.refused.1.0, unchanged held valid e.refused.1.1 e.unchanged.1 e.unchanged.2)))
+        by (Some out) true e =
+            let there = sym g.2 ∙ e.answer in
+            (g.0, g.1, (g.2, sym (ap is_some there), swapped _ held valid g.0 g.1 there e.moved (e.replaced g.0 (shown_cut _ held g.0 g.1) g.2) e.exchanged))
 
--- A REMOVAL AT NULL leaves an XOR list's cursor as it was, since there it keeps nothing
-null_is_none : (at : Option PlaceAndNext) → member_of at ≡ None → at ≡ None
-null_is_none None null = refl
-null_is_none (Some at) null = absurd (none_not at.place (sym null))
+    -- and of the one after it
+    pub replaces_after : {gap : Gap} → gap ≡ After → (out : Option Place) (acquired : Bool)
+        → ReplacesNext Represents own Trace {T = T} (Refused field) (site links (head_of c) (member at)) p (replaced out p acquired) (site links' (head_of c') (member at'))
+        → AtGap (members links c at) (λ cut. IsFrontOf gap (members links c at) (member at) cut × (is_some out ≡ is_some (first cut.back))
+        × SwapsIfAny (field links) (field links') (made c at) (made c' at') cut p (onto gap (member at) p) out acquired)
+    replaces_after is out acquired e = rw is (by out acquired e) where
+      g : AtGap (members links c at) (λ cut. IsAfter cut (member at))
+      g = at_gap _ After held
 
-pub nothing_taken : (V : Type 0) {L : Type 0} {Shows : Table Entry → Ends → List Place → Type 0} {table : L → Table Entry} {Steps : L → L → List LinkStep → Type 0} {old new : L} {l l' : Ends} (at at' : Option PlaceAndNext)
-    (r : Option Place) → RemovesThere Shows table Steps (site old l (member_of at)) r (site new l' (member_of at')) → IfNone r (Path (AnyCollection V) (Xor l' at') (Xor l at) × (new ≡ old))
-nothing_taken V at at' (Some p) e = tt
-nothing_taken V {l = l} at0 at1 None e =
-    let was = null_is_none at0 (sym e.answer) in
-    let is = null_is_none at1 (ap (λ at. at.position) e.null ∙ sym e.answer) in (
-      ap (λ list. Xor list at1) (ap (λ at. at.head) e.null) ∙ ap (λ at. Xor l at) (is ∙ sym was),
-      ap (λ at. at.links) e.null,
-    )
+      shown : Represents (own links) (head_of c) (join g.0)
+      shown = shown_cut _ held g.0 g.1
+
+      by : (out : Option Place) (acquired : Bool)
+          → ReplacesNext Represents own Trace {T = T} (Refused field) (site links (head_of c) (member at)) p (replaced out p acquired) (site links' (head_of c') (member at'))
+          → AtGap (members links c at) (λ cut. IsAfter cut (member at) × (is_some out ≡ is_some (first cut.back))
+          × SwapsIfAny (field links) (field links') (made c at) (made c' at') cut p (member at) out acquired)
+      by None acquired e =
+          let why = e.refused g.0 shown g.2 in (g.0, g.1, (g.2, sym (ap is_some why.0), unchanged held valid why.1 e.unchanged.1 e.position))
+      by (Some out) false e =
+          let why = e.refused g.0 shown g.2 in
+          (g.0, g.1, (g.2, some_there (first g.0.back) why.0, (why.1.0, unchanged held valid why.1.1 e.unchanged.1 e.position)))
+      by (Some out) true e =
+          let there = e.answer g.0 shown g.2 in
+          (g.0, g.1, (g.2, sym (ap is_some there), swapped _ held valid g.0 g.1 there e.position (e.replaced g.0 shown g.2) e.exchanged))

@@ -1,10 +1,13 @@
 -- Edits by key: what the calls of a tree give, in the words of all kinds, and that the cursor is moved after an edit.
-use Rattle.std.proofs.Common.{◌≡◌, ◌∙◌, Bool, true, false, cond, append_assoc, Result, Ok, Err, OnOk, OnErr, Option, Some, None, List, [], ◌∷◌, ◌++◌, drop, refl, sym, ap, subst}
+use Rattle.std.proofs.Common.{◌≡◌, ◌∙◌, Bool, true, false, cond, append_assoc, Option, Some, None, List, [], ◌∷◌, ◌++◌, drop, refl, sym, ap, subst}
+use Rattle.std.specs.Prelude.{⊤}
+use Rattle.std.specs.Bool.{OnTrue, OnFalse}
 use Rattle.std.specs.declared.cmp.Ordering.{Ordering}
-use Rattle.ic_unsafe_ref.specs.declared.place.Place.{Place}
-use Rattle.ic_link_ops.specs.Sequences.{Cut, join, insert, at_front, first, IsAbsent, IsMember}
-use Rattle.ic_link_ops.specs.Tables.{Table, KeepsBeside, LinksAlso}
+use Rattle.ic_link_ops.specs.Prelude.{Place, Cut, join, insert, at_front, first, IsAbsent, IsMember, Table, ChangesOnlyIn, LinksAlso, acquires}
 use Rattle.ic_link_ops.specs.Edits.{Inserts}
+use Rattle.ic_link_ops.specs.declared.link.Link.{Link}
+use Rattle.ic_link_ops.specs.declared.rbtree.ThreeWords.{ThreeWords}
+use Rattle.ic_link_ops.specs.ThreeWords.{node_of}
 use Rattle.ic_link_ops.specs.RedBlackTree as tree
 use Rattle.ic_link_ops.proofs.SequenceLemmas.{member_split, first_is, absent_right, absent_without, gap_after, last_of_push, none_not}
 use Rattle.ic_rbtree.specs.declared.keys.entry.Entry.{Entry as TreeEntry}
@@ -19,11 +22,12 @@ use Rattle.ic_any_collection.specs.declared.entry.Entry.{Entry}
 use Rattle.ic_any_collection.specs.Entries.{is_linked, node}
 use Rattle.ic_any_collection.specs.declared.unkeyed.Unkeyed.{Unkeyed}
 use Rattle.ic_any_collection.specs.declared.any_table.AnyTable.{AnyTable}
-use Rattle.ic_any_collection.specs.declared.edit_error.EditError.{EditError}
 use Rattle.ic_any_collection.specs.declared.any_collection.AnyCollection.TheVariants.{Tree}
 use Rattle.ic_any_collection.specs.AnyCollection.{IsAt, members_in, Held}
 use Rattle.ic_any_collection.specs.Edits.{AtGap, Moves, Puts}
 use Rattle.ic_any_collection.specs.Keyed.{PutsInOrder, PutsAtKey, IsVacantFor}
+use Rattle.ic_any_collection.specs.TreeTables.{is_linked as own_linked}
+use Rattle.ic_any_collection.proofs.OwnTrees.{of_field, to_own, step_in_field, inserts_in_field, in_order_in_field}
 use Rattle.ic_any_collection.proofs.Standing.{before_at}
 
 -- a member of a sequence is a position of it
@@ -32,7 +36,7 @@ on_it front p back same = (record { front = front ++ p ∷ []; back = back }, ap
 
 -- p IS PUT INTO A TREE, as its insert gives it
 pub puts_in_tree : {V : Type 0} {t t' : Table Entry} {l l' : RBTree (Unkeyed V) (Option Place)} {at at' : Option Place} {gap : Cut} {p : Place} {cursor : Option Place}
-    → Held {V = V} t (Tree l at) → join gap ≡ members_in {V = V} t (Tree l at) → Inserts (tree.Shows node) t t' (root_of l') gap p
+    → Held {V = V} t (Tree l at) → join gap ≡ members_in {V = V} t (Tree l at) → Inserts (tree.Represents node) t t' (root_of l') gap p
     → LinksAlso is_linked t t' p → IsAt (insert gap p) cursor → at' ≡ cursor
     → Puts {V = V} t t' (Tree l at) (Tree l' at') gap p cursor
 puts_in_tree {t = t} {t' = t'} {p = p} held same put links at there = record {
@@ -40,7 +44,7 @@ puts_in_tree {t = t} {t' = t'} {p = p} held same put links at there = record {
     kept = record { carried = rw put.frame.extent held.carried; shown = put.shows; stands = rw there at };
     alike = refl;
     cursor_is = there;
-    frame = subst (λ s. KeepsBeside t t' (p ∷ s)) same put.frame;
+    frame = subst (λ s. ChangesOnlyIn t t' (p ∷ s)) same put.frame;
   };
   links = links;
 }
@@ -56,34 +60,37 @@ still_at {s} gap p same (Some q) at =
     let k = member_split q (insert gap p) there in
     on_it k.0 q k.1 (sym k.2)
 
--- and in order, while the cursor stays, or goes to the object. `l'`: the tree then
-module _ {V : Type 0} {t t' : Table Entry} {l l' : RBTree (Unkeyed V) (Option Place)} {at : Option Place} (held : Held {V = V} t (Tree l at)) (by : Place → Ordering) (p : Place) where
-  put_in_order : {at' cursor : Option Place} → InsertsInOrder (tree.Shows node) by t t' (root_of l') (members_in {V = V} t (Tree l at)) p → LinksAlso is_linked t t' p
-      → ((gap : Cut) → join gap ≡ members_in {V = V} t (Tree l at) → IsAt (insert gap p) cursor) → at' ≡ cursor
-      → PutsInOrder {V = V} by t t' (Tree l at) (Tree l' at') p cursor
-  put_in_order put links stands is = (put.gap, put.same, (put.border, puts_in_tree held put.same put.inserted links (stands put.gap put.same) is))
+-- and in order, while the cursor stays, or goes to the object. `t`, `t'`: the tree's own table before and then. `l'`: the tree then
+module _ {V : Type 0} {t t' : Table (Link ThreeWords ⊤)} {l l' : RBTree (Unkeyed V) (Option Place)} {at : Option Place} (held : Held {V = V} (of_field t) (Tree l at)) (by : Place → Ordering) (p : Place) where
+  put_in_order : {at' cursor : Option Place} → InsertsInOrder (tree.Represents node_of) by t t' (root_of l') (members_in {V = V} (of_field t) (Tree l at)) p → LinksAlso own_linked t t' p
+      → ((gap : Cut) → join gap ≡ members_in {V = V} (of_field t) (Tree l at) → IsAt (insert gap p) cursor) → at' ≡ cursor
+      → PutsInOrder {V = V} by (of_field t) (of_field t') (Tree l at) (Tree l' at') p cursor
+  put_in_order put links stands is =
+      let there = in_order_in_field put in
+      (there.gap, there.same, (there.border, puts_in_tree held there.same there.inserted (step_in_field _ _ (acquires p) links) (stands there.gap there.same) is))
 
-  pub puts_and_goes : {at' : Option Place} → InsertsInOrder (tree.Shows node) by t t' (root_of l') (members_in {V = V} t (Tree l at)) p → LinksAlso is_linked t t' p → at' ≡ Some p
-      → PutsInOrder {V = V} by t t' (Tree l at) (Tree l' at') p (Some p)
+  pub puts_and_goes : {at' : Option Place} → InsertsInOrder (tree.Represents node_of) by t t' (root_of l') (members_in {V = V} (of_field t) (Tree l at)) p → LinksAlso own_linked t t' p → at' ≡ Some p
+      → PutsInOrder {V = V} by (of_field t) (of_field t') (Tree l at) (Tree l' at') p (Some p)
   puts_and_goes put links is = put_in_order put links (λ gap same. on_it gap.front p gap.back refl) is
 
-module _ {V R : Type 0} (result : Result R EditError) where
-  pub puts_and_stays : (t t' : Table Entry) (l l' : RBTree (Unkeyed V) (Option Place)) (at : Option Place) (by : Place → Ordering) (p : Place) → Held {V = V} t (Tree l at)
-      → ((s : List Place) → tree.Shows node t (root_of l) s → OnOk result (InsertsInOrder (tree.Shows node) by t t' (root_of l') s p))
-      → OnOk result (LinksAlso is_linked t t' p) → OnOk result (PutsInOrder {V = V} by t t' (Tree l at) (Tree l' at) p at)
-  puts_and_stays t t' l l' at by p held = of result where
-    of : (result : Result R EditError) → ((s : List Place) → tree.Shows node t (root_of l) s → OnOk result (InsertsInOrder (tree.Shows node) by t t' (root_of l') s p))
-        → OnOk result (LinksAlso is_linked t t' p) → OnOk result (PutsInOrder {V = V} by t t' (Tree l at) (Tree l' at) p at)
-    of (Ok r) put links = put_in_order held by p (put _ held.shown) links (λ gap same. still_at gap p same at held.stands) refl
-    of (Err r) put links = tt
+module _ {V : Type 0} (acquired : Bool) where
+  pub puts_and_stays : (t t' : Table (Link ThreeWords ⊤)) (l l' : RBTree (Unkeyed V) (Option Place)) (at : Option Place) (by : Place → Ordering) (p : Place) → Held {V = V} (of_field t) (Tree l at)
+      → ((s : List Place) → tree.Represents node_of t (root_of l) s → OnTrue acquired (InsertsInOrder (tree.Represents node_of) by t t' (root_of l') s p))
+      → OnTrue acquired (LinksAlso own_linked t t' p) → OnTrue acquired (PutsInOrder {V = V} by (of_field t) (of_field t') (Tree l at) (Tree l' at) p at)
+  puts_and_stays t t' l l' at by p held = of acquired where
+    of : (acquired : Bool) → ((s : List Place) → tree.Represents node_of t (root_of l) s → OnTrue acquired (InsertsInOrder (tree.Represents node_of) by t t' (root_of l') s p))
+        → OnTrue acquired (LinksAlso own_linked t t' p) → OnTrue acquired (PutsInOrder {V = V} by (of_field t) (of_field t') (Tree l at) (Tree l' at) p at)
+    of true put links = put_in_order held by p (put _ (to_own held.shown)) links (λ gap same. still_at gap p same at held.stands) refl
+    of false put links = tt
 
   -- A REFUSAL leaves all as it was
-  pub put_stays : {L M : Type 0} (table : L → Table Entry) (field : L → AnyTable M) (old new : L) (l l' : RBTree (Unkeyed V) (Option Place)) (at : Option Place) → Held {V = V} (table old) (Tree l at)
-      → OnErr result ((l' ≡ l) × (new ≡ old)) → OnErr result ((field new ≡ field old) × Moves {V = V} (table old) (Tree l at) (Tree l' at) at)
-  put_stays {M = M'} table field old new l l' at held = of result where
-    of : (result : Result R EditError) → OnErr result ((l' ≡ l) × (new ≡ old)) → OnErr result ((field new ≡ field old) × Moves {V = V} (table old) (Tree l at) (Tree l' at) at)
-    of (Ok r) same = tt
-    of (Err r) same = (ap field same.1, record { kept = rw same.0 held; alike = refl; cursor_is = refl })
+  pub put_stays : {L M : Type 0} (table : L → Table Entry) (field : L → AnyTable M) (old new : L) (l l' : RBTree (Unkeyed V) (Option Place)) (at : Option Place) (Linked Asked : Type 0) → Held {V = V} (table old) (Tree l at)
+      → OnFalse acquired (Linked × Asked) → OnFalse acquired ((l' ≡ l) × (new ≡ old)) → OnFalse acquired (Linked × Asked × ((field new ≡ field old) × Moves {V = V} (table old) (Tree l at) (Tree l' at) at))
+  put_stays {M = M'} table field old new l l' at Linked Asked held = of acquired where
+    of : (acquired : Bool) → OnFalse acquired (Linked × Asked) → OnFalse acquired ((l' ≡ l) × (new ≡ old))
+        → OnFalse acquired (Linked × Asked × ((field new ≡ field old) × Moves {V = V} (table old) (Tree l at) (Tree l' at) at))
+    of true why same = tt
+    of false why same = (why.0, why.1, (ap field same.1, record { kept = rw same.0 held; alike = refl; cursor_is = refl }))
 
 -- an entry that is not occupied is vacant
 pub vacant_one : {A L V K : Type 0} (entry : TreeEntry A L (Option Place) V K) → ((c : CursorMut A L V) → entry ≡ Occupied c → ⊥) → (v : InsertCursor A L (Option Place)) × (entry ≡ Vacant v)
@@ -91,12 +98,12 @@ vacant_one (Occupied c) other = absurd (other c refl)
 vacant_one (Vacant v) other = (v, refl)
 
 -- WHAT AN EDIT THROUGH A BORROW LEFT: the root and the table that the borrow ended as are those that the edit answered
-module _ {t t' : Table Entry} {root root' : Option Place} where
-  pub inserts_left : {old old' : Table Entry} {gap : Cut} {p p' : Place} → old ≡ old' → p ≡ p' → Inserts (tree.Shows node) old t root gap p
-      → t' ≡ t → root' ≡ root → Inserts (tree.Shows node) old' t' root' gap p'
+module _ {t t' : Table (Link ThreeWords ⊤)} {root root' : Option Place} where
+  pub inserts_left : {old old' : Table (Link ThreeWords ⊤)} {gap : Cut} {p p' : Place} → old ≡ old' → p ≡ p' → Inserts (tree.Represents node_of) old t root gap p
+      → t' ≡ t → root' ≡ root → Inserts (tree.Represents node_of) old' t' root' gap p'
   inserts_left same place put table head = rw (table, head, ← same, ← place) put
 
-pub links_left : {old old' t t' : Table Entry} {p p' : Place} → old ≡ old' → p ≡ p' → LinksAlso is_linked old t p → t' ≡ t → LinksAlso is_linked old' t' p'
+pub links_left : {old old' t t' : Table (Link ThreeWords ⊤)} {p p' : Place} → old ≡ old' → p ≡ p' → LinksAlso own_linked old t p → t' ≡ t → LinksAlso own_linked old' t' p'
 links_left same place linked table = rw (table, ← same, ← place) linked
 
 -- A MEMBER WITH THE KEY is found, and the cursor is moved there
@@ -117,9 +124,9 @@ moves_to_key {by = by} {p = p} held found same there =
     }
 
 -- AN OBJECT IS PUT where the key would stand, and the cursor is put on it
-pub puts_at_key : {V : Type 0} (by : Place → Ordering) {t t' : Table Entry} {l l' : RBTree (Unkeyed V) (Option Place)} {at at' : Option Place} {p : Place} → Held {V = V} t (Tree l at)
-    → AtGap (members_in {V = V} t (Tree l at)) (λ gap. IsVacantFor by gap × Inserts (tree.Shows node) t t' (root_of l') gap p) → LinksAlso is_linked t t' p
-    → at' ≡ Some p → PutsAtKey {V = V} by t t' (Tree l at) (Tree l' at') p (Some p)
+pub puts_at_key : {V : Type 0} (by : Place → Ordering) {t t' : Table (Link ThreeWords ⊤)} {l l' : RBTree (Unkeyed V) (Option Place)} {at at' : Option Place} {p : Place} → Held {V = V} (of_field t) (Tree l at)
+    → AtGap (members_in {V = V} (of_field t) (Tree l at)) (λ gap. IsVacantFor by gap × Inserts (tree.Represents node_of) t t' (root_of l') gap p) → LinksAlso own_linked t t' p
+    → at' ≡ Some p → PutsAtKey {V = V} by (of_field t) (of_field t') (Tree l at) (Tree l' at') p (Some p)
 puts_at_key by {p = p} held put links there =
     let gap = put.0 in
-    (gap, put.1, (put.2.0, puts_in_tree held put.1 put.2.1 links (on_it gap.front p gap.back refl) there))
+    (gap, put.1, (put.2.0, puts_in_tree held put.1 (inserts_in_field put.2.1) (step_in_field _ _ (acquires p) links) (on_it gap.front p gap.back refl) there))

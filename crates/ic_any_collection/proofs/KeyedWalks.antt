@@ -1,14 +1,9 @@
--- Listing what a walk has left: a cursor goes along with it, and gives the places.
+-- What a walk has left: a cursor goes along with it, and gives the places.
 use Rattle.std.proofs.Common.{◌≡◌, ◌∙◌, ◌+◌, Bool, true, false, ℕ, Result, Ok, Err, IfOk, Option, Some, None, IsSome, List, [], ◌∷◌, ◌++◌, length, refl, sym, ap, subst, arith, append_assoc, append-nil}
 use Rattle.std.specs.List.{cons_option}
 use Rattle.std.specs.declared.vec.Vec.{Vec}
-use Rattle.ic_unsafe_ref.specs.declared.place.Place.{Place}
-use Rattle.ic_unsafe_ref.specs.Objects.{Objects, object_at}
-use Rattle.ic_link_ops.specs.PlacedObjects.{ArePlaced, values_at}
-use Rattle.ic_link_ops.specs.Positions.{Site, Stands}
-use Rattle.ic_link_ops.specs.RedBlackTree.{Node, Shows}
-use Rattle.ic_link_ops.specs.Sequences.{Cut, join, first, IsAfter, IsBefore}
-use Rattle.ic_link_ops.specs.Tables.{Table, IsCovered}
+use Rattle.ic_link_ops.specs.Prelude.{Place, Objects, object_at, Cut, join, first, IsAfter, IsBefore, Table, IsCovered, CursorState, IsValidCursor, ArePlaced, values_at}
+use Rattle.ic_link_ops.specs.RedBlackTree.{Node, Represents}
 use Rattle.ic_link_ops.proofs.Positions.{stands_by_gap}
 use Rattle.ic_link_ops.proofs.SequenceLemmas.{none_not, some_same, last_of_push}
 use Rattle.std.specs.declared.cmp.Ordering.{Ordering}
@@ -38,7 +33,7 @@ pub record Lists {E V : Type 0} (node : E → Node) (t : Table E) (root : Option
   pub front : List Place
   pub rest : List Place
   pub back : List Place
-  pub shown : Shows node t root (front ++ (rest ++ back))
+  pub shown : Represents node t root (front ++ (rest ++ back))
   pub listed : places ++ rest ≡ whole
   pub stands : position ≡ first (rest ++ back)
   pub count : length rest ≡ length left
@@ -57,7 +52,7 @@ some_more [] count e = let k = count ∙ ap length e in absurd (omega (arith, k)
 some_more (p ∷ rest) count e = let k = count ∙ ap length e in (p, rest, refl, omega (arith, k))
 
 module _ {E V : Type 0} {node : E → Node} {t : Table E} {root : Option Place} {whole : List Place} where
-  pub lists_first : {position : Option Place} {left : List V} {p : Place} → (front back : List Place) × Shows node t root (front ++ (whole ++ back))
+  pub lists_first : {position : Option Place} {left : List V} {p : Place} → (front back : List Place) × Represents node t root (front ++ (whole ++ back))
       → Some p ≡ first whole → position ≡ Some p → length whole ≡ length left → Lists node t root whole [] position left
   lists_first shown starts is count = record {
     front = shown.0;
@@ -87,10 +82,10 @@ module _ {E V : Type 0} {node : E → Node} {t : Table E} {root : Option Place} 
 
       -- which is listed, as the cursor goes on
       pub lists_next : {q : Place} {places' : List Place} {position' : Option Place} → position ≡ Some q → places' ≡ places ++ q ∷ []
-          → ((gap : Cut) → Shows node t root (join gap) → IsAfter gap position → IsBefore gap position') → Lists node t root whole places' position' vs
+          → ((gap : Cut) → Represents node t root (join gap) → IsAfter gap position → IsBefore gap position') → Lists node t root whole places' position' vs
       lists_next is listed leads =
           let same = some_same (sym is ∙ position_is) in
-          let shown : Shows node t root ((l.front ++ next.0 ∷ []) ++ (next.1 ++ l.back)) = rw (append_assoc l.front (next.0 ∷ []) (next.1 ++ l.back)) (rw next.2 at l.shown) in record {
+          let shown : Represents node t root ((l.front ++ next.0 ∷ []) ++ (next.1 ++ l.back)) = rw (append_assoc l.front (next.0 ∷ []) (next.1 ++ l.back)) (rw next.2 at l.shown) in record {
             front = l.front ++ next.0 ∷ [];
             rest = next.1;
             back = l.back;
@@ -101,14 +96,14 @@ module _ {E V : Type 0} {node : E → Node} {t : Table E} {root : Option Place} 
           }
 
 -- where the cursor stands
-pub lists_stands : {L E V : Type 0} {node : E → Node} {table : L → Table E} {at : Site L (Option Place)} {whole places : List Place} {left : List V}
-    → Lists node (table at.links) at.head whole places at.position left → Stands (Shows node) table at
+pub lists_stands : {L E V : Type 0} {node : E → Node} {table : L → Table E} {at : CursorState L (Option Place)} {whole places : List Place} {left : List V}
+    → Lists node (table at.links) at.head whole places at.position left → IsValidCursor (Represents node) table at
 lists_stands l = stands_by_gap (record { front = l.front; back = l.rest ++ l.back }) l.shown l.stands
 
--- a range is shown: it stands between other members, or it is empty
-pub range_shown : {min max : Bound (Place → Ordering)} {runs : Option Place → Option Place → Bool} {s w : List Place} (shows : List Place → Type 0) → IsRange min max runs s w
+-- a range is represented: it stands between other members, or it is empty
+pub range_represented : {min max : Bound (Place → Ordering)} {runs : Option Place → Option Place → Bool} {s w : List Place} (shows : List Place → Type 0) → IsRange min max runs s w
     → shows s → (front back : List Place) × shows (front ++ (w ++ back))
-range_shown {runs = runs} {s} {w} shows x shown = by (runs x.low x.high) refl where
+range_represented {runs = runs} {s} {w} shows x shown = by (runs x.low x.high) refl where
   by : (b : Bool) → runs x.low x.high ≡ b → (front back : List Place) × shows (front ++ (w ++ back))
   by true e = let part = x.segment e in (part.front, part.back, subst shows (sym part.same) shown)
   by false e = ([], s, subst shows (sym (ap (λ r. r ++ s) (x.nothing e))) shown)

@@ -1,10 +1,12 @@
 pub mod AllKinds
 pub mod Standing
-pub mod Moving
+pub mod Reading
+pub mod OwnTrees
+pub mod Made
+pub mod InGaps
 pub mod Editing
 pub mod Parting
 pub mod Wholes
-pub mod Reading
 pub mod KeyedSearches
 pub mod KeyedEdits
 pub mod KeyedWalks

@@ -1,26 +1,22 @@
--- Readings: the member behind one, walks from the front, and trees seen through two tables.
+-- Readings: the member after one, walks from the front, and trees seen through two tables.
 use Rattle.std.proofs.Common.{◌≡◌, ◌≢◌, ◌∙◌, ◌<◌, ◌+◌, ◌++◌, true, false, cond, Option, Some, None, List, [], ◌∷◌, drop, length, refl, sym, ap, append_assoc, arith, nat_eq, eq-eqb, eqb-true}
 use Rattle.std.proofs.lemmas.Bool.{eqb-false, false_from_ne_true}
 use Rattle.std.proofs.lemmas.List.{length-append}
-use Rattle.ic_unsafe_ref.specs.declared.place.Place.{Place}
-use Rattle.ic_unsafe_ref.specs.Places.{index_of}
+use Rattle.ic_link_ops.specs.Prelude.{Place, index_of, Cut, join, first, last, IsAfter, IsBefore, IsAbsent, IsDistinct, Table, CursorState, RepresentsAt, MovesOn}
 use Rattle.ic_unsafe_ref.proofs.PlaceLemmas.{same_index, word_tells}
-use Rattle.ic_link_ops.specs.Sequences.{Cut, join, first, last, IsAfter, IsBefore, IsAbsent, IsDistinct}
-use Rattle.ic_link_ops.specs.Tables.{Table}
 use Rattle.ic_link_ops.specs.Walk.{is_end}
 use Rattle.ic_link_ops.specs.Trees.{Tree, leaf, fork}
-use Rattle.ic_link_ops.specs.RedBlackTree.{Node, IsTree, Shows}
-use Rattle.ic_link_ops.specs.Positions.{Site, ShowsAt, MovesOn}
+use Rattle.ic_link_ops.specs.RedBlackTree.{Node, IsTree, Represents}
 use Rattle.ic_link_ops.proofs.SequenceLemmas.{first_is, last_of_push, some_same}
 use Rattle.ic_link_ops.proofs.Walks.{is_end_yes}
 
--- A MOVE ON FROM A MEMBER leads to the one behind it
-pub leads_behind : {L E H : Type 0} {Shows : Table E → H → List Place → Type 0} {table : L → Table E} {old : Site L H} {position : Option Place} {p : Place} {s : List Place}
-    → MovesOn Shows table old position → old.position ≡ Some p → ShowsAt Shows table old s → (gap : Cut) → join gap ≡ s → IsBefore gap (Some p) → position ≡ first (drop 1 gap.back)
-leads_behind {Shows = Shows} {table = table} {old = old} {p = p} {s = s} moves at shown gap cut before =
+-- A MOVE ON FROM A MEMBER leads to the one after it
+pub leads_after : {L E H : Type 0} {Represents : Table E → H → List Place → Type 0} {table : L → Table E} {old : CursorState L H} {position : Option Place} {p : Place} {s : List Place}
+    → MovesOn Represents table old position → old.position ≡ Some p → RepresentsAt Represents table old s → (gap : Cut) → join gap ≡ s → IsBefore gap (Some p) → position ≡ first (drop 1 gap.back)
+leads_after {Represents = Represents} {table = table} {old = old} {p = p} {s = s} moves at shown gap cut before =
     let back = drop 1 gap.back in
     let is : gap.front ++ p ∷ back ≡ s = ap (λ b. gap.front ++ b) (sym (first_is gap.back before)) ∙ cut in
-    let there : ShowsAt Shows table old ((gap.front ++ p ∷ []) ++ back) = rw (append_assoc gap.front (p ∷ []) back, is) shown in
+    let there : RepresentsAt Represents table old ((gap.front ++ p ∷ []) ++ back) = rw (append_assoc gap.front (p ∷ []) back, is) shown in
     moves.leads (record { front = gap.front ++ p ∷ []; back = back }) there (at ∙ sym (last_of_push gap.front p))
 
 -- two places that are compared as numbers
@@ -30,7 +26,7 @@ same_place p q equal = same_index p q (eqb-true _ _ (sym (word_tells p q) ∙ eq
 pub other_place : (p q : Place) → nat_eq p.word q.word ≡ false → q ≢ p
 other_place p q differs same = eqb-false p.word q.word differs (ap (λ x. x.word) (sym same))
 
--- A WALK FROM THE FRONT of s: `done` is behind it, `prev` the last of that, and `current` the first of what is left
+-- A WALK FROM THE FRONT of s: `done` is after it, `prev` the last of that, and `current` the first of what is left
 pub record Walks (s done : List Place) (prev current : Option Place) : Type 0 where
   pub left : List Place
   pub whole : done ++ left ≡ s
@@ -41,7 +37,7 @@ pub record Walks (s done : List Place) (prev current : Option Place) : Type 0 wh
 pub gap_at : {s done : List Place} {prev current : Option Place} → Walks s done prev current → (gap : Cut) × (join gap ≡ s) × (IsAfter gap prev × IsBefore gap current)
 gap_at {done = done} w = (record { front = done; back = w.left }, w.whole, (w.prev_is, w.current_is))
 
--- it starts at the first member, goes on to the one behind,
+-- it starts at the first member, goes on to the one after,
 pub walks_first : {s : List Place} {current : Option Place} → current ≡ first s → Walks s [] None current
 walks_first {s} is = record { left = s; whole = refl; prev_is = refl; current_is = is }
 
@@ -106,7 +102,7 @@ module _ {E F : Type 0} (node : E → Node) (other : F → Node) {entry : Place 
   )
 
 pub seen : {E F : Type 0} (node : E → Node) (other : F → Node) {t : Table E} {u : Table F} {root : Option Place} {s : List Place}
-    → ((p : Place) → other (u.entry p) ≡ node (t.entry p)) → Shows node t root s → Shows other u root s
+    → ((p : Place) → other (u.entry p) ≡ node (t.entry p)) → Represents node t root s → Represents other u root s
 seen node other same shown = record {
   tree = shown.tree;
   held = record { order = shown.held.order; distinct = shown.held.distinct; entries = seen_tree node other same None shown.tree shown.held.entries };

@@ -1,20 +1,18 @@
 -- Where a cursor stands: the gaps beside it, and what an XOR list's cursor keeps.
-use Rattle.std.proofs.Common.{◌≡◌, ◌∙◌, Option, Some, None, List, refl, sym, subst}
+use Rattle.std.proofs.Common.{◌≡◌, ◌∙◌, Option, Some, None, IfSome, List, [], ◌∷◌, ◌++◌, drop, refl, sym, ap, subst, append_assoc}
 use Rattle.std.specs.Prelude.{⊤}
-use Rattle.ic_unsafe_ref.specs.declared.place.Place.{Place}
-use Rattle.ic_link_ops.specs.Sequences.{Cut, join, IsBefore}
-use Rattle.ic_link_ops.specs.Tables.{Table}
+use Rattle.ic_link_ops.specs.Prelude.{Place, Cut, join, first, IsBefore, IsDistinct, Table}
 use Rattle.ic_link_ops.specs.Chains.{Ends}
 use Rattle.ic_link_ops.specs.XorLinkedList as xor
-use Rattle.ic_link_ops.proofs.CollectionLaws.{one_sequence_is_shown}
-use Rattle.ic_link_ops.proofs.SequenceLemmas.{gap_before}
-use Rattle.ic_chain.specs.Standing.{StandsAt}
+use Rattle.ic_link_ops.proofs.CollectionLaws.{one_sequence_is_represented}
+use Rattle.ic_link_ops.proofs.SequenceLemmas.{gap_before, none_not, first_is, last_of_push, same_gap}
+use Rattle.ic_chain.specs.Standing.{IsValidAt}
 use Rattle.ic_xor_linked_list.specs.Position.{PlaceAndNext, member_of, CachesNext}
 use Rattle.ic_any_collection.specs.declared.entry.Entry.{Entry}
 use Rattle.ic_any_collection.specs.Entries.{is_linked, Joins}
 use Rattle.ic_any_collection.specs.declared.any_collection.AnyCollection.{AnyCollection}
 use Rattle.ic_any_collection.specs.declared.any_collection.AnyCollection.TheVariants.{Singly, Doubly, Xor, Tree}
-use Rattle.ic_any_collection.specs.AnyCollection.{IsAt, IsXorAt, StandsIn, cursor_in, members_in, Held}
+use Rattle.ic_any_collection.specs.AnyCollection.{IsAt, IsXorAt, IsCursorIn, cursor_in, members_in, Held}
 use Rattle.ic_any_collection.proofs.AllKinds.{xor_kind}
 
 -- the gap before a position
@@ -23,7 +21,7 @@ before_at {s} {position} at = let prev = gap_before at.0 position at.2 in (prev.
 
 module _ {V : Type 0} where
   -- whatever the kind, the cursor is at a position of s
-  pub stands_at : (s : List Place) (m : AnyCollection V) → StandsIn s m → IsAt s (cursor_in m)
+  pub stands_at : (s : List Place) (m : AnyCollection V) → IsCursorIn s m → IsAt s (cursor_in m)
   stands_at s (Singly l at) stands = stands
   stands_at s (Doubly l at) stands = stands
   stands_at s (Xor l at) stands = (stands.0, stands.1, stands.2)
@@ -37,24 +35,24 @@ module _ {V : Type 0} where
   gap_before_cursor m held = before_at (gap_after_cursor m held)
 
 -- A LIST'S CURSOR STANDS as its calls ask it: where it keeps its place alone,
-pub stands_plainly : {L E H : Type 0} {Shows : Table E → H → List Place → Type 0} {table : L → Table E} {links : L} {list : H} {at : Option Place} (s : List Place)
-    → Shows (table links) list s → IsAt s at → StandsAt Shows table (λ at. at) (λ at next. ⊤) links list at
-stands_plainly {Shows = Shows} {table} {links} {list} s shown at = record {
+pub stands_plainly : {L E H : Type 0} {Represents : Table E → H → List Place → Type 0} {table : L → Table E} {links : L} {list : H} {at : Option Place} (s : List Place)
+    → Represents (table links) list s → IsAt s at → IsValidAt Represents table (λ at. at) (λ at next. ⊤) links list at
+stands_plainly {Represents = Represents} {table} {links} {list} s shown at = record {
   gap = at.0;
-  shown = subst (Shows (table links) list) (sym at.1) shown;
+  shown = subst (Represents (table links) list) (sym at.1) shown;
   after = at.2;
   caches = λ q on. tt;
 }
 
--- and where it keeps the place behind it too, as an XOR list's does,
+-- and where it keeps the place after it too, as an XOR list's does,
 abbrev pub XorStands : {L : Type 0} → (L → Table Entry) → L → Ends → Option PlaceAndNext → Type 0
-XorStands table links l at = StandsAt (xor.Shows is_linked Joins) table member_of CachesNext links l at
+XorStands table links l at = IsValidAt (xor.Represents is_linked Joins) table member_of CachesNext links l at
 
 pub knows : {L : Type 0} {table : L → Table Entry} {links : L} {l : Ends} {at : Option PlaceAndNext} (s : List Place)
-    → xor.Shows is_linked Joins (table links) l s → IsXorAt s at → XorStands table links l at
+    → xor.Represents is_linked Joins (table links) l s → IsXorAt s at → XorStands table links l at
 knows {table = table} {links = links} {l = l'} s shown at = record {
   gap = at.0;
-  shown = subst (xor.Shows is_linked Joins (table links) l') (sym at.1) shown;
+  shown = subst (xor.Represents is_linked Joins (table links) l') (sym at.1) shown;
   after = at.2;
   caches = λ q on. at.3;
 }
@@ -65,5 +63,18 @@ caches_next None next caches = tt
 caches_next (Some at) next caches = caches at.place refl
 
 pub known : {L : Type 0} {table : L → Table Entry} {links : L} {l : Ends} {at : Option PlaceAndNext} (s : List Place)
-    → xor.Shows is_linked Joins (table links) l s → XorStands table links l at → IsXorAt s at
-known {at = at'} s shown k = (k.gap, one_sequence_is_shown xor_kind k.shown shown, k.after, caches_next at' _ k.caches)
+    → xor.Represents is_linked Joins (table links) l s → XorStands table links l at → IsXorAt s at
+known {at = at'} s shown k = (k.gap, one_sequence_is_represented xor_kind k.shown shown, k.after, caches_next at' _ k.caches)
+
+-- the place that it keeps is the one after its member
+pub next_known : {L : Type 0} {table : L → Table Entry} {links : L} {l : Ends} {at : Option PlaceAndNext} {p : Place} {next : Option Place} {s : List Place}
+    → xor.Represents is_linked Joins (table links) l s → XorStands table links l at → member_of at ≡ Some p → IfSome at (λ a. next ≡ a.next)
+    → (gap : Cut) → join gap ≡ s → IsBefore gap (Some p) → next ≡ first (drop 1 gap.back)
+next_known {at = None} {p = p} shown k on is gap cut before = absurd (none_not p on)
+next_known {table = table} {links = links} {l = l'} {at = Some a} {p = p} {s = s} shown k on is gap cut before =
+    let at = known s shown k in
+    let past : Cut = record { front = gap.front ++ p ∷ []; back = drop 1 gap.back } in
+    let there : join past ≡ s = append_assoc gap.front (p ∷ []) (drop 1 gap.back) ∙ ap (λ b. gap.front ++ b) (sym (first_is gap.back before)) ∙ cut in
+    let apart : IsDistinct (join at.0) = rw at.1 (xor_kind.distinct (table links) l' s shown) in
+    let same = same_gap at.0 past apart (at.1 ∙ sym there) (sym at.2 ∙ on ∙ sym (last_of_push gap.front p)) in
+    is ∙ at.3 ∙ ap first same.1

@@ -1,14 +1,13 @@
 -- Whole collections: new ones, taken ones, and such as are turned round.
 use Rattle.std.proofs.Common.{◌≡◌, true, Option, None, List, [], reverse, ap}
-use Rattle.ic_unsafe_ref.specs.declared.place.Place.{Place}
-use Rattle.ic_link_ops.specs.Tables.{Table}
+use Rattle.ic_link_ops.specs.Prelude.{Place, Table}
 use Rattle.ic_link_ops.specs.Chains.{Ends, list_head, no_members}
 use Rattle.ic_link_ops.specs.XorLaws.{joins_symmetric}
 use Rattle.ic_rbtree.specs.declared.tree.RBTree.{RBTree}
 use Rattle.ic_rbtree.specs.Tree.{root_of}
 use Rattle.ic_link_ops.specs.SinglyLinkedList.{Front, list_from}
 use Rattle.ic_link_ops.proofs.XorLists.{joined_symmetric}
-use Rattle.ic_link_ops.proofs.ShownLists.{shows_reversed}
+use Rattle.ic_link_ops.proofs.RepresentedLists.{represents_reversed}
 use Rattle.ic_xor_linked_list.specs.Position.{PlaceAndNext}
 use Rattle.ic_any_collection.specs.declared.entry.Entry.{Entry}
 use Rattle.ic_any_collection.specs.declared.kind.Kind.TheVariants as kind
@@ -39,6 +38,6 @@ pub keeps_turned : {V : Type 0} {t : Table Entry} {l l' : Ends} {at at' : Option
     → l' ≡ list_head l.tail l.head → at' ≡ None → Keeps {V = V} t (Xor l' at') (reverse s)
 keeps_turned {s = s} kept list null = record {
   carried = kept.carried;
-  shown = shows_reversed (joined_symmetric (λ e a b j. joins_symmetric e.word a b j)) kept.shown (ap (λ l. l.head) list) (ap (λ l. l.tail) list);
+  shown = represents_reversed (joined_symmetric (λ e a b j. joins_symmetric e.word a b j)) kept.shown (ap (λ l. l.head) list) (ap (λ l. l.tail) list);
   stands = xor_null (reverse s) null;
 }

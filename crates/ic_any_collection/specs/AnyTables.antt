@@ -1,8 +1,6 @@
 -- What clauses see of a field's table, of whatever kind.
 use Rattle.std.specs.Prelude.{refl}
-use Rattle.ic_unsafe_ref.specs.declared.place.Place.{Place}
-use Rattle.ic_unsafe_ref.specs.Places.{index_of}
-use Rattle.ic_link_ops.specs.Tables.{Table, IsLinked, IsCovered}
+use Rattle.ic_link_ops.specs.Prelude.{Place, index_of, Table, IsLinked, IsCovered}
 use Rattle.ic_link_ops.specs.Links.{link_of}
 use Rattle.ic_link_ops.specs.PlainTables.{entries, table, linked_by}
 use Rattle.ic_link_ops.specs.Widths.{wide}
@@ -17,13 +15,13 @@ use Rattle.ic_any_collection.specs.TablesWithPrev as with_prev
 
 module _ {M : Type 0} where
   -- covers and entries
-  abbrev pub look : AnyTable M → Table Entry
-  look (Singly t) = read kind.Singly of_one (table wide one.no_word t)
-  look (Xor t) = read kind.Xor of_one (table wide one.no_word t)
-  look (WithPrev t) = with_prev.look t
+  abbrev pub table_in : AnyTable M → Table Entry
+  table_in (Singly t) = read kind.Singly of_one (table wide one.no_word t)
+  table_in (Xor t) = read kind.Xor of_one (table wide one.no_word t)
+  table_in (WithPrev t) = with_prev.table_in t
 
   -- a linked place is covered
-  pub covered_where_linked : (t : AnyTable M) (p : Place) → IsLinked is_linked (look t) p → IsCovered (look t) p
+  pub covered_where_linked : (t : AnyTable M) (p : Place) → IsLinked is_linked (table_in t) p → IsCovered (table_in t) p
   covered_where_linked (Singly t) p h = linked_in_range (linked_by one.has_word) (link_of one.no_word) refl (entries t) (index_of p) h
   covered_where_linked (Xor t) p h = linked_in_range (linked_by one.has_word) (link_of one.no_word) refl (entries t) (index_of p) h
   covered_where_linked (WithPrev t) p h = with_prev.covered_where_linked t p h

@@ -1,13 +1,10 @@
 -- What the calls of a collection leave, in the same words for every kind.
-use Rattle.std.specs.Prelude.{◌≡◌, Option, Some, None, List, [], ◌∷◌, ◌++◌}
-use Rattle.ic_unsafe_ref.specs.declared.place.Place.{Place}
-use Rattle.ic_link_ops.specs.Sequences.{Cut, join, insert, remove, replace, splice, first}
-use Rattle.ic_link_ops.specs.Tables.{Table, KeepsBeside, KeepsLinked, LinksAlso, Unlinks}
-use Rattle.ic_link_ops.specs.LinkSteps.{Replays, acquires, releases, releases_each}
+use Rattle.std.specs.Prelude.{◌≡◌, Bool, true, false, Option, Some, None, List, [], ◌∷◌, ◌++◌}
+use Rattle.ic_link_ops.specs.Prelude.{Place, Cut, join, insert, remove, replace, splice, first, Table, ChangesOnlyIn, IsLinked, KeepsLinked, LinksAlso, Unlinks, TraceIs, acquires, releases, releases_each}
 use Rattle.ic_any_collection.specs.declared.entry.Entry.{Entry}
 use Rattle.ic_any_collection.specs.declared.any_table.AnyTable.{AnyTable}
 use Rattle.ic_any_collection.specs.Entries.{is_linked}
-use Rattle.ic_any_collection.specs.AnyTables.{look}
+use Rattle.ic_any_collection.specs.AnyTables.{table_in}
 use Rattle.ic_any_collection.specs.declared.any_collection.AnyCollection.{AnyCollection}
 use Rattle.ic_any_collection.specs.AnyCollection.{cursor_in, members_in, Keeps, Alike}
 
@@ -25,7 +22,7 @@ module _ {V : Type 0} where
 
   -- NOTHING HAS CHANGED: the table is the same, and the collection has its members and its cursor
   abbrev pub IsUnchanged : {M : Type 0} → (links links' : AnyTable M) → (m m' : AnyCollection V) → Type 0
-  IsUnchanged links links' m m' = (links' ≡ links) × Moves (look links) m m' (cursor_in m)
+  IsUnchanged links links' m m' = (links' ≡ links) × Moves (table_in links) m m' (cursor_in m)
 
   module _ (t t' : Table Entry) (m m' : AnyCollection V) where
     -- THE COLLECTION HAS s AS ITS MEMBERS NOW, its cursor is there, and nothing but entries of `touched` is changed
@@ -33,29 +30,29 @@ module _ {V : Type 0} where
       pub kept : Keeps t' m' s
       pub alike : Alike m m'
       pub cursor_is : cursor_in m' ≡ cursor
-      pub frame : KeepsBeside t t' touched
+      pub frame : ChangesOnlyIn t t' touched
 
     -- p, which was unlinked, is put into the gap
     pub record Puts (gap : Cut) (p : Place) (cursor : Option Place) : Type 0 where
       pub leaves : Leaves (insert gap p) cursor (p ∷ members_in t m)
       pub links : LinksAlso is_linked t t' p
 
-    -- the member p behind the gap is taken out, and unlinked
+    -- the member p after the gap is taken out, and unlinked
     pub record Takes (gap : Cut) (p : Place) (cursor : Option Place) : Type 0 where
       pub there : first gap.back ≡ Some p
       pub leaves : Leaves (remove gap) cursor (members_in t m)
       pub links : Unlinks is_linked t t' p
 
-    -- p, which was unlinked, stands where the member `out` stood, behind the gap, which is unlinked
+    -- p, which was unlinked, stands where the member `out` stood, after the gap, which is unlinked
     pub record Swaps (gap : Cut) (p out : Place) (cursor : Option Place) : Type 0 where
       pub there : first gap.back ≡ Some out
       pub leaves : Leaves (replace gap p) cursor (p ∷ members_in t m)
-      pub links : Replays is_linked t t' (acquires p ∷ releases out ∷ [])
+      pub links : TraceIs is_linked t t' (acquires p ∷ releases out ∷ [])
 
     -- all members are taken out, and unlinked
     pub record Empties : Type 0 where
       pub leaves : Leaves [] None (members_in t m)
-      pub links : Replays is_linked t t' (releases_each (members_in t m))
+      pub links : TraceIs is_linked t t' (releases_each (members_in t m))
 
     -- all of r is put into the gap, and stays linked
     pub record PutsAll (gap : Cut) (r : List Place) : Type 0 where
@@ -69,3 +66,14 @@ module _ {V : Type 0} where
       pub part_alike : Alike m part
       pub null : cursor_in part ≡ None
       pub links : KeepsLinked is_linked t t'
+
+  -- THE MEMBER AFTER THE GAP, if there is one, is taken out. Where there is none, the cursor alone is there
+  abbrev pub TakesIfAny : {M : Type 0} → (links links' : AnyTable M) → (m m' : AnyCollection V) → Cut → Option Place → Option Place → Type 0
+  TakesIfAny links links' m m' gap cursor None = (links' ≡ links) × Moves (table_in links) m m' cursor
+  TakesIfAny links links' m m' gap cursor (Some p) = Takes (table_in links) (table_in links') m m' gap p cursor
+
+  -- it is swapped for p, if p's link is acquired. Otherwise nothing has changed
+  abbrev pub SwapsIfAny : {M : Type 0} → (links links' : AnyTable M) → (m m' : AnyCollection V) → Cut → Place → Option Place → Option Place → Bool → Type 0
+  SwapsIfAny links links' m m' gap p cursor None acquired = IsUnchanged links links' m m'
+  SwapsIfAny links links' m m' gap p cursor (Some out) false = IsLinked is_linked (table_in links) p × IsUnchanged links links' m m'
+  SwapsIfAny links links' m m' gap p cursor (Some out) true = Swaps (table_in links) (table_in links') m m' gap p out cursor

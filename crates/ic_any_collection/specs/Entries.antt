@@ -1,8 +1,6 @@
 -- What an entry says, whatever table keeps it.
 use Rattle.std.specs.Prelude.{◌≡◌, Bool, Option, None, [], ◌∷◌, bit_xor, ⊤}
-use Rattle.ic_unsafe_ref.specs.declared.place.Place.{Place}
-use Rattle.ic_unsafe_ref.specs.Places.{place_at, word_of}
-use Rattle.ic_link_ops.specs.Tables.{Table}
+use Rattle.ic_link_ops.specs.Prelude.{Place, place_at, word_of, Table}
 use Rattle.ic_link_ops.specs.LinkedList.{Neighbors}
 use Rattle.ic_link_ops.specs.SinglyLinkedList.{Successor}
 use Rattle.ic_link_ops.specs.RedBlackTree.{Node}

@@ -1,21 +1,19 @@
 -- What keyed calls of a tree leave and answer.
 use Rattle.std.specs.Prelude.{Option}
 use Rattle.std.specs.declared.cmp.Ordering.{Ordering}
-use Rattle.ic_unsafe_ref.specs.declared.place.Place.{Place}
-use Rattle.ic_link_ops.specs.Sequences.{Cut}
-use Rattle.ic_link_ops.specs.Tables.{Table}
+use Rattle.ic_link_ops.specs.Prelude.{Place, Cut, Table}
 use Rattle.ic_rbtree.specs.Borders.{IsBorder, less_at, at_most_at}
 use Rattle.ic_any_collection.specs.declared.entry.Entry.{Entry}
 use Rattle.ic_any_collection.specs.declared.any_collection.AnyCollection.{AnyCollection}
 use Rattle.ic_any_collection.specs.AnyCollection.{members_in}
 use Rattle.ic_any_collection.specs.Edits.{AtGap, Puts}
 
--- the gap where what is searched would stand: the member in front is smaller, and the one behind larger
+-- the gap where what is searched would stand: the member before is smaller, and the one after larger
 abbrev pub IsVacantFor : (Place → Ordering) → Cut → Type 0
 IsVacantFor at gap = IsBorder (at_most_at at) gap × IsBorder (less_at at) gap
 
 module _ {V : Type 0} (at : Place → Ordering) (t t' : Table Entry) (m m' : AnyCollection V) (p : Place) (cursor : Option Place) where
-  -- p is put in order: behind members that are not greater than what is searched, and in front of greater ones
+  -- p is put in order: after members that are not greater than what is searched, and before greater ones
   abbrev pub PutsInOrder : Type 0
   PutsInOrder = AtGap (members_in t m) (λ gap. IsBorder (less_at at) gap × Puts t t' m m' gap p cursor)
 

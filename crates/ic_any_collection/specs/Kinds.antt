@@ -30,3 +30,49 @@ carries Tree Tree = true
 carries Singly Tree = false
 carries Doubly Tree = false
 carries Xor Tree = false
+
+-- which kinds have calls at the position before the cursor: all but singly linked lists
+abbrev pub has_before : Kind → Bool
+has_before Singly = false
+has_before Doubly = true
+has_before Xor = true
+has_before Tree = true
+
+-- which kinds are lists: their gaps can be cut, and lists put into them
+abbrev pub is_list : Kind → Bool
+is_list Singly = true
+is_list Doubly = true
+is_list Xor = true
+is_list Tree = false
+
+-- both
+abbrev pub is_two_way_list : Kind → Bool
+is_two_way_list Singly = false
+is_two_way_list Doubly = true
+is_two_way_list Xor = true
+is_two_way_list Tree = false
+
+abbrev pub is_singly : Kind → Bool
+is_singly Singly = true
+is_singly Doubly = false
+is_singly Xor = false
+is_singly Tree = false
+
+abbrev pub is_xor : Kind → Bool
+is_xor Singly = false
+is_xor Doubly = false
+is_xor Xor = true
+is_xor Tree = false
+
+-- which kinds have a cursor made on a member from its place alone: all but XOR lists, where a neighbor must be told
+abbrev pub has_pointer : Kind → Bool
+has_pointer Singly = true
+has_pointer Doubly = true
+has_pointer Xor = false
+has_pointer Tree = true
+
+abbrev pub is_tree : Kind → Bool
+is_tree Singly = false
+is_tree Doubly = false
+is_tree Xor = false
+is_tree Tree = true

@@ -3,7 +3,9 @@ pub mod Entries
 pub mod TreeTables
 pub mod TablesWithPrev
 pub mod AnyTables
+pub mod Lends
 pub mod AnyCollection
+pub mod Gaps
 pub mod Edits
-pub mod Refusals
+pub mod GapEdits
 pub mod Keyed

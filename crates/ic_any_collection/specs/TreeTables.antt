@@ -1,22 +1,16 @@
--- What clauses see of a table of tree links.
-use Rattle.std.specs.Prelude.{refl}
-use Rattle.ic_unsafe_ref.specs.declared.place.Place.{Place}
-use Rattle.ic_unsafe_ref.specs.Places.{index_of}
-use Rattle.ic_link_ops.specs.Tables.{Table, IsLinked, IsCovered}
-use Rattle.ic_link_ops.specs.Links.{link_of}
-use Rattle.ic_link_ops.specs.PlainTables.{entries, table, linked_by}
+-- What clauses see of a table of tree links, in its own words.
+use Rattle.std.specs.Prelude.{Bool, ⊤}
+use Rattle.ic_link_ops.specs.Prelude.{Table}
+use Rattle.ic_link_ops.specs.Links.{words_of}
+use Rattle.ic_link_ops.specs.PlainTables.{table}
 use Rattle.ic_link_ops.specs.Widths.{wide}
-use Rattle.ic_link_ops.specs.EntryLaws.{linked_in_range}
+use Rattle.ic_link_ops.specs.declared.link.Link.{Link}
+use Rattle.ic_link_ops.specs.declared.rbtree.ThreeWords.{ThreeWords}
+use Rattle.ic_link_ops.specs.declared.table.PlainTable.{PlainTable}
 use Rattle.ic_link_ops.specs.ThreeWords as three
-use Rattle.ic_any_collection.specs.declared.entry.Entry.{Entry}
-use Rattle.ic_any_collection.specs.declared.tree_table.TreeTable.{TreeTable}
-use Rattle.ic_any_collection.specs.declared.kind.Kind.TheVariants as kind
-use Rattle.ic_any_collection.specs.Entries.{of_three, read, is_linked}
 
-module _ {M : Type 0} where
-  abbrev pub look : TreeTable M → Table Entry
-  look t = read kind.Tree of_three (table wide three.no_words t.0)
+abbrev pub table_in : {M : Type 0} → PlainTable ThreeWords M ⊤ → Table (Link ThreeWords ⊤)
+table_in t = table wide three.no_words t
 
-  -- a linked place is covered
-  pub covered_where_linked : (t : TreeTable M) (p : Place) → IsLinked is_linked (look t) p → IsCovered (look t) p
-  covered_where_linked t p h = linked_in_range (linked_by three.has_link) (link_of three.no_words) refl (entries t.0) (index_of p) h
+abbrev pub is_linked : Link ThreeWords ⊤ → Bool
+is_linked l = three.has_link (words_of l)

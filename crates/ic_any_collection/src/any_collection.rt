@@ -6,8 +6,7 @@
 //! ```
 
 ghost use Rattle.std.specs.Prelude.{◌≡◌, None, [], true};
-ghost use Rattle.ic_unsafe_ref.specs.declared.place.Place.{Place};
-ghost use Rattle.ic_link_ops.specs.Tables.{Table};
+ghost use Rattle.ic_link_ops.specs.Prelude.{Place, Table};
 ghost use Rattle.ic_any_collection.specs.declared.entry.Entry.{Entry};
 ghost use Rattle.ic_any_collection.specs.Kinds.{carries};
 ghost use Rattle.ic_any_collection.specs.Entries.{kind_of};
@@ -46,11 +45,12 @@ impl<T> AnyCollection<T> {
         ensures null { cursor_in result ≡ None }
         ensures kept { (t : Table Entry) → carries (kind_of t) kind ≡ true → Keeps t result [] }
     {
+        let null = PlaceWord::of(None);
         match kind {
-            Kind::Singly => Self::Singly(SinglyLinkedList::new(), ListPosition::null()),
-            Kind::Doubly => Self::Doubly(LinkedList::new(), ListPosition::null()),
+            Kind::Singly => Self::Singly(SinglyLinkedList::new(), null),
+            Kind::Doubly => Self::Doubly(LinkedList::new(), null),
             Kind::Xor => Self::Xor(XorLinkedList::new(), ListPosition::null()),
-            Kind::Tree => Self::Tree(RBTree::new(Unkeyed::new()), ListPosition::null()),
+            Kind::Tree => Self::Tree(RBTree::new(Unkeyed::new()), null),
         }
     }
 

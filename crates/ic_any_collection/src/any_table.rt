@@ -7,13 +7,11 @@
 //! ```
 
 ghost use Rattle.std.specs.Prelude.{◌≡◌, ◌≤◌, ◌<◌, ◌↔◌, max, OnOk, OnErr, IsOk, Err};
-ghost use Rattle.ic_unsafe_ref.specs.declared.place.Place.{Place};
-ghost use Rattle.ic_link_ops.specs.Tables.{IsCovered, IsLinked, IsUnlinked, ChangesOnly};
+ghost use Rattle.ic_link_ops.specs.Prelude.{Place, IsCovered, IsLinked, IsUnlinked, ChangesOnly};
 
 use crate::entry::Entry;
 use crate::kind::Kind;
 use crate::table_with_prev::TableWithPrev;
-use crate::tree_table::TreeTable;
 use ic_link_ops::singly_linked_list::SinglyLinkedListOps;
 use ic_link_ops::xor_linked_list::XorLinkedListOps;
 use ic_link_ops::{CoverError, LinkOps, linked_list, rbtree, singly_linked_list, xor_linked_list};
@@ -33,28 +31,25 @@ pub enum AnyTable<M: Allocator = Global> {
 
 impl<M: Allocator> AnyTable<M> {
     ghost use Rattle.ic_any_collection.specs.Entries.{is_linked, kind_of};
-    ghost use Rattle.ic_any_collection.specs.AnyTables.{look};
+    ghost use Rattle.ic_any_collection.specs.AnyTables.{table_in};
 
     /// A table of that kind which covers no place. It takes no memory.
     pub fn new(alloc: M, kind: Kind) -> AnyTable<M>
-        ensures covers { (look result).extent.places ≡ 0 }
-        ensures kind { kind_of (look result) ≡ kind }
+        ensures covers { (table_in result).extent.places ≡ 0 }
+        ensures kind { kind_of (table_in result) ≡ kind }
     {
         match kind {
             Kind::Singly => Self::Singly(singly_linked_list::LinkOps::new(alloc)),
             Kind::Xor => Self::Xor(xor_linked_list::LinkOps::new(alloc)),
             Kind::Doubly => Self::WithPrev(TableWithPrev::Doubly(linked_list::LinkOps::new(alloc))),
-            Kind::Tree => {
-                let links = TreeTable(rbtree::LinkOps::new(alloc));
-                Self::WithPrev(TableWithPrev::Tree(links))
-            }
+            Kind::Tree => Self::WithPrev(TableWithPrev::Tree(rbtree::LinkOps::new(alloc))),
         }
     }
 
     /// The kind of the table.
     #[inline]
     pub fn kind(&self) -> Kind
-        ensures { result ≡ kind_of (look self.now) }
+        ensures { result ≡ kind_of (table_in self.now) }
     {
         match self {
             Self::Singly(_) => Kind::Singly,
@@ -67,27 +62,27 @@ impl<M: Allocator> AnyTable<M> {
     /// How many places are covered: those with a smaller index.
     #[inline]
     pub fn covers(&self) -> usize
-        ensures { result ≡ (look self.now).extent.places }
+        ensures { result ≡ (table_in self.now).extent.places }
     {
         match self {
             Self::Singly(links) => links.covers(),
             Self::Xor(links) => links.covers(),
             Self::WithPrev(TableWithPrev::Doubly(links)) => links.covers(),
-            Self::WithPrev(TableWithPrev::Tree(TreeTable(links))) => links.covers(),
+            Self::WithPrev(TableWithPrev::Tree(links)) => links.covers(),
         }
     }
 
     /// Whether `place` is linked. It requires that the place is covered. O(1).
     #[inline]
     pub fn is_linked(&self, place: Place) -> bool
-        requires covered { IsCovered (look self.now) place }
-        ensures { result ≡ is_linked ((look self.now).entry place) }
+        requires covered { IsCovered (table_in self.now) place }
+        ensures { result ≡ is_linked ((table_in self.now).entry place) }
     {
         match self {
             Self::Singly(links) => links.is_linked(place),
             Self::Xor(links) => links.is_linked(place),
             Self::WithPrev(TableWithPrev::Doubly(links)) => links.is_linked(place),
-            Self::WithPrev(TableWithPrev::Tree(TreeTable(links))) => links.is_linked(place),
+            Self::WithPrev(TableWithPrev::Tree(links)) => links.is_linked(place),
         }
     }
 
@@ -96,15 +91,15 @@ impl<M: Allocator> AnyTable<M> {
     /// Every other entry stays, so each collection of which the place is no member keeps its sequence.
     #[inline]
     pub fn force_unlink(&mut self, place: Place)
-        requires covered { IsCovered (look self.old) place }
-        ensures unlinked { IsUnlinked is_linked (look self.new) place }
-        ensures frame { ChangesOnly (look self.old) (look self.new) place }
+        requires covered { IsCovered (table_in self.old) place }
+        ensures unlinked { IsUnlinked is_linked (table_in self.new) place }
+        ensures frame { ChangesOnly (table_in self.old) (table_in self.new) place }
     {
         match self {
             Self::Singly(links) => links.force_unlink(place),
             Self::Xor(links) => links.force_unlink(place),
             Self::WithPrev(TableWithPrev::Doubly(links)) => links.force_unlink(place),
-            Self::WithPrev(TableWithPrev::Tree(TreeTable(links))) => links.force_unlink(place),
+            Self::WithPrev(TableWithPrev::Tree(links)) => links.force_unlink(place),
         }
     }
 
@@ -114,40 +109,40 @@ impl<M: Allocator> AnyTable<M> {
     /// there stay, and where `count` is smaller than what is covered nothing changes. At most one request for memory.
     pub fn cover(&mut self, count: usize) -> Result<(), CoverError>
         ensures too_many { (result ≡ Err CoverError.TooManyPlaces) ↔ 4294967296 < count }
-        ensures covers { OnOk result ((look self.new).extent.places ≡ max (look self.old).extent.places count) }
-        ensures stays { (q : Place) → (look self.new).entry q ≡ (look self.old).entry q }
-        ensures identity { (look self.new).extent.identity ≡ (look self.old).extent.identity }
-        ensures enough { count ≤ (look self.old).extent.places → count ≤ 4294967296 → IsOk result }
-        ensures refused { OnErr result ((look self.new).extent ≡ (look self.old).extent) }
+        ensures covers { OnOk result ((table_in self.new).extent.places ≡ max (table_in self.old).extent.places count) }
+        ensures stays { (q : Place) → (table_in self.new).entry q ≡ (table_in self.old).entry q }
+        ensures identity { (table_in self.new).extent.identity ≡ (table_in self.old).extent.identity }
+        ensures enough { count ≤ (table_in self.old).extent.places → count ≤ 4294967296 → IsOk result }
+        ensures refused { OnErr result ((table_in self.new).extent ≡ (table_in self.old).extent) }
     {
         match self {
             Self::Singly(links) => links.cover(count),
             Self::Xor(links) => links.cover(count),
             Self::WithPrev(TableWithPrev::Doubly(links)) => links.cover(count),
-            Self::WithPrev(TableWithPrev::Tree(TreeTable(links))) => links.cover(count),
+            Self::WithPrev(TableWithPrev::Tree(links)) => links.cover(count),
         }
     }
 }
 
 impl<M: Allocator> LinkOps for AnyTable<M> {
     ghost use Rattle.std.proofs.Common.{ap, refl};
-    ghost use Rattle.ic_link_ops.specs.LinkSteps.{Replays};
+    ghost use Rattle.ic_link_ops.specs.LinkSteps.{TraceIs};
     ghost use Rattle.ic_link_ops.specs.StepLaws.{replays_on};
     ghost use Rattle.ic_any_collection.specs.Entries.{is_linked};
-    ghost use Rattle.ic_any_collection.specs.AnyTables.{look, covered_where_linked};
+    ghost use Rattle.ic_any_collection.specs.AnyTables.{table_in, covered_where_linked};
     ghost use Rattle.std.specs.Prelude.{⊤};
 
     type Entry = Entry;
 
-    ghost table = { look };
+    ghost table = { table_in };
 
     ghost linked = { is_linked };
 
     ghost CanName = { λ p. ⊤ };
 
-    ghost Does = { λ old new s. Replays is_linked (look old) (look new) s };
+    ghost Trace = { λ old new s. TraceIs is_linked (table_in old) (table_in new) s };
 
-    ghost Refused = { λ old new p. IsLinked is_linked (look old) p × (new ≡ old) };
+    ghost Refused = { λ old new p. IsLinked is_linked (table_in old) p × (new ≡ old) };
 
     #[inline]
     fn acquire_link(&mut self, place: Place) -> bool {
@@ -173,11 +168,11 @@ impl<M: Allocator> LinkOps for AnyTable<M> {
 
     ghost does_nothing = { λ t q. refl };
 
-    ghost does_on = { λ a b c s t h k. replays_on is_linked s t (look a) (look b) (look c) h k };
+    ghost does_on = { λ a b c s t h k. replays_on is_linked s t (table_in a) (table_in b) (table_in c) h k };
 
     ghost does_replay = { λ old new s h. h };
 
-    ghost refused_keeps = { λ old new p h. ap look h.1 };
+    ghost refused_keeps = { λ old new p h. ap table_in h.1 };
 }
 
 impl<M: Allocator> SinglyLinkedListOps for AnyTable<M> {
@@ -192,9 +187,7 @@ impl<M: Allocator> SinglyLinkedListOps for AnyTable<M> {
             Self::Singly(links) => SinglyLinkedListOps::next(links, place),
             Self::Xor(links) => SinglyLinkedListOps::next(links, place),
             Self::WithPrev(TableWithPrev::Doubly(links)) => SinglyLinkedListOps::next(links, place),
-            Self::WithPrev(TableWithPrev::Tree(TreeTable(links))) => SinglyLinkedListOps::next(
-                links, place,
-            ),
+            Self::WithPrev(TableWithPrev::Tree(links)) => SinglyLinkedListOps::next(links, place),
         }
     }
 
@@ -206,7 +199,7 @@ impl<M: Allocator> SinglyLinkedListOps for AnyTable<M> {
             Self::WithPrev(TableWithPrev::Doubly(links)) => SinglyLinkedListOps::set_next(
                 links, place, next,
             ),
-            Self::WithPrev(TableWithPrev::Tree(TreeTable(links))) => SinglyLinkedListOps::set_next(
+            Self::WithPrev(TableWithPrev::Tree(links)) => SinglyLinkedListOps::set_next(
                 links, place, next,
             ),
         }
@@ -218,7 +211,7 @@ impl<M: Allocator> SinglyLinkedListOps for AnyTable<M> {
             Self::Singly(links) => links.link_before(place, next),
             Self::Xor(links) => links.link_before(place, next),
             Self::WithPrev(TableWithPrev::Doubly(links)) => links.link_before(place, next),
-            Self::WithPrev(TableWithPrev::Tree(TreeTable(links))) => links.link_before(place, next),
+            Self::WithPrev(TableWithPrev::Tree(links)) => links.link_before(place, next),
         }
     }
 
@@ -241,7 +234,7 @@ impl<M: Allocator> XorLinkedListOps for AnyTable<M> {
             Self::WithPrev(TableWithPrev::Doubly(links)) => XorLinkedListOps::next(
                 links, place, prev,
             ),
-            Self::WithPrev(TableWithPrev::Tree(TreeTable(links))) => XorLinkedListOps::next(
+            Self::WithPrev(TableWithPrev::Tree(links)) => XorLinkedListOps::next(
                 links, place, prev,
             ),
         }
@@ -255,7 +248,7 @@ impl<M: Allocator> XorLinkedListOps for AnyTable<M> {
             Self::WithPrev(TableWithPrev::Doubly(links)) => XorLinkedListOps::prev(
                 links, place, next,
             ),
-            Self::WithPrev(TableWithPrev::Tree(TreeTable(links))) => XorLinkedListOps::prev(
+            Self::WithPrev(TableWithPrev::Tree(links)) => XorLinkedListOps::prev(
                 links, place, next,
             ),
         }
@@ -267,7 +260,7 @@ impl<M: Allocator> XorLinkedListOps for AnyTable<M> {
             Self::Singly(links) => links.set(place, prev, next),
             Self::Xor(links) => links.set(place, prev, next),
             Self::WithPrev(TableWithPrev::Doubly(links)) => links.set(place, prev, next),
-            Self::WithPrev(TableWithPrev::Tree(TreeTable(links))) => links.set(place, prev, next),
+            Self::WithPrev(TableWithPrev::Tree(links)) => links.set(place, prev, next),
         }
     }
 
@@ -279,7 +272,7 @@ impl<M: Allocator> XorLinkedListOps for AnyTable<M> {
             Self::WithPrev(TableWithPrev::Doubly(links)) => XorLinkedListOps::link_between(
                 links, place, prev, next,
             ),
-            Self::WithPrev(TableWithPrev::Tree(TreeTable(links))) => XorLinkedListOps::link_between(
+            Self::WithPrev(TableWithPrev::Tree(links)) => XorLinkedListOps::link_between(
                 links, place, prev, next,
             ),
         }
@@ -293,7 +286,7 @@ impl<M: Allocator> XorLinkedListOps for AnyTable<M> {
             Self::WithPrev(TableWithPrev::Doubly(links)) => links.replace_next_or_prev(
                 place, old, new,
             ),
-            Self::WithPrev(TableWithPrev::Tree(TreeTable(links))) => links.replace_next_or_prev(
+            Self::WithPrev(TableWithPrev::Tree(links)) => links.replace_next_or_prev(
                 place, old, new,
             ),
         }

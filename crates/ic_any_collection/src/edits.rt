@@ -1,349 +1,92 @@
-//! Edits of a collection at its ends and at its cursor.
+//! Edits of a collection at a gap: at its ends, and beside its cursor.
 //!
 //! ```text
-//! queue.push_back(&mut field, place)   // Ok(()): it was not linked
-//! queue.push_front(&mut field, place)  // Err(EditError::AlreadyLinked): nothing has changed
+//! queue.insert(&mut field, Gap::Back, place)  // true: it was not linked
+//! queue.insert(&mut field, Gap::Front, place) // false: nothing has changed
 //! queue.move_next(&field);
-//! queue.remove(&mut field)             // Ok(Some(place))
+//! queue.remove(&mut field, Gap::Before)      // Some(place)
 //! ```
 
-ghost use Rattle.std.specs.Prelude.{◌≡◌, [], ◌∷◌, Some, None, is_some, IfOk, IfSome, IfNone, OnOk, OnErr, drop};
-ghost use Rattle.ic_link_ops.specs.Sequences.{first, at_front, at_back, IsAfter, IsBefore};
-ghost use Rattle.ic_link_ops.specs.Tables.{IsCovered};
-ghost use Rattle.ic_any_collection.specs.AnyTables.{look};
-ghost use Rattle.ic_any_collection.specs.Refusals as refused;
+ghost use Rattle.std.specs.Prelude.{◌≡◌, is_some, true};
+ghost use Rattle.std.specs.Bool.{OnTrue, OnFalse};
+ghost use Rattle.ic_link_ops.specs.Prelude.{first, IsCovered, IsLinked};
+ghost use Rattle.ic_any_collection.specs.AnyTables.{table_in};
+ghost use Rattle.ic_any_collection.specs.Entries.{is_linked};
+ghost use Rattle.ic_any_collection.specs.Gaps.{can_insert, can_remove, can_replace, IsGapAt, IsFrontOf, rests, onward, onto};
 
-use crate::{AnyCollection, AnyTable, EditError, TableWithPrev, ends};
-use ic_cursors::{Bidirectional, CursorOps, ForwardOnly, Position};
+use crate::gap::Gap;
+use crate::{AnyCollection, AnyTable, at_gap};
+use ic_cursors::{Bidirectional, ForwardOnly};
 use ic_unsafe_ref::Place;
 use std::alloc::Allocator;
 
-// The answer of a call that puts an object in, by whether its link was acquired.
-#[inline]
-fn put_if(acquired: bool) -> Result<(), EditError>
-    ensures { result ≡ refused.put_if acquired }
-{
-    if !acquired {
-        return Err(EditError::AlreadyLinked);
-    }
-    Ok(())
-}
-
-// The answer of a call that puts an object in the place of the member `out`, if there is one, by whether its link was acquired.
-#[inline]
-fn swapped_if(out: Option<Place>, acquired: bool) -> Result<Place, EditError>
-    ensures { result ≡ refused.swapped_if out acquired }
-{
-    match out {
-        None => Err(EditError::NothingThere),
-        Some(out) => {
-            if acquired {
-                Ok(out)
-            } else {
-                Err(EditError::AlreadyLinked)
-            }
-        }
-    }
-}
-
 impl<T> AnyCollection<T> {
-    ghost use Rattle.ic_any_collection.specs.AnyCollection.{kind_in, cursor_in, members_in, has_before, is_list, is_two_way_list, is_singly, Held};
-    ghost use Rattle.ic_any_collection.specs.Edits.{AtGap, Moves, Puts, Takes, Swaps, IsUnchanged};
-    ghost use Rattle.ic_any_collection.specs.Refusals.{refusal_in, refusal_of_kind, refusal_of_object, refusal_of_put, refusal_of_swap};
+    ghost use Rattle.ic_any_collection.specs.AnyCollection.{kind_in, cursor_in, members_in, Held};
+    ghost use Rattle.ic_any_collection.specs.Edits.{AtGap, Puts, TakesIfAny, SwapsIfAny, IsUnchanged};
 
-    /// Puts the object in front of all members of a list, and the cursor to null. O(1).
+    /// Puts the object into the gap, and returns whether its link was acquired: an object that is linked changes nothing. At an end of a
+    /// list the cursor goes to null, elsewhere it stays. O(1), in a tree O(log n).
     ///
-    /// It requires that the object's place is covered. Refused: `WrongKind` of a tree, `AlreadyLinked`.
-    #[inline]
-    pub fn push_front<M: Allocator>(
+    /// It requires that the kind has the gap, as [`Gap::can_insert`] says, and that the object's place is covered.
+    #[inline(always)]
+    pub fn insert<M: Allocator>(&mut self, links: &mut AnyTable<M>, gap: Gap, object: Place) -> bool
+        requires held { Held (table_in links.old) self.old }
+        requires can { can_insert gap (kind_in self.old) ≡ true }
+        requires covered { IsCovered (table_in links.old) object }
+        ensures inserted { OnTrue result (AtGap (members_in (table_in links.old) self.old) (λ cut. IsGapAt gap (cursor_in self.old) cut
+            × Puts (table_in links.old) (table_in links.new) self.old self.new cut object (rests gap (cursor_in self.old)))) }
+        ensures refused { OnFalse result (IsLinked is_linked (table_in links.old) object × IsUnchanged links.old links.new self.old self.new) }
+    {
+        match self {
+            Self::Singly(list, at) => at_gap::insert_after(list, links, at, gap, object),
+            Self::Doubly(list, at) => at_gap::insert(list, links.with_prev_mut(), at, gap, object),
+            Self::Xor(list, at) => at_gap::insert(list, links, at, gap, object),
+            Self::Tree(tree, at) => at_gap::insert(tree, links.tree_mut(), at, gap, object),
+        }
+    }
+
+    /// Takes the member out that is meant at the gap, and returns it, `None` where there is none. At an end of a list the cursor goes to
+    /// null; where it is on the member, it goes on to the next one. O(1), in a tree O(log n).
+    ///
+    /// It requires that the kind has the call, as [`Gap::can_remove`] says.
+    #[inline(always)]
+    pub fn remove<M: Allocator>(&mut self, links: &mut AnyTable<M>, gap: Gap) -> Option<Place>
+        requires held { Held (table_in links.old) self.old }
+        requires can { can_remove gap (kind_in self.old) ≡ true }
+        ensures { AtGap (members_in (table_in links.old) self.old) (λ cut. IsFrontOf gap (members_in (table_in links.old) self.old) (cursor_in self.old) cut
+            × (result ≡ first cut.back) × TakesIfAny links.old links.new self.old self.new cut (onward gap (cursor_in self.old) cut) result) }
+    {
+        match self {
+            Self::Singly(list, at) => at_gap::remove_after(list, links, at, gap),
+            Self::Doubly(list, at) => at_gap::remove(list, links.with_prev_mut(), at, gap),
+            Self::Xor(list, at) => at_gap::remove(list, links, at, gap),
+            Self::Tree(tree, at) => tree.remove_at(links.tree_mut(), at),
+        }
+    }
+
+    /// Swaps the member that is meant at the gap for the object, and returns it, with whether the object's link was acquired. A cursor that
+    /// was on the member is on the object then. Where there is no member, and where the object is linked, nothing has changed. O(1).
+    ///
+    /// It requires that the kind has the call, as [`Gap::can_replace`] says, and that the object's place is covered.
+    #[inline(always)]
+    pub fn replace<M: Allocator>(
         &mut self,
         links: &mut AnyTable<M>,
+        gap: Gap,
         object: Place,
-    ) -> Result<(), EditError>
-        requires held { Held (look links.old) self.old }
-        requires covered { IsCovered (look links.old) object }
-        ensures tested { refusal_in result ≡ refusal_of_put (is_list (kind_in self.old)) (look links.old) object }
-        ensures put { OnOk result (Puts (look links.old) (look links.new) self.old self.new
-            (at_front (members_in (look links.old) self.old)) object None) }
-        ensures unchanged { OnErr result (IsUnchanged links.old links.new self.old self.new) }
+    ) -> (Option<Place>, bool)
+        requires held { Held (table_in links.old) self.old }
+        requires can { can_replace gap (kind_in self.old) ≡ true }
+        requires covered { IsCovered (table_in links.old) object }
+        ensures { AtGap (members_in (table_in links.old) self.old) (λ cut. IsFrontOf gap (members_in (table_in links.old) self.old) (cursor_in self.old) cut
+            × (is_some result.0 ≡ is_some (first cut.back)) × SwapsIfAny links.old links.new self.old self.new cut object (onto gap (cursor_in self.old) object) result.0 result.1) }
     {
+        let _ = gap;
         match self {
-            Self::Singly(list, at) => put_if(ends::push_front(list, at, links, object)),
-            Self::Doubly(list, at) => match links {
-                AnyTable::WithPrev(links) => put_if(ends::push_front(list, at, links, object)),
-                AnyTable::Singly(_) | AnyTable::Xor(_) => unreachable!(), // proved: it carries no such list
-            },
-            Self::Xor(list, at) => put_if(ends::push_front(list, at, links, object)),
-            Self::Tree(..) => Err(EditError::WrongKind),
-        }
-    }
-
-    /// Puts the object behind all members of a doubly linked or an XOR list, and the cursor to null. O(1).
-    ///
-    /// It requires that the object's place is covered. Refused: `WrongKind` of the other kinds, `AlreadyLinked`.
-    #[inline]
-    pub fn push_back<M: Allocator>(
-        &mut self,
-        links: &mut AnyTable<M>,
-        object: Place,
-    ) -> Result<(), EditError>
-        requires held { Held (look links.old) self.old }
-        requires covered { IsCovered (look links.old) object }
-        ensures tested { refusal_in result ≡ refusal_of_put (is_two_way_list (kind_in self.old)) (look links.old) object }
-        ensures put { OnOk result (Puts (look links.old) (look links.new) self.old self.new
-            (at_back (members_in (look links.old) self.old)) object None) }
-        ensures unchanged { OnErr result (IsUnchanged links.old links.new self.old self.new) }
-    {
-        match self {
-            Self::Doubly(list, at) => match links {
-                AnyTable::WithPrev(links) => put_if(ends::push_back(list, at, links, object)),
-                AnyTable::Singly(_) | AnyTable::Xor(_) => unreachable!(),
-            },
-            Self::Xor(list, at) => put_if(ends::push_back(list, at, links, object)),
-            Self::Singly(..) | Self::Tree(..) => Err(EditError::WrongKind),
-        }
-    }
-
-    /// Takes the first member out of a list and returns it, `None` where there is none, and puts the cursor to null. O(1).
-    ///
-    /// Refused: `WrongKind` of a tree.
-    #[inline]
-    pub fn pop_front<M: Allocator>(
-        &mut self,
-        links: &mut AnyTable<M>,
-    ) -> Result<Option<Place>, EditError>
-        requires held { Held (look links.old) self.old }
-        ensures tested { refusal_in result ≡ refusal_of_kind (is_list (kind_in self.old)) }
-        ensures taken { IfOk result (λ out. IfSome out (λ p. Takes (look links.old) (look links.new) self.old self.new
-            (at_front (members_in (look links.old) self.old)) p None)) }
-        ensures none { IfOk result (λ out. IfNone out ((members_in (look links.old) self.old ≡ []) × (links.new ≡ links.old)
-            × Moves (look links.old) self.old self.new None)) }
-        ensures unchanged { OnErr result (IsUnchanged links.old links.new self.old self.new) }
-    {
-        match self {
-            Self::Singly(list, at) => Ok(ends::pop_front(list, at, links)),
-            Self::Doubly(list, at) => match links {
-                AnyTable::WithPrev(links) => Ok(ends::pop_front(list, at, links)),
-                AnyTable::Singly(_) | AnyTable::Xor(_) => unreachable!(),
-            },
-            Self::Xor(list, at) => Ok(ends::pop_front(list, at, links)),
-            Self::Tree(..) => Err(EditError::WrongKind),
-        }
-    }
-
-    /// Takes the last member out of a doubly linked or an XOR list and returns it, `None` where there is none, and puts the cursor to
-    /// null. O(1).
-    ///
-    /// Refused: `WrongKind` of the other kinds.
-    #[inline]
-    pub fn pop_back<M: Allocator>(
-        &mut self,
-        links: &mut AnyTable<M>,
-    ) -> Result<Option<Place>, EditError>
-        requires held { Held (look links.old) self.old }
-        ensures tested { refusal_in result ≡ refusal_of_kind (is_two_way_list (kind_in self.old)) }
-        ensures taken { IfOk result (λ out. IfSome out (λ p. AtGap (members_in (look links.old) self.old) (λ gap. (gap.back ≡ p ∷ [])
-            × Takes (look links.old) (look links.new) self.old self.new gap p None))) }
-        ensures none { IfOk result (λ out. IfNone out ((members_in (look links.old) self.old ≡ []) × (links.new ≡ links.old)
-            × Moves (look links.old) self.old self.new None)) }
-        ensures unchanged { OnErr result (IsUnchanged links.old links.new self.old self.new) }
-    {
-        match self {
-            Self::Doubly(list, at) => match links {
-                AnyTable::WithPrev(links) => Ok(ends::pop_back(list, at, links)),
-                AnyTable::Singly(_) | AnyTable::Xor(_) => unreachable!(),
-            },
-            Self::Xor(list, at) => Ok(ends::pop_back(list, at, links)),
-            Self::Singly(..) | Self::Tree(..) => Err(EditError::WrongKind),
-        }
-    }
-
-    /// Puts the object behind the cursor, at null in front of all. The cursor stays. O(1), in a tree O(log n).
-    ///
-    /// It requires that the object's place is covered. Refused: `AlreadyLinked`.
-    #[inline]
-    pub fn insert_after<M: Allocator>(
-        &mut self,
-        links: &mut AnyTable<M>,
-        object: Place,
-    ) -> Result<(), EditError>
-        requires held { Held (look links.old) self.old }
-        requires covered { IsCovered (look links.old) object }
-        ensures tested { refusal_in result ≡ refusal_of_object (look links.old) object }
-        ensures put { OnOk result (AtGap (members_in (look links.old) self.old) (λ gap. IsAfter gap (cursor_in self.old)
-            × Puts (look links.old) (look links.new) self.old self.new gap object (cursor_in self.old))) }
-        ensures unchanged { OnErr result (IsUnchanged links.old links.new self.old self.new) }
-    {
-        match self {
-            Self::Singly(list, at) => put_if(list.insert_after_at(links, at, object)),
-            Self::Doubly(list, at) => match links {
-                AnyTable::WithPrev(links) => put_if(list.insert_after_at(links, at, object)),
-                AnyTable::Singly(_) | AnyTable::Xor(_) => unreachable!(),
-            },
-            Self::Xor(list, at) => put_if(list.insert_after_at(links, at, object)),
-            Self::Tree(tree, at) => match links {
-                AnyTable::WithPrev(TableWithPrev::Tree(links)) => {
-                    put_if(tree.insert_after_at(links, at, object))
-                }
-                AnyTable::WithPrev(TableWithPrev::Doubly(_))
-                | AnyTable::Singly(_)
-                | AnyTable::Xor(_) => unreachable!(),
-            },
-        }
-    }
-
-    /// Puts the object in front of the cursor, at null behind all. The cursor stays. O(1), in a tree O(log n).
-    ///
-    /// It requires that the object's place is covered. Refused: `WrongKind` of a singly linked list, `AlreadyLinked`.
-    #[inline]
-    pub fn insert_before<M: Allocator>(
-        &mut self,
-        links: &mut AnyTable<M>,
-        object: Place,
-    ) -> Result<(), EditError>
-        requires held { Held (look links.old) self.old }
-        requires covered { IsCovered (look links.old) object }
-        ensures tested { refusal_in result ≡ refusal_of_put (has_before (kind_in self.old)) (look links.old) object }
-        ensures put { OnOk result (AtGap (members_in (look links.old) self.old) (λ gap. IsBefore gap (cursor_in self.old)
-            × Puts (look links.old) (look links.new) self.old self.new gap object (cursor_in self.old))) }
-        ensures unchanged { OnErr result (IsUnchanged links.old links.new self.old self.new) }
-    {
-        match self {
-            Self::Singly(..) => Err(EditError::WrongKind),
-            Self::Doubly(list, at) => match links {
-                AnyTable::WithPrev(links) => put_if(list.insert_before_at(links, at, object)),
-                AnyTable::Singly(_) | AnyTable::Xor(_) => unreachable!(),
-            },
-            Self::Xor(list, at) => put_if(list.insert_before_at(links, at, object)),
-            Self::Tree(tree, at) => match links {
-                AnyTable::WithPrev(TableWithPrev::Tree(links)) => {
-                    put_if(tree.insert_before_at(links, at, object))
-                }
-                AnyTable::WithPrev(TableWithPrev::Doubly(_))
-                | AnyTable::Singly(_)
-                | AnyTable::Xor(_) => unreachable!(),
-            },
-        }
-    }
-
-    /// Takes the member out that the cursor is on and returns it, `None` at null. The cursor goes on to the next member. O(1), in a tree
-    /// O(log n).
-    ///
-    /// Refused: `WrongKind` of a singly linked list.
-    #[inline]
-    pub fn remove<M: Allocator>(
-        &mut self,
-        links: &mut AnyTable<M>,
-    ) -> Result<Option<Place>, EditError>
-        requires held { Held (look links.old) self.old }
-        ensures tested { refusal_in result ≡ refusal_of_kind (has_before (kind_in self.old)) }
-        ensures taken { IfOk result (λ out. IfSome out (λ p. AtGap (members_in (look links.old) self.old) (λ gap. IsBefore gap (cursor_in self.old)
-            × Takes (look links.old) (look links.new) self.old self.new gap p (first (drop 1 gap.back))))) }
-        ensures answer { IfOk result (λ out. out ≡ cursor_in self.old) }
-        ensures null { IfOk result (λ out. IfNone out ((self.new ≡ self.old) × (links.new ≡ links.old))) }
-        ensures unchanged { OnErr result (IsUnchanged links.old links.new self.old self.new) }
-    {
-        match self {
-            Self::Singly(..) => Err(EditError::WrongKind),
-            Self::Doubly(list, at) => match links {
-                AnyTable::WithPrev(links) => Ok(list.remove_at(links, at)),
-                AnyTable::Singly(_) | AnyTable::Xor(_) => unreachable!(),
-            },
-            Self::Xor(list, at) => Ok(list.remove_at(links, at)),
-            Self::Tree(tree, at) => match links {
-                AnyTable::WithPrev(TableWithPrev::Tree(links)) => Ok(tree.remove_at(links, at)),
-                AnyTable::WithPrev(TableWithPrev::Doubly(_))
-                | AnyTable::Singly(_)
-                | AnyTable::Xor(_) => unreachable!(),
-            },
-        }
-    }
-
-    /// Takes the member behind the cursor of a singly linked list out and returns it, at null the first one; `None` where there is none.
-    /// The cursor stays. O(1).
-    ///
-    /// Refused: `WrongKind` of the other kinds.
-    #[inline]
-    pub fn remove_next<M: Allocator>(
-        &mut self,
-        links: &mut AnyTable<M>,
-    ) -> Result<Option<Place>, EditError>
-        requires held { Held (look links.old) self.old }
-        ensures tested { refusal_in result ≡ refusal_of_kind (is_singly (kind_in self.old)) }
-        ensures taken { IfOk result (λ out. IfSome out (λ p. AtGap (members_in (look links.old) self.old) (λ gap. IsAfter gap (cursor_in self.old)
-            × Takes (look links.old) (look links.new) self.old self.new gap p (cursor_in self.old)))) }
-        ensures none { IfOk result (λ out. IfNone out (AtGap (members_in (look links.old) self.old) (λ gap. IsAfter gap (cursor_in self.old)
-            × (first gap.back ≡ None)) × (self.new ≡ self.old) × (links.new ≡ links.old))) }
-        ensures unchanged { OnErr result (IsUnchanged links.old links.new self.old self.new) }
-    {
-        match self {
-            Self::Singly(list, at) => Ok(list.remove_next_at(links, at)),
-            Self::Doubly(..) | Self::Xor(..) | Self::Tree(..) => Err(EditError::WrongKind),
-        }
-    }
-
-    /// Puts the object in the place of the member that the cursor is on, which it returns. The cursor is on the object then. O(1).
-    ///
-    /// It requires that the object's place is covered. Refused: `WrongKind` of a singly linked list, `NothingThere` at null,
-    /// `AlreadyLinked`.
-    #[inline]
-    pub fn replace_with<M: Allocator>(
-        &mut self,
-        links: &mut AnyTable<M>,
-        object: Place,
-    ) -> Result<Place, EditError>
-        requires held { Held (look links.old) self.old }
-        requires covered { IsCovered (look links.old) object }
-        ensures tested { refusal_in result ≡ refusal_of_swap (has_before (kind_in self.old)) (is_some (cursor_in self.old)) (look links.old) object }
-        ensures swapped { IfOk result (λ out. AtGap (members_in (look links.old) self.old) (λ gap. IsBefore gap (cursor_in self.old)
-            × Swaps (look links.old) (look links.new) self.old self.new gap object out (Some object))) }
-        ensures unchanged { OnErr result (IsUnchanged links.old links.new self.old self.new) }
-    {
-        match self {
-            Self::Singly(..) => Err(EditError::WrongKind),
-            Self::Doubly(list, at) => match links {
-                AnyTable::WithPrev(links) => {
-                    swapped_if(at.get(), list.replace_at(links, at, object))
-                }
-                AnyTable::Singly(_) | AnyTable::Xor(_) => unreachable!(),
-            },
-            Self::Xor(list, at) => swapped_if(at.get(), list.replace_at(links, at, object)),
-            Self::Tree(tree, at) => match links {
-                AnyTable::WithPrev(TableWithPrev::Tree(links)) => {
-                    swapped_if(at.get(), tree.replace_at(links, at, object))
-                }
-                AnyTable::WithPrev(TableWithPrev::Doubly(_))
-                | AnyTable::Singly(_)
-                | AnyTable::Xor(_) => unreachable!(),
-            },
-        }
-    }
-
-    /// Puts the object in the place of the member behind the cursor of a singly linked list, at null of the first one, which it returns.
-    /// The cursor stays. O(1).
-    ///
-    /// It requires that the object's place is covered. Refused: `WrongKind` of the other kinds, `NothingThere` where there is none,
-    /// `AlreadyLinked`.
-    #[inline]
-    pub fn replace_next_with<M: Allocator>(
-        &mut self,
-        links: &mut AnyTable<M>,
-        object: Place,
-    ) -> Result<Place, EditError>
-        requires held { Held (look links.old) self.old }
-        requires covered { IsCovered (look links.old) object }
-        ensures tested { AtGap (members_in (look links.old) self.old) (λ gap. IsAfter gap (cursor_in self.old)
-            × (refusal_in result ≡ refusal_of_swap (is_singly (kind_in self.old)) (is_some (first gap.back)) (look links.old) object)) }
-        ensures swapped { IfOk result (λ out. AtGap (members_in (look links.old) self.old) (λ gap. IsAfter gap (cursor_in self.old)
-            × Swaps (look links.old) (look links.new) self.old self.new gap object out (cursor_in self.old))) }
-        ensures unchanged { OnErr result (IsUnchanged links.old links.new self.old self.new) }
-    {
-        match self {
-            Self::Singly(list, at) => {
-                let (out, acquired) = list.replace_next_at(links, at, object);
-                swapped_if(out, acquired)
-            }
-            Self::Doubly(..) | Self::Xor(..) | Self::Tree(..) => Err(EditError::WrongKind),
+            Self::Singly(list, at) => list.replace_next_at(links, at, object),
+            Self::Doubly(list, at) => at_gap::replace(list, links.with_prev_mut(), at, object),
+            Self::Xor(list, at) => at_gap::replace(list, links, at, object),
+            Self::Tree(tree, at) => at_gap::replace(tree, links.tree_mut(), at, object),
         }
     }
 }

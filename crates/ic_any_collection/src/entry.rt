@@ -1,7 +1,7 @@
 //! What a clause sees of a place in a table, whatever kind of table it is.
 //!
 //! ```text
-//! (look links).entry place // an Entry: `linked`, the word for what follows, ..
+//! (table_in links).entry place // an Entry: `linked`, the word for what follows, ..
 //! ```
 
 use ic_link_ops::Color;

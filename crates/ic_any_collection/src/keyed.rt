@@ -6,13 +6,11 @@
 //! probe.looks() // with how many objects the key was compared
 //! ```
 
-ghost use Rattle.std.specs.Prelude.{◌≡◌, List, ◌++◌, Option, Some, None, true, false, IfOk, OnOk, OnErr, IfSome, IfNone};
-ghost use Rattle.ic_unsafe_ref.specs.declared.place.Place.{Place};
-ghost use Rattle.ic_link_ops.specs.Sequences.{IsBefore};
+ghost use Rattle.std.specs.Prelude.{◌≡◌, List, ◌++◌, Option, Some, None, true, false, IfOk, IfSome, IfNone};
+ghost use Rattle.std.specs.Bool.{OnTrue, OnFalse};
+ghost use Rattle.ic_link_ops.specs.Prelude.{Place, IsBefore, IsCovered, IsLinked, LinksAlso, ArePlaced, RepresentsPlaced};
 ghost use Rattle.ic_link_ops.specs.Edits.{Inserts};
-ghost use Rattle.ic_link_ops.specs.Tables.{IsCovered, IsLinked, LinksAlso};
-ghost use Rattle.ic_link_ops.specs.PlacedObjects.{ArePlaced, ShowsPlaced};
-ghost use Rattle.ic_link_ops.specs.RedBlackTree.{Shows};
+ghost use Rattle.ic_link_ops.specs.RedBlackTree.{Represents};
 ghost use Rattle.ic_rbtree.specs.Borders.{Finds, IsLowerBorder, IsUpperBorder};
 ghost use Rattle.ic_rbtree.specs.Comparing.{compared, compared_within, HasRoom, HasRoomWithin, Looks, LooksWithin};
 ghost use Rattle.ic_rbtree.specs.CursorMut as editing;
@@ -22,17 +20,17 @@ ghost use Rattle.ic_rbtree.specs.KeyProbe.{key_order, looks_of, HasAdapter};
 ghost use Rattle.ic_rbtree.specs.Ordered.{InsertsInOrder};
 ghost use Rattle.ic_rbtree.specs.Ranges.{runs_up, IsRange};
 ghost use Rattle.ic_rbtree.specs.Tree.{root_of};
-ghost use Rattle.ic_any_collection.specs.Entries.{is_linked, node};
-ghost use Rattle.ic_any_collection.specs.AnyTables.{look};
+ghost use Rattle.ic_link_ops.specs.ThreeWords.{node_of};
+ghost use Rattle.ic_any_collection.specs.Entries.{is_linked};
+ghost use Rattle.ic_any_collection.specs.AnyTables.{table_in};
 ghost use Rattle.ic_any_collection.specs.TreeTables as tree_table;
 ghost use Rattle.ic_any_collection.specs.Edits.{AtGap};
-ghost use Rattle.ic_any_collection.specs.Refusals.{refusal_in, refusal_of_object, refusal_of_put};
 ghost use Rattle.ic_any_collection.specs.Keyed.{IsVacantFor};
 
 use crate::unkeyed::Unkeyed;
-use crate::{AnyCollection, AnyTable, EditError, TableWithPrev, TreeTable};
+use crate::{AnyCollection, AnyTable};
 use ic_link_ops::PlaceWord;
-use ic_link_ops::rbtree::RBTreeOps;
+use ic_link_ops::rbtree::{self, RBTreeOps};
 use ic_rbtree::{Bound, Entry, Iter, KeyAdapter, KeyProbe, Probe, RBTree, RefusedInsert};
 use ic_unsafe_ref::{Objects, Place, UnsafeRef, Values};
 use std::alloc::{AllocError, Allocator};
@@ -45,7 +43,7 @@ fn list_walk<A: KeyAdapter, L: RBTreeOps, O: Values<A::Value>, N: Allocator>(
     mut walk: Iter<'_, A, L, O>,
 ) -> Result<Vec<Place, N>, AllocError>
     requires can_walk { CanWalk L.node L.table O.values walk }
-    requires shown { (front back : List Place) × Shows L.node (L.table links.now) (root_of tree.now)
+    requires shown { (front back : List Place) × Represents L.node (L.table links.now) (root_of tree.now)
         (front ++ (rest_of L.node L.table walk ++ back)) }
     ensures { IfOk result (λ places. places.items ≡ rest_of L.node L.table walk.entry) }
 {
@@ -76,20 +74,18 @@ impl<T> AnyCollection<T> {
         objects: &Objects<T, B>,
         probe: &mut P,
     ) -> Option<Place>
-        requires held { Held (look links.now) self.old }
+        requires held { Held (table_in links.now) self.old }
         requires can { is_tree (kind_in self.old) ≡ true }
-        requires placed { ArePlaced objects.now (members_in (look links.now) self.old) }
+        requires placed { ArePlaced objects.now (members_in (table_in links.now) self.old) }
         requires room { HasRoom (P.count probe.old) }
-        ensures found { Finds (compared (P.order probe.old) objects.now) (members_in (look links.now) self.old) result }
-        ensures looks { Looks P.order P.count probe.old probe.new (members_in (look links.now) self.old) }
-        ensures moved { Moves (look links.now) self.old self.new result }
+        ensures found { Finds (compared (P.order probe.old) objects.now) (members_in (table_in links.now) self.old) result }
+        ensures looks { Looks P.order P.count probe.old probe.new (members_in (table_in links.now) self.old) }
+        ensures moved { Moves (table_in links.now) self.old self.new result }
     {
-        let position = match (&*self, links) {
-            (Self::Tree(tree, _), AnyTable::WithPrev(TableWithPrev::Tree(links))) => {
-                tree.find_by(links, objects, probe).get_ptr()
-            }
-            _ => unreachable!(),
+        let Self::Tree(tree, _) = &*self else {
+            unreachable!()
         };
+        let position = tree.find_by(links.tree(), objects, probe).get_ptr();
         self.stand_at(links, position);
         position
     }
@@ -97,10 +93,10 @@ impl<T> AnyCollection<T> {
     // Puts the cursor on a member of a tree, or to null.
     #[inline]
     fn stand_at<M: Allocator>(&mut self, links: &AnyTable<M>, position: Option<Place>)
-        requires held { Held (look links.now) self.old }
+        requires held { Held (table_in links.now) self.old }
         requires can { is_tree (kind_in self.old) ≡ true }
-        requires member { IfSome position (λ p. AtGap (members_in (look links.now) self.old) (λ gap. IsBefore gap (Some p))) }
-        ensures { Moves (look links.now) self.old self.new position }
+        requires member { IfSome position (λ p. AtGap (members_in (table_in links.now) self.old) (λ gap. IsBefore gap (Some p))) }
+        ensures { Moves (table_in links.now) self.old self.new position }
     {
         match position {
             None => self.go_null(),
@@ -118,20 +114,18 @@ impl<T> AnyCollection<T> {
         objects: &Objects<T, B>,
         bound: &mut Bound<P>,
     ) -> Option<Place>
-        requires held { Held (look links.now) self.old }
+        requires held { Held (table_in links.now) self.old }
         requires can { is_tree (kind_in self.old) ≡ true }
-        requires placed { ArePlaced objects.now (members_in (look links.now) self.old) }
+        requires placed { ArePlaced objects.now (members_in (table_in links.now) self.old) }
         requires room { HasRoomWithin P.count bound.old }
-        ensures border { IsLowerBorder (compared_within P.order objects.now bound.old) (members_in (look links.now) self.old) result }
-        ensures looks { LooksWithin P.order P.count bound.old bound.new (members_in (look links.now) self.old) }
-        ensures moved { Moves (look links.now) self.old self.new result }
+        ensures border { IsLowerBorder (compared_within P.order objects.now bound.old) (members_in (table_in links.now) self.old) result }
+        ensures looks { LooksWithin P.order P.count bound.old bound.new (members_in (table_in links.now) self.old) }
+        ensures moved { Moves (table_in links.now) self.old self.new result }
     {
-        let position = match (&*self, links) {
-            (Self::Tree(tree, _), AnyTable::WithPrev(TableWithPrev::Tree(links))) => {
-                tree.lower_bound_by(links, objects, bound).get_ptr()
-            }
-            _ => unreachable!(),
+        let Self::Tree(tree, _) = &*self else {
+            unreachable!()
         };
+        let position = tree.lower_bound_by(links.tree(), objects, bound).get_ptr();
         self.stand_at(links, position);
         position
     }
@@ -140,27 +134,24 @@ impl<T> AnyCollection<T> {
     ///
     /// It requires what [`AnyCollection::find_by`] does, of the bound's probe. In a tree that isn't sorted for the probe the cursor is
     /// on a border. O(log n).
-    #[tactic(auto, using(crate::proofs::KeyedSearches::upper_member))]
     pub fn upper_bound_by<P: Probe<T>, M: Allocator, B: Allocator>(
         &mut self,
         links: &AnyTable<M>,
         objects: &Objects<T, B>,
         bound: &mut Bound<P>,
     ) -> Option<Place>
-        requires held { Held (look links.now) self.old }
+        requires held { Held (table_in links.now) self.old }
         requires can { is_tree (kind_in self.old) ≡ true }
-        requires placed { ArePlaced objects.now (members_in (look links.now) self.old) }
+        requires placed { ArePlaced objects.now (members_in (table_in links.now) self.old) }
         requires room { HasRoomWithin P.count bound.old }
-        ensures border { IsUpperBorder (compared_within P.order objects.now bound.old) (members_in (look links.now) self.old) result }
-        ensures looks { LooksWithin P.order P.count bound.old bound.new (members_in (look links.now) self.old) }
-        ensures moved { Moves (look links.now) self.old self.new result }
+        ensures border { IsUpperBorder (compared_within P.order objects.now bound.old) (members_in (table_in links.now) self.old) result }
+        ensures looks { LooksWithin P.order P.count bound.old bound.new (members_in (table_in links.now) self.old) }
+        ensures moved { Moves (table_in links.now) self.old self.new result }
     {
-        let position = match (&*self, links) {
-            (Self::Tree(tree, _), AnyTable::WithPrev(TableWithPrev::Tree(links))) => {
-                tree.upper_bound_by(links, objects, bound).get_ptr()
-            }
-            _ => unreachable!(),
+        let Self::Tree(tree, _) = &*self else {
+            unreachable!()
         };
+        let position = tree.upper_bound_by(links.tree(), objects, bound).get_ptr();
         self.stand_at(links, position);
         position
     }
@@ -178,38 +169,33 @@ impl<T> AnyCollection<T> {
         min: &mut Bound<KeyProbe<'_, A>>,
         max: &mut Bound<KeyProbe<'_, A>>,
     ) -> Result<Vec<Place, N>, AllocError>
-        requires held { Held (look links.now) self.now }
+        requires held { Held (table_in links.now) self.now }
         requires can { is_tree (kind_in self.now) ≡ true }
-        requires placed { ArePlaced objects.now (members_in (look links.now) self.now) }
+        requires placed { ArePlaced objects.now (members_in (table_in links.now) self.now) }
         requires min_room { HasRoomWithin looks_of min.old }
         requires max_room { HasRoomWithin looks_of max.old }
         requires min_adapter { HasAdapter adapter min.old }
         requires max_adapter { HasAdapter adapter max.old }
         ensures range { IfOk result (λ places. IsRange (compared_within (key_order A.Key.cmp A.key_of) objects.now min.old)
             (compared_within (key_order A.Key.cmp A.key_of) objects.now max.old) (runs_up A.Key.cmp (A.key_of adapter) objects.now)
-            (members_in (look links.now) self.now) places.items) }
-        ensures min_looks { LooksWithin (key_order A.Key.cmp A.key_of) looks_of min.old min.new (members_in (look links.now) self.now) }
-        ensures max_looks { LooksWithin (key_order A.Key.cmp A.key_of) looks_of max.old max.new (members_in (look links.now) self.now) }
+            (members_in (table_in links.now) self.now) places.items) }
+        ensures min_looks { LooksWithin (key_order A.Key.cmp A.key_of) looks_of min.old min.new (members_in (table_in links.now) self.now) }
+        ensures max_looks { LooksWithin (key_order A.Key.cmp A.key_of) looks_of max.old max.new (members_in (table_in links.now) self.now) }
     {
-        match self {
-            Self::Tree(tree, _) => match links {
-                AnyTable::WithPrev(TableWithPrev::Tree(links)) => {
-                    let tree = RBTree::from_root(adapter, tree.root());
-                    let walk = tree.range_by(links, objects, min, max);
-                    list_walk(alloc, &tree, links, walk)
-                }
-                AnyTable::WithPrev(TableWithPrev::Doubly(_))
-                | AnyTable::Singly(_)
-                | AnyTable::Xor(_) => unreachable!(),
-            },
-            Self::Singly(..) | Self::Doubly(..) | Self::Xor(..) => unreachable!(),
-        }
+        let Self::Tree(tree, _) = self else {
+            unreachable!()
+        };
+        let links = links.tree();
+        let tree = RBTree::from_root(adapter, tree.root());
+        let walk = tree.range_by(links, objects, min, max);
+        list_walk(alloc, &tree, links, walk)
     }
 
-    /// Puts the object where the probe's order wants it, behind members that compare equal, and the cursor on it. O(log n).
+    /// Puts the object where the probe's order wants it, after members that compare equal, and returns whether its link was acquired. Then
+    /// the cursor is on it. An object that is linked changes nothing, and asks nothing. O(log n).
     ///
-    /// It requires that an object stands at each member, that the place is covered, and that the probe's count is at most
-    /// `u64::MAX - 66`. Refused: `WrongKind` of a list, `AlreadyLinked`. A refused insert asks nothing.
+    /// It requires that this is a tree, that an object stands at each member, that the place is covered, and that the probe's count is at
+    /// most `u64::MAX - 66`.
     #[inline]
     pub fn insert_by<P: Probe<T>, M: Allocator, B: Allocator>(
         &mut self,
@@ -217,68 +203,52 @@ impl<T> AnyCollection<T> {
         objects: &Objects<T, B>,
         probe: &mut P,
         object: Place,
-    ) -> Result<(), EditError>
-        requires held { Held (look links.old) self.old }
-        requires placed { ArePlaced objects.now (members_in (look links.old) self.old) }
-        requires covered { IsCovered (look links.old) object }
+    ) -> bool
+        requires held { Held (table_in links.old) self.old }
+        requires can { is_tree (kind_in self.old) ≡ true }
+        requires placed { ArePlaced objects.now (members_in (table_in links.old) self.old) }
+        requires covered { IsCovered (table_in links.old) object }
         requires room { HasRoom (P.count probe.old) }
-        ensures tested { refusal_in result ≡ refusal_of_put (is_tree (kind_in self.old)) (look links.old) object }
-        ensures inserted { OnOk result (PutsInOrder (compared (P.order probe.old) objects.now)
-            (look links.old) (look links.new) self.old self.new object (Some object)) }
-        ensures looks { OnOk result (Looks P.order P.count probe.old probe.new (members_in (look links.old) self.old)) }
-        ensures no_look { OnErr result (probe.new ≡ probe.old) }
-        ensures unchanged { OnErr result (IsUnchanged links.old links.new self.old self.new) }
+        ensures inserted { OnTrue result (PutsInOrder (compared (P.order probe.old) objects.now)
+            (table_in links.old) (table_in links.new) self.old self.new object (Some object)) }
+        ensures looks { OnTrue result (Looks P.order P.count probe.old probe.new (members_in (table_in links.old) self.old)) }
+        ensures refused { OnFalse result (IsLinked is_linked (table_in links.old) object × (probe.new ≡ probe.old)
+            × IsUnchanged links.old links.new self.old self.new) }
     {
-        match self {
-            Self::Tree(tree, at) => match links {
-                AnyTable::WithPrev(TableWithPrev::Tree(links)) => {
-                    match put_in_order(tree, links, objects, probe, object) {
-                        Ok(()) => {
-                            *at = PlaceWord::of(Some(object));
-                            Ok(())
-                        }
-                        Err(refusal) => Err(refusal),
-                    }
-                }
-                AnyTable::WithPrev(TableWithPrev::Doubly(_))
-                | AnyTable::Singly(_)
-                | AnyTable::Xor(_) => unreachable!(),
-            },
-            Self::Singly(..) | Self::Doubly(..) | Self::Xor(..) => Err(EditError::WrongKind),
+        let Self::Tree(tree, at) = self else {
+            unreachable!()
+        };
+        if !put_in_order(tree, links.tree_mut(), objects, probe, object) {
+            return false;
         }
+        *at = PlaceWord::of(Some(object));
+        true
     }
 
-    /// Puts the object where the probe's order wants it, behind members that compare equal. The cursor stays. It requires and refuses
-    /// what [`AnyCollection::insert_by`] does.
+    /// Puts the object where the probe's order wants it, after members that compare equal, and returns whether its link was acquired. The
+    /// cursor stays. It requires what [`AnyCollection::insert_by`] does.
     pub fn cursor_insert_by<P: Probe<T>, M: Allocator, B: Allocator>(
         &mut self,
         links: &mut AnyTable<M>,
         objects: &Objects<T, B>,
         probe: &mut P,
         object: Place,
-    ) -> Result<(), EditError>
-        requires held { Held (look links.old) self.old }
-        requires placed { ArePlaced objects.now (members_in (look links.old) self.old) }
-        requires covered { IsCovered (look links.old) object }
+    ) -> bool
+        requires held { Held (table_in links.old) self.old }
+        requires can { is_tree (kind_in self.old) ≡ true }
+        requires placed { ArePlaced objects.now (members_in (table_in links.old) self.old) }
+        requires covered { IsCovered (table_in links.old) object }
         requires room { HasRoom (P.count probe.old) }
-        ensures tested { refusal_in result ≡ refusal_of_put (is_tree (kind_in self.old)) (look links.old) object }
-        ensures inserted { OnOk result (PutsInOrder (compared (P.order probe.old) objects.now)
-            (look links.old) (look links.new) self.old self.new object (cursor_in self.old)) }
-        ensures looks { OnOk result (Looks P.order P.count probe.old probe.new (members_in (look links.old) self.old)) }
-        ensures no_look { OnErr result (probe.new ≡ probe.old) }
-        ensures unchanged { OnErr result (IsUnchanged links.old links.new self.old self.new) }
+        ensures inserted { OnTrue result (PutsInOrder (compared (P.order probe.old) objects.now)
+            (table_in links.old) (table_in links.new) self.old self.new object (cursor_in self.old)) }
+        ensures looks { OnTrue result (Looks P.order P.count probe.old probe.new (members_in (table_in links.old) self.old)) }
+        ensures refused { OnFalse result (IsLinked is_linked (table_in links.old) object × (probe.new ≡ probe.old)
+            × IsUnchanged links.old links.new self.old self.new) }
     {
-        match self {
-            Self::Tree(tree, _) => match links {
-                AnyTable::WithPrev(TableWithPrev::Tree(links)) => {
-                    put_in_order(tree, links, objects, probe, object)
-                }
-                AnyTable::WithPrev(TableWithPrev::Doubly(_))
-                | AnyTable::Singly(_)
-                | AnyTable::Xor(_) => unreachable!(),
-            },
-            Self::Singly(..) | Self::Doubly(..) | Self::Xor(..) => Err(EditError::WrongKind),
-        }
+        let Self::Tree(tree, _) = self else {
+            unreachable!()
+        };
+        put_in_order(tree, links.tree_mut(), objects, probe, object)
     }
 
     /// Puts the cursor on the first member that compares equal, or puts the object into the gap where what is searched would stand
@@ -294,97 +264,92 @@ impl<T> AnyCollection<T> {
         probe: &mut P,
         object: Place,
     ) -> Option<(bool, Place)>
-        requires held { Held (look links.old) self.old }
+        requires held { Held (table_in links.old) self.old }
         requires can { is_tree (kind_in self.old) ≡ true }
-        requires placed { ArePlaced objects.now (members_in (look links.old) self.old) }
-        requires covered { IsCovered (look links.old) object }
+        requires placed { ArePlaced objects.now (members_in (table_in links.old) self.old) }
+        requires covered { IsCovered (table_in links.old) object }
         requires room { HasRoom (P.count probe.old) }
         ensures occupied { IfSome result (λ e. e.0 ≡ true → Finds (compared (P.order probe.old) objects.now)
-            (members_in (look links.old) self.old) (Some e.1) × (links.new ≡ links.old)
-            × Moves (look links.old) self.old self.new (Some e.1)) }
+            (members_in (table_in links.old) self.old) (Some e.1) × (links.new ≡ links.old)
+            × Moves (table_in links.old) self.old self.new (Some e.1)) }
         ensures vacant { IfSome result (λ e. e.0 ≡ false → (e.1 ≡ object)
             × PutsAtKey (compared (P.order probe.old) objects.now)
-            (look links.old) (look links.new) self.old self.new object (Some object)) }
-        ensures looks { Looks P.order P.count probe.old probe.new (members_in (look links.old) self.old) }
-        ensures refused { IfNone result (IsLinked is_linked (look links.old) object
-            × AtGap (members_in (look links.old) self.old) (IsVacantFor (compared (P.order probe.old) objects.now))
+            (table_in links.old) (table_in links.new) self.old self.new object (Some object)) }
+        ensures looks { Looks P.order P.count probe.old probe.new (members_in (table_in links.old) self.old) }
+        ensures refused { IfNone result (IsLinked is_linked (table_in links.old) object
+            × AtGap (members_in (table_in links.old) self.old) (IsVacantFor (compared (P.order probe.old) objects.now))
             × IsUnchanged links.old links.new self.old self.new) }
     {
-        match self {
-            Self::Tree(tree, at) => match links {
-                AnyTable::WithPrev(TableWithPrev::Tree(links)) => {
-                    let (is_member, place) = put_at_key(tree, links, objects, probe, object)?;
-                    *at = PlaceWord::of(Some(place));
-                    Some((is_member, place))
-                }
-                AnyTable::WithPrev(TableWithPrev::Doubly(_))
-                | AnyTable::Singly(_)
-                | AnyTable::Xor(_) => unreachable!(),
-            },
-            Self::Singly(..) | Self::Doubly(..) | Self::Xor(..) => unreachable!(),
-        }
+        let Self::Tree(tree, at) = self else {
+            unreachable!()
+        };
+        let Some((is_member, place)) = put_at_key(tree, links.tree_mut(), objects, probe, object)
+        else {
+            return None;
+        };
+        *at = PlaceWord::of(Some(place));
+        Some((is_member, place))
     }
 }
 
-// Puts the object where the probe's order wants it.
+// Puts the object where the probe's order wants it, and returns whether its link was acquired.
 #[inline]
 fn put_in_order<T, P: Probe<T>, M: Allocator, B: Allocator>(
     tree: &mut RBTree<Unkeyed<T>>,
-    links: &mut TreeTable<M>,
+    links: &mut rbtree::LinkOps<M>,
     objects: &Objects<T, B>,
     probe: &mut P,
     object: Place,
-) -> Result<(), EditError>
-    requires placed { ShowsPlaced (Shows node (tree_table.look links.old) (root_of tree.old)) objects.now }
-    requires covered { IsCovered (tree_table.look links.old) object }
+) -> bool
+    requires placed { RepresentsPlaced (Represents node_of (tree_table.table_in links.old) (root_of tree.old)) objects.now }
+    requires covered { IsCovered (tree_table.table_in links.old) object }
     requires room { HasRoom (P.count probe.old) }
-    ensures tested { refusal_in result ≡ refusal_of_object (tree_table.look links.old) object }
-    ensures inserted { (s : List Place) → Shows node (tree_table.look links.old) (root_of tree.old) s → OnOk result
-        (InsertsInOrder (Shows node) (compared (P.order probe.old) objects.now)
-        (tree_table.look links.old) (tree_table.look links.new) (root_of tree.new) s object) }
-    ensures acquired { OnOk result (LinksAlso is_linked (tree_table.look links.old) (tree_table.look links.new) object) }
-    ensures looks { (s : List Place) → Shows node (tree_table.look links.old) (root_of tree.old) s
-        → OnOk result (Looks P.order P.count probe.old probe.new s) }
-    ensures no_look { OnErr result (probe.new ≡ probe.old) }
-    ensures unchanged { OnErr result ((tree.new ≡ tree.old) × (links.new ≡ links.old)) }
+    ensures inserted { (s : List Place) → Represents node_of (tree_table.table_in links.old) (root_of tree.old) s → OnTrue result
+        (InsertsInOrder (Represents node_of) (compared (P.order probe.old) objects.now)
+        (tree_table.table_in links.old) (tree_table.table_in links.new) (root_of tree.new) s object) }
+    ensures acquired { OnTrue result (LinksAlso tree_table.is_linked (tree_table.table_in links.old) (tree_table.table_in links.new) object) }
+    ensures looks { (s : List Place) → Represents node_of (tree_table.table_in links.old) (root_of tree.old) s
+        → OnTrue result (Looks P.order P.count probe.old probe.new s) }
+    ensures refused { OnFalse result (IsLinked tree_table.is_linked (tree_table.table_in links.old) object × (probe.new ≡ probe.old)) }
+    ensures unchanged { OnFalse result ((tree.new ≡ tree.old) × (links.new ≡ links.old)) }
 {
     let object = UnsafeRef::new(object);
     let Ok(()) = tree.insert_by(links, objects, probe, object) else {
-        return Err(EditError::AlreadyLinked);
+        return false;
     };
-    Ok(())
+    true
 }
 
 // The first member that compares equal, or the object, which goes into the gap where the search ended; `None` where it is linked.
 fn put_at_key<T, P: Probe<T>, M: Allocator, B: Allocator>(
     tree: &mut RBTree<Unkeyed<T>>,
-    links: &mut TreeTable<M>,
+    links: &mut rbtree::LinkOps<M>,
     objects: &Objects<T, B>,
     probe: &mut P,
     object: Place,
 ) -> Option<(bool, Place)>
-    requires placed { ShowsPlaced (Shows node (tree_table.look links.old) (root_of tree.old)) objects.now }
+    requires placed { RepresentsPlaced (Represents node_of (tree_table.table_in links.old) (root_of tree.old)) objects.now }
     requires room { HasRoom (P.count probe.old) }
-    requires covered { IsCovered (tree_table.look links.old) object }
-    ensures found { (s : List Place) → Shows node (tree_table.look links.old) (root_of tree.old) s → IfSome result (λ e. e.0 ≡ true
+    requires covered { IsCovered (tree_table.table_in links.old) object }
+    ensures found { (s : List Place) → Represents node_of (tree_table.table_in links.old) (root_of tree.old) s → IfSome result (λ e. e.0 ≡ true
         → Finds (compared (P.order probe.old) objects.now) s (Some e.1)) }
     ensures stays { IfSome result (λ e. e.0 ≡ true → (tree.new ≡ tree.old) × (links.new ≡ links.old)) }
-    ensures put { (s : List Place) → Shows node (tree_table.look links.old) (root_of tree.old) s → IfSome result (λ e. e.0 ≡ false
+    ensures put { (s : List Place) → Represents node_of (tree_table.table_in links.old) (root_of tree.old) s → IfSome result (λ e. e.0 ≡ false
         → AtGap s (λ gap. IsVacantFor (compared (P.order probe.old) objects.now) gap
-        × Inserts (Shows node) (tree_table.look links.old) (tree_table.look links.new) (root_of tree.new) gap object)) }
+        × Inserts (Represents node_of) (tree_table.table_in links.old) (tree_table.table_in links.new) (root_of tree.new) gap object)) }
     ensures links { IfSome result (λ e. e.0 ≡ false → (e.1 ≡ object)
-        × LinksAlso is_linked (tree_table.look links.old) (tree_table.look links.new) object) }
-    ensures refused { (s : List Place) → Shows node (tree_table.look links.old) (root_of tree.old) s → IfNone result
+        × LinksAlso tree_table.is_linked (tree_table.table_in links.old) (tree_table.table_in links.new) object) }
+    ensures refused { (s : List Place) → Represents node_of (tree_table.table_in links.old) (root_of tree.old) s → IfNone result
         (AtGap s (IsVacantFor (compared (P.order probe.old) objects.now))) }
-    ensures unchanged { IfNone result (IsLinked is_linked (tree_table.look links.old) object
+    ensures unchanged { IfNone result (IsLinked tree_table.is_linked (tree_table.table_in links.old) object
         × (tree.new ≡ tree.old) × (links.new ≡ links.old)) }
-    ensures looks { (s : List Place) → Shows node (tree_table.look links.old) (root_of tree.old) s
+    ensures looks { (s : List Place) → Represents node_of (tree_table.table_in links.old) (root_of tree.old) s
         → Looks P.order P.count probe.old probe.new s }
 {
     match tree.entry_by(links, objects, probe) {
         Entry::Occupied(found) => Some((true, found.get_ptr().unwrap())),
         vacant => match vacant.or_insert(UnsafeRef::new(object)) {
-            Ok(cursor) => Some((false, cursor.get_ptr().unwrap())),
+            Ok(_cursor) => Some((false, object)),
             Err(
                 RefusedInsert {
                     gap: _gap,

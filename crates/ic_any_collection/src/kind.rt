@@ -9,9 +9,9 @@ ghost use Rattle.std.specs.Prelude.{◌≡◌};
 /// A kind of tables, and of the collections that ask for all that such a table keeps.
 #[derive(Clone, Copy, PartialEq, Eq, Debug)]
 pub enum Kind {
-    /// Singly linked: the place behind.
+    /// Singly linked: the place after.
     Singly,
-    /// Doubly linked: the place behind, and the one before.
+    /// Doubly linked: the place after, and the one before.
     Doubly,
     /// XOR linked: the exclusive or of both, in one word.
     Xor,

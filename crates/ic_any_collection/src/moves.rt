@@ -5,14 +5,12 @@
 //! queue.move_next(&field) // the first member, or none
 //! ```
 
-ghost use Rattle.std.specs.Prelude.{◌≡◌, List, Some, None, true, IfOk, OnOk, OnErr};
-ghost use Rattle.ic_unsafe_ref.specs.declared.place.Place.{Place};
-ghost use Rattle.ic_link_ops.specs.Sequences.{first, last, IsAfter, IsBefore};
-ghost use Rattle.ic_link_ops.specs.Tables.{Table};
+ghost use Rattle.std.specs.Prelude.{◌≡◌, List, Some, None, true};
+ghost use Rattle.ic_link_ops.specs.Prelude.{Place, first, last, IsAfter, IsBefore, Table};
 ghost use Rattle.ic_any_collection.specs.declared.entry.Entry.{Entry};
-ghost use Rattle.ic_any_collection.specs.AnyTables.{look};
+ghost use Rattle.ic_any_collection.specs.AnyTables.{table_in};
 
-use crate::{AnyCollection, AnyTable, EditError, TableWithPrev};
+use crate::{AnyCollection, AnyTable};
 use ic_chain::ListPosition;
 use ic_cursors::{Bidirectional, CursorOps, Position};
 use ic_link_ops::PlaceWord;
@@ -32,7 +30,6 @@ fn moved_to<P: Position>(at: &mut P, to: P) -> Option<Place>
 impl<T> AnyCollection<T> {
     ghost use Rattle.ic_any_collection.specs.AnyCollection.{kind_in, cursor_in, members_in, has_before, is_xor, Keeps, Held, Alike};
     ghost use Rattle.ic_any_collection.specs.Edits.{AtGap, Moves};
-    ghost use Rattle.ic_any_collection.specs.Refusals.{refusal_in, refusal_of_kind};
 
     /// Moves the cursor to null. It reads no table, and requires nothing. O(1).
     #[inline]
@@ -41,11 +38,12 @@ impl<T> AnyCollection<T> {
         ensures alike { Alike self.old self.new }
         ensures null { cursor_in self.new ≡ None }
     {
+        let null = PlaceWord::of(None);
         match self {
-            Self::Singly(_, at) => *at = ListPosition::null(),
-            Self::Doubly(_, at) => *at = ListPosition::null(),
+            Self::Singly(_, at) => *at = null,
+            Self::Doubly(_, at) => *at = null,
             Self::Xor(_, at) => *at = ListPosition::null(),
-            Self::Tree(_, at) => *at = ListPosition::null(),
+            Self::Tree(_, at) => *at = null,
         }
     }
 
@@ -55,77 +53,54 @@ impl<T> AnyCollection<T> {
     /// It requires that the field's table keeps the collection, as all calls do that take the table.
     #[inline]
     pub fn move_next<M: Allocator>(&mut self, links: &AnyTable<M>) -> Option<Place>
-        requires held { Held (look links.now) self.old }
-        ensures moved { AtGap (members_in (look links.now) self.old) (λ gap. IsAfter gap (cursor_in self.old)
-            × Moves (look links.now) self.old self.new (first gap.back)) }
+        requires held { Held (table_in links.now) self.old }
+        ensures moved { AtGap (members_in (table_in links.now) self.old) (λ gap. IsAfter gap (cursor_in self.old)
+            × Moves (table_in links.now) self.old self.new (first gap.back)) }
         ensures answer { result ≡ cursor_in self.new }
     {
         match self {
             Self::Singly(list, at) => moved_to(at, list.next_of(links, at)),
-            Self::Doubly(list, at) => match links {
-                AnyTable::WithPrev(links) => moved_to(at, list.next_of(links, at)),
-                AnyTable::Singly(_) | AnyTable::Xor(_) => unreachable!(), // proved: it carries no such list
-            },
+            Self::Doubly(list, at) => moved_to(at, list.next_of(links.with_prev(), at)),
             Self::Xor(list, at) => moved_to(at, list.next_of(links, at)),
-            Self::Tree(tree, at) => match links {
-                AnyTable::WithPrev(TableWithPrev::Tree(links)) => {
-                    moved_to(at, tree.next_of(links, at))
-                }
-                AnyTable::WithPrev(TableWithPrev::Doubly(_))
-                | AnyTable::Singly(_)
-                | AnyTable::Xor(_) => unreachable!(),
-            },
+            Self::Tree(tree, at) => moved_to(at, tree.next_of(links.tree(), at)),
         }
     }
 
     /// Moves the cursor to the previous member, from null to the last one, and from the first one to null, and returns where it is. O(1),
     /// in a tree O(log n).
     ///
-    /// Refused: `WrongKind` of a singly linked list.
+    /// It requires that the kind has the position before the cursor: all but singly linked lists.
     #[inline]
-    pub fn move_prev<M: Allocator>(
-        &mut self,
-        links: &AnyTable<M>,
-    ) -> Result<Option<Place>, EditError>
-        requires held { Held (look links.now) self.old }
-        ensures tested { refusal_in result ≡ refusal_of_kind (has_before (kind_in self.old)) }
-        ensures moved { OnOk result (AtGap (members_in (look links.now) self.old) (λ gap. IsBefore gap (cursor_in self.old)
-            × Moves (look links.now) self.old self.new (last gap.front))) }
-        ensures answer { IfOk result (λ on. on ≡ cursor_in self.new) }
-        ensures unchanged { OnErr result (Moves (look links.now) self.old self.new (cursor_in self.old)) }
+    pub fn move_prev<M: Allocator>(&mut self, links: &AnyTable<M>) -> Option<Place>
+        requires held { Held (table_in links.now) self.old }
+        requires can { has_before (kind_in self.old) ≡ true }
+        ensures moved { AtGap (members_in (table_in links.now) self.old) (λ gap. IsBefore gap (cursor_in self.old)
+            × Moves (table_in links.now) self.old self.new (last gap.front)) }
+        ensures answer { result ≡ cursor_in self.new }
     {
         match self {
-            Self::Singly(..) => Err(EditError::WrongKind),
-            Self::Doubly(list, at) => match links {
-                AnyTable::WithPrev(links) => Ok(moved_to(at, list.prev_of(links, at))),
-                AnyTable::Singly(_) | AnyTable::Xor(_) => unreachable!(),
-            },
-            Self::Xor(list, at) => Ok(moved_to(at, list.prev_of(links, at))),
-            Self::Tree(tree, at) => match links {
-                AnyTable::WithPrev(TableWithPrev::Tree(links)) => {
-                    Ok(moved_to(at, tree.prev_of(links, at)))
-                }
-                AnyTable::WithPrev(TableWithPrev::Doubly(_))
-                | AnyTable::Singly(_)
-                | AnyTable::Xor(_) => unreachable!(),
-            },
+            Self::Singly(..) => unreachable!(),
+            Self::Doubly(list, at) => moved_to(at, list.prev_of(links.with_prev(), at)),
+            Self::Xor(list, at) => moved_to(at, list.prev_of(links, at)),
+            Self::Tree(tree, at) => moved_to(at, tree.prev_of(links.tree(), at)),
         }
     }
 
-    /// Puts the cursor on a member. In an XOR list it requires that `prev` is the one in front of it, `None` at the front; other kinds
+    /// Puts the cursor on a member. In an XOR list it requires that `prev` is the one before it, `None` at the front; other kinds
     /// don't read it. O(1).
     #[inline]
     pub fn stand_on<M: Allocator>(&mut self, links: &AnyTable<M>, prev: Option<Place>, place: Place)
-        requires held { Held (look links.now) self.old }
-        requires member { AtGap (members_in (look links.now) self.old) (λ gap. IsBefore gap (Some place)
+        requires held { Held (table_in links.now) self.old }
+        requires member { AtGap (members_in (table_in links.now) self.old) (λ gap. IsBefore gap (Some place)
             × (is_xor (kind_in self.old) ≡ true → IsAfter gap prev)) }
-        ensures { Moves (look links.now) self.old self.new (Some place) }
+        ensures { Moves (table_in links.now) self.old self.new (Some place) }
     {
+        let there = PlaceWord::of(Some(place));
         match self {
-            Self::Singly(_, at) => *at = PlaceWord::of(Some(place)),
-            Self::Doubly(_, at) => *at = PlaceWord::of(Some(place)),
+            Self::Singly(_, at) => *at = there,
+            Self::Doubly(_, at) => *at = there,
             Self::Xor(list, at) => *at = list.position_at(links, prev, Some(place)),
-            Self::Tree(_, at) => *at = PlaceWord::of(Some(place)),
+            Self::Tree(_, at) => *at = there,
         }
     }
 }

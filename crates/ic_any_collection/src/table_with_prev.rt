@@ -7,13 +7,11 @@
 //! ```
 
 ghost use Rattle.std.specs.Prelude.{◌≡◌};
-ghost use Rattle.ic_unsafe_ref.specs.declared.place.Place.{Place};
-ghost use Rattle.ic_link_ops.specs.Tables.{IsLinked};
+ghost use Rattle.ic_link_ops.specs.Prelude.{Place, IsLinked};
 
 use crate::entry::Entry;
-use crate::tree_table::TreeTable;
 use ic_link_ops::linked_list::LinkedListOps;
-use ic_link_ops::{LinkOps, linked_list};
+use ic_link_ops::{LinkOps, linked_list, rbtree};
 use ic_unsafe_ref::Place;
 use std::alloc::{Allocator, Global};
 
@@ -23,28 +21,28 @@ pub enum TableWithPrev<M: Allocator = Global> {
     /// A table of doubly links.
     Doubly(linked_list::LinkOps<M>),
     /// A table of tree links.
-    Tree(TreeTable<M>),
+    Tree(rbtree::LinkOps<M>),
 }
 
 impl<M: Allocator> LinkOps for TableWithPrev<M> {
     ghost use Rattle.std.proofs.Common.{ap, refl};
-    ghost use Rattle.ic_link_ops.specs.LinkSteps.{Replays};
+    ghost use Rattle.ic_link_ops.specs.LinkSteps.{TraceIs};
     ghost use Rattle.ic_link_ops.specs.StepLaws.{replays_on};
     ghost use Rattle.ic_any_collection.specs.Entries.{is_linked};
-    ghost use Rattle.ic_any_collection.specs.TablesWithPrev.{look, covered_where_linked};
+    ghost use Rattle.ic_any_collection.specs.TablesWithPrev.{table_in, covered_where_linked};
     ghost use Rattle.std.specs.Prelude.{⊤};
 
     type Entry = Entry;
 
-    ghost table = { look };
+    ghost table = { table_in };
 
     ghost linked = { is_linked };
 
     ghost CanName = { λ p. ⊤ };
 
-    ghost Does = { λ old new s. Replays is_linked (look old) (look new) s };
+    ghost Trace = { λ old new s. TraceIs is_linked (table_in old) (table_in new) s };
 
-    ghost Refused = { λ old new p. IsLinked is_linked (look old) p × (new ≡ old) };
+    ghost Refused = { λ old new p. IsLinked is_linked (table_in old) p × (new ≡ old) };
 
     #[inline]
     fn acquire_link(&mut self, place: Place) -> bool {
@@ -68,11 +66,11 @@ impl<M: Allocator> LinkOps for TableWithPrev<M> {
 
     ghost does_nothing = { λ t q. refl };
 
-    ghost does_on = { λ a b c s t h k. replays_on is_linked s t (look a) (look b) (look c) h k };
+    ghost does_on = { λ a b c s t h k. replays_on is_linked s t (table_in a) (table_in b) (table_in c) h k };
 
     ghost does_replay = { λ old new s h. h };
 
-    ghost refused_keeps = { λ old new p h. ap look h.1 };
+    ghost refused_keeps = { λ old new p h. ap table_in h.1 };
 }
 
 impl<M: Allocator> LinkedListOps for TableWithPrev<M> {
@@ -85,7 +83,7 @@ impl<M: Allocator> LinkedListOps for TableWithPrev<M> {
     fn next(&self, place: Place) -> Option<Place> {
         match self {
             Self::Doubly(links) => LinkedListOps::next(links, place),
-            Self::Tree(TreeTable(links)) => LinkedListOps::next(links, place),
+            Self::Tree(links) => LinkedListOps::next(links, place),
         }
     }
 
@@ -93,7 +91,7 @@ impl<M: Allocator> LinkedListOps for TableWithPrev<M> {
     fn prev(&self, place: Place) -> Option<Place> {
         match self {
             Self::Doubly(links) => LinkedListOps::prev(links, place),
-            Self::Tree(TreeTable(links)) => LinkedListOps::prev(links, place),
+            Self::Tree(links) => LinkedListOps::prev(links, place),
         }
     }
 
@@ -101,7 +99,7 @@ impl<M: Allocator> LinkedListOps for TableWithPrev<M> {
     fn set_next(&mut self, place: Place, next: Option<Place>) {
         match self {
             Self::Doubly(links) => LinkedListOps::set_next(links, place, next),
-            Self::Tree(TreeTable(links)) => LinkedListOps::set_next(links, place, next),
+            Self::Tree(links) => LinkedListOps::set_next(links, place, next),
         }
     }
 
@@ -109,7 +107,7 @@ impl<M: Allocator> LinkedListOps for TableWithPrev<M> {
     fn set_prev(&mut self, place: Place, prev: Option<Place>) {
         match self {
             Self::Doubly(links) => LinkedListOps::set_prev(links, place, prev),
-            Self::Tree(TreeTable(links)) => LinkedListOps::set_prev(links, place, prev),
+            Self::Tree(links) => LinkedListOps::set_prev(links, place, prev),
         }
     }
 
@@ -117,7 +115,7 @@ impl<M: Allocator> LinkedListOps for TableWithPrev<M> {
     fn link_between(&mut self, place: Place, prev: Option<Place>, next: Option<Place>) -> bool {
         match self {
             Self::Doubly(links) => LinkedListOps::link_between(links, place, prev, next),
-            Self::Tree(TreeTable(links)) => LinkedListOps::link_between(links, place, prev, next),
+            Self::Tree(links) => LinkedListOps::link_between(links, place, prev, next),
         }
     }
 

@@ -1,10 +1,8 @@
 -- Places that one holder claims one after the other, and the list of those that it got.
 use Rattle.std.proofs.Common.{◌≡◌, ◌+◌, ℕ, Bool, true, false, if◌then◌else◌, List, [], ◌∷◌, ◌++◌, length, refl, sym, ap, ◌∙◌, subst, arith, append_assoc, append-nil}
-use Rattle.ic_unsafe_ref.specs.declared.place.Place.{Place}
-use Rattle.ic_link_ops.specs.Sequences.{IsAbsent}
-use Rattle.ic_link_ops.specs.Tables.{Table, KeepsBeside}
+use Rattle.ic_link_ops.specs.Prelude.{Place, IsAbsent, Table, ChangesOnlyIn}
 use Rattle.ic_link_ops.specs.Chains.{Ends}
-use Rattle.ic_link_ops.specs.LinkedList.{Neighbors, Shows}
+use Rattle.ic_link_ops.specs.LinkedList.{Neighbors, Represents}
 use Rattle.ic_link_ops.proofs.SequenceLemmas.{absent_left, absent_right, absent_both}
 use Rattle.ic_atomic.specs.declared.step.Step.TheVariants.{Claim}
 use Rattle.ic_atomic.specs.declared.step.Event.{Event}
@@ -40,14 +38,14 @@ absent_chosen q (p ∷ ps) (true ∷ got) h = (h.0, absent_chosen q ps got h.1)
 absent_chosen q (p ∷ ps) (false ∷ got) h = absent_chosen q ps got h.1
 
 module _ {E : Type 0} (n : E → Neighbors) where
-  -- THESE PLACES WERE CLAIMED, one after the other, and the list has those that were had behind what it had
+  -- THESE PLACES WERE CLAIMED, one after the other, and the list has those that were had after what it had
   pub record Gathered (t u : Table E) (list new_list : Ends) (r w : List Event) (seen : List Place) (pushed : ℕ) : Type 0 where
     pub got : List Bool
     pub each : length got ≡ length seen
     pub record_is : w ≡ r ++ claims_of_each seen got
     pub count : pushed ≡ length (chosen seen got)
-    pub shows : (s : List Place) → Shows n t list s → Shows n u new_list (s ++ chosen seen got)
-    pub frame : (s : List Place) → Shows n t list s → KeepsBeside t u (seen ++ s)
+    pub shows : (s : List Place) → Represents n t list s → Represents n u new_list (s ++ chosen seen got)
+    pub frame : (s : List Place) → Represents n t list s → ChangesOnlyIn t u (seen ++ s)
     pub extent : u.extent ≡ t.extent
 
 module _ {E : Type 0} {n : E → Neighbors} where
@@ -57,7 +55,7 @@ module _ {E : Type 0} {n : E → Neighbors} where
     each = refl;
     record_is = sym (append-nil r);
     count = refl;
-    shows = λ s h. subst (Shows n t list) (sym (append-nil s)) h;
+    shows = λ s h. subst (Represents n t list) (sym (append-nil s)) h;
     frame = λ s h. record { extent = refl; others = λ q out. refl };
     extent = refl;
   }
@@ -69,8 +67,8 @@ module _ {E : Type 0} {n : E → Neighbors} where
         ∙ ap (λ (es : List Event). r ++ es) (sym (claims_more seen k.got p b k.each))
 
     -- the next one was had,
-    pub gathered_one : {v : Table E} {last_list : Ends} {more_pushed : ℕ} → more_pushed ≡ pushed + 1 → w' ≡ w ++ event (Claim p) 0 ∷ [] → ((s : List Place) → Shows n u new_list s → Shows n v last_list (s ++ p ∷ []))
-        → ((s : List Place) → Shows n u new_list s → KeepsBeside u v (p ∷ s)) → v.extent ≡ u.extent → Gathered n t v list last_list r w' (seen ++ p ∷ []) more_pushed
+    pub gathered_one : {v : Table E} {last_list : Ends} {more_pushed : ℕ} → more_pushed ≡ pushed + 1 → w' ≡ w ++ event (Claim p) 0 ∷ [] → ((s : List Place) → Represents n u new_list s → Represents n v last_list (s ++ p ∷ []))
+        → ((s : List Place) → Represents n u new_list s → ChangesOnlyIn u v (p ∷ s)) → v.extent ≡ u.extent → Gathered n t v list last_list r w' (seen ++ p ∷ []) more_pushed
     gathered_one {v} {last_list} counts is joins keeps same =
         let more : chosen (seen ++ p ∷ []) (k.got ++ true ∷ []) ≡ chosen seen k.got ++ p ∷ [] = chosen_more seen k.got p true k.each in
         record {
@@ -78,7 +76,7 @@ module _ {E : Type 0} {n : E → Neighbors} where
           each = one_more k.got true ∙ ap (λ (m : ℕ). m + 1) k.each ∙ sym (one_more seen p);
           record_is = record_more true is;
           count = counts ∙ ap (λ (m : ℕ). m + 1) k.count ∙ sym (one_more (chosen seen k.got) p) ∙ sym (ap length more);
-          shows = λ s h. subst (Shows n v last_list) (append_assoc s (chosen seen k.got) (p ∷ []) ∙ ap (λ (x : List Place). s ++ x) (sym more)) (joins (s ++ chosen seen k.got) (k.shows s h));
+          shows = λ s h. subst (Represents n v last_list) (append_assoc s (chosen seen k.got) (p ∷ []) ∙ ap (λ (x : List Place). s ++ x) (sym more)) (joins (s ++ chosen seen k.got) (k.shows s h));
           frame = λ s h. record {
             extent = same ∙ k.extent;
             others = λ q out.
@@ -101,7 +99,7 @@ module _ {E : Type 0} {n : E → Neighbors} where
           each = one_more k.got false ∙ ap (λ (m : ℕ). m + 1) k.each ∙ sym (one_more seen p);
           record_is = record_more false is;
           count = counts ∙ k.count ∙ ap length (sym same);
-          shows = λ s h. subst (λ (x : List Place). Shows n v last_list (s ++ x)) (sym same) (rw (list_same, same_table) (k.shows s h));
+          shows = λ s h. subst (λ (x : List Place). Represents n v last_list (s ++ x)) (sym same) (rw (list_same, same_table) (k.shows s h));
           frame = λ s h. record {
             extent = ap (λ (x : Table E). x.extent) same_table ∙ k.extent;
             others = λ q out. ap (λ (x : Table E). x.entry q) same_table ∙ (k.frame s h).others q (absent_both q seen s (absent_left q seen (p ∷ []) (absent_left q (seen ++ p ∷ []) s out)) (absent_right q (seen ++ p ∷ []) s out));

@@ -72,8 +72,8 @@ module _ {A : Type 0} (claims : Claims A) where
       λ i. one i ∷ rest i
 
   -- what was told of the gathered records
-  pub told : (rs : List (List Event)) (v : Hand) → v ≡ hand_with claims rs → Compares v → AreOneList claims rs
-  told rs v has c =
+  pub reported : (rs : List (List Event)) (v : Hand) → v ≡ hand_with claims rs → Compares v → AreOneList claims rs
+  reported rs v has c =
       let here : Compares (hand_with claims rs) = subst Compares has c in record {
         others = here.others;
         all = here.all;

@@ -1,8 +1,7 @@
 -- What clauses see of a table whose places are claimed.
 use Rattle.std.specs.Prelude.{◌≡◌, List, [], ◌∷◌, ◌++◌, map}
-use Rattle.ic_unsafe_ref.specs.declared.place.Place.{Place}
+use Rattle.ic_link_ops.specs.Prelude.{Place, LinkStep, acquires, releases}
 use Rattle.ic_link_ops.specs.declared.link_ops.LinkOps.{Ghosts}
-use Rattle.ic_link_ops.specs.LinkSteps.{LinkStep, acquires, releases}
 use Rattle.ic_atomic.specs.declared.step.Step.TheVariants.{Claim, Release}
 use Rattle.ic_atomic.specs.declared.step.Event.{Event}
 use Rattle.ic_atomic.specs.declared.claims.Claims.{Claims}
@@ -31,10 +30,10 @@ module _ {L A E : Type 0} {g : Ghosts L E} where
   links_of t = t.links
 
   -- THE RECORD GAINS a claim that found 0 for each link, and a release for each that is given up, in this order, and nothing else
-  pub record Gains (Does : L → L → List LinkStep → Type 0) (old new : AtomicLinkOps L A E g) (steps : List LinkStep) : Type 0 where
+  pub record Gains (Trace : L → L → List LinkStep → Type 0) (old new : AtomicLinkOps L A E g) (steps : List LinkStep) : Type 0 where
     pub claims : claims_of new ≡ claims_of old
     pub gained : record_in new ≡ record_in old ++ map step_of steps
-    pub did : Does (links_of old) (links_of new) steps
+    pub did : Trace (links_of old) (links_of new) steps
 
   -- THE LINK WAS REFUSED: the record gains a claim that found 1, and nothing else has changed
   pub record Fails (old new : AtomicLinkOps L A E g) (p : Place) : Type 0 where

@@ -19,5 +19,5 @@ chosen (p ∷ ps) (b ∷ got) = if b then p ∷ chosen ps got else chosen ps got
 
 -- so many answers may be told next: none, or one more than was told
 abbrev pub IsNext : (ℕ → Type 0) → ℕ → Type 0
-IsNext Told zero = Unit {0}
-IsNext Told (suc n) = Told n
+IsNext Reported zero = Unit {0}
+IsNext Reported (suc n) = Reported n

@@ -1,8 +1,7 @@
 -- The rule as the table of claim words keeps it, and what each kind of step tells its holder.
 use Rattle.std.specs.Prelude.{◌≡◌, ℕ, ◌+◌, ◌<◌, false, List, [], ◌∷◌, ◌++◌, length, replicate}
 use Rattle.atomic_table.specs.Table.{State, Me, Step as TableStep}
-use Rattle.ic_unsafe_ref.specs.declared.place.Place.{Place}
-use Rattle.ic_unsafe_ref.specs.Places.{index_of}
+use Rattle.ic_link_ops.specs.Prelude.{Place, index_of}
 use Rattle.ic_atomic.specs.declared.step.Step.{Step}
 use Rattle.ic_atomic.specs.declared.step.Step.TheVariants.{Claim, Release, Look}
 use Rattle.ic_atomic.specs.declared.step.Event.{Event}

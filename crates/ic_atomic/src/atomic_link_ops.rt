@@ -8,9 +8,7 @@
 //! ```
 
 ghost use Rattle.std.specs.Prelude.{◌≡◌, ◌≤◌, List, [], ◌∷◌, ◌++◌, true, false, if◌then◌else◌};
-ghost use Rattle.ic_unsafe_ref.specs.declared.place.Place.{Place};
-ghost use Rattle.ic_link_ops.specs.Tables.{IsCovered, IsUnlinked, ChangesOnly};
-ghost use Rattle.ic_link_ops.specs.LinkSteps.{releases};
+ghost use Rattle.ic_link_ops.specs.Prelude.{Place, IsCovered, IsUnlinked, ChangesOnly, releases};
 ghost use Rattle.ic_atomic.specs.Records.{event, holds};
 ghost use Rattle.ic_atomic.specs.Holders.{places_of, IsSeatOf, hand_of, hand_with, record_of, IsOf};
 
@@ -104,7 +102,7 @@ impl<'c, L: PlainLinkOps, A: Allocator> AtomicLinkOps<'c, L, A> {
     #[inline]
     pub fn force_unlink(&mut self, place: Place)
         requires held { holds place (record_in self.old) ≡ true }
-        ensures released { Gains L.Does self.old self.new (releases place ∷ []) }
+        ensures released { Gains L.Trace self.old self.new (releases place ∷ []) }
         ensures frame { ChangesOnly (L.table (links_of self.old)) (L.table (links_of self.new)) place }
     {
         self.release_link(place);
@@ -139,7 +137,7 @@ impl<L: PlainLinkOps, A: Allocator> LinkOps for AtomicLinkOps<'_, L, A> {
 
     ghost CanName = { L.CanName };
 
-    ghost Does = { Gains L.Does };
+    ghost Trace = { Gains L.Trace };
 
     ghost Refused = { Fails };
 
@@ -168,9 +166,9 @@ impl<L: PlainLinkOps, A: Allocator> LinkOps for AtomicLinkOps<'_, L, A> {
 
     ghost covered_has_name = { λ t p covered. L.covered_has_name (links_of t) p covered };
 
-    ghost does_nothing = { λ t. gains_nothing L.Does t (L.does_nothing (links_of t)) };
+    ghost does_nothing = { λ t. gains_nothing L.Trace t (L.does_nothing (links_of t)) };
 
-    ghost does_on = { λ a b c s t h k. gains_on L.Does L.does_on a b c s t h k };
+    ghost does_on = { λ a b c s t h k. gains_on L.Trace L.does_on a b c s t h k };
 
     ghost does_replay = { λ old new s h. L.does_replay (links_of old) (links_of new) s h.did };
 

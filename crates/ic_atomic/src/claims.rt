@@ -5,7 +5,7 @@ ghost use Rattle.std.specs.Bool.{OnTrue, OnFalse};
 ghost use Rattle.ic_unsafe_ref.specs.Places.{index_of};
 
 use crate::hand::{Hand, Size};
-use crate::rule::{Behind, Claimed, Compared, FirstOff, Looked, OneList, Released, Seated};
+use crate::rule::{After, Claimed, Compared, FirstOff, Looked, OneList, Released, Seated};
 use atomic_table::{Seat, Table};
 use ic_unsafe_ref::Place;
 use std::alloc::{AllocError, Allocator, Global};
@@ -122,14 +122,14 @@ impl<A: Allocator> Claims<A> {
         self.table.shared.split_seat::<FirstOff>(seat)
     }
 
-    // Puts the records of another seat behind those of this one, and that seat is gone.
-    fn put_behind(&self, seat: &mut Seat<(), Hand>, other: Seat<(), Hand>)
+    // Puts the records of another seat after those of this one, and that seat is gone.
+    fn put_after(&self, seat: &mut Seat<(), Hand>, other: Seat<(), Hand>)
         requires seat { IsSeatOf self.now seat.old }
         requires other { IsSeatOf self.now other × HasNoSlot other }
         ensures seat { IsSeatOf self.now seat.new }
         ensures both { hand_of seat.new ≡ both_hands (hand_of seat.old) (hand_of other) }
     {
-        self.table.shared.join_seat::<Behind>(seat, other);
+        self.table.shared.join_seat::<After>(seat, other);
     }
 
     /// How many places there are claims on: those with a smaller index. O(1).
@@ -216,12 +216,12 @@ impl<A: Allocator> Claims<A> {
         let mut all = words.load_new_seat::<Seated>(0).1;
         for i in 0..holders.len() {
             let record = self.first_of(&mut holders[i].seat);
-            self.put_behind(&mut all, record);
+            self.put_after(&mut all, record);
         }
         words.load::<Compared>(&mut all, 0);
         for i in 0..holders.len() {
             let record = self.first_of(&mut all);
-            self.put_behind(&mut holders[i].seat, record);
+            self.put_after(&mut holders[i].seat, record);
         }
     }
 }

@@ -6,9 +6,8 @@
 //! ```
 
 ghost use Rattle.std.specs.Prelude.{◌≡◌, ℕ, ◌++◌, List, Bool, length, All};
-ghost use Rattle.ic_unsafe_ref.specs.declared.place.Place.{Place};
-ghost use Rattle.ic_link_ops.specs.LinkedList.{Shows, ShowsSome};
-ghost use Rattle.ic_link_ops.specs.Tables.{IsCovered, KeepsBeside};
+ghost use Rattle.ic_link_ops.specs.Prelude.{Place, IsCovered, ChangesOnlyIn};
+ghost use Rattle.ic_link_ops.specs.LinkedList.{Represents, RepresentsSome};
 ghost use Rattle.ic_atomic.specs.AtomicLinks.{claims_of, record_in, links_of};
 ghost use Rattle.ic_atomic.specs.Gathering.{claims_of_each, chosen, IsNext};
 
@@ -22,19 +21,19 @@ use std::alloc::Allocator;
 /// What is told how far a worker has come, and may hold it up there.
 pub trait Gate {
     // The gate was told that the worker of this number has had so many answers. Nothing but `passed` says so.
-    ghost Told: { Self → ℕ → ℕ → Type 0 };
+    ghost Reported: { Self → ℕ → ℕ → Type 0 };
 
     /// Takes note that the worker of this number has had so many answers.
     ///
     /// It requires that these are none, or one more than the gate was told of this worker before.
     fn passed(&self, worker: usize, answered: usize)
-        requires in_order { IsNext (Told self.now worker) answered }
-        ensures told { Told self.now worker answered };
+        requires in_order { IsNext (Reported self.now worker) answered }
+        ensures reported { Reported self.now worker answered };
 }
 
 /// Puts each offered object whose place nobody holds at the back of this party's list, and returns how many it put there.
 ///
-/// It requires that the offered places are covered, and that the table shows a sequence for the list. It claims each place once,
+/// It requires that the offered places are covered, and that the table represents a sequence for the list. It claims each place once,
 /// in the order in which they are offered; what some party holds already, also this one, stays where it is. The gate is told
 /// 0 before the first claim, and i after the i-th, in this order. O(offered), no memory, and it waits for nobody but the gate.
 pub fn gather<T, L: PlainLinkOps + LinkedListOps, A: Allocator, G: Gate>(
@@ -45,16 +44,16 @@ pub fn gather<T, L: PlainLinkOps + LinkedListOps, A: Allocator, G: Gate>(
     gate: &G,
 ) -> usize
     requires covered { All (IsCovered (L.table (links_of links.old))) offered.now }
-    requires shown { ShowsSome L.neighbors (L.table (links_of links.old)) list.old }
+    requires shown { RepresentsSome L.neighbors (L.table (links_of links.old)) list.old }
     ensures gathered { (got : List Bool) × (length got ≡ length offered.now)
         × (record_in links.new ≡ record_in links.old ++ claims_of_each offered.now got)
         × (result ≡ length (chosen offered.now got))
-        × ((s : List Place) → Shows L.neighbors (L.table (links_of links.old)) list.old s
-        → Shows L.neighbors (L.table (links_of links.new)) list.new (s ++ chosen offered.now got)) }
+        × ((s : List Place) → Represents L.neighbors (L.table (links_of links.old)) list.old s
+        → Represents L.neighbors (L.table (links_of links.new)) list.new (s ++ chosen offered.now got)) }
     ensures claims { claims_of links.new ≡ claims_of links.old }
-    ensures told { G.Told gate.now worker (length offered.now) }
-    ensures frame { (s : List Place) → Shows L.neighbors (L.table (links_of links.old)) list.old s
-        → KeepsBeside (L.table (links_of links.old)) (L.table (links_of links.new)) (offered.now ++ s) }
+    ensures reported { G.Reported gate.now worker (length offered.now) }
+    ensures frame { (s : List Place) → Represents L.neighbors (L.table (links_of links.old)) list.old s
+        → ChangesOnlyIn (L.table (links_of links.old)) (L.table (links_of links.new)) (offered.now ++ s) }
 {
     gate.passed(worker, 0);
     let mut pushed = 0;

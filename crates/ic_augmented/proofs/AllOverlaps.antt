@@ -1,11 +1,10 @@
--- For callers: the first that passes a test, and the first behind each, are all that pass, in order.
+-- For callers: the first that passes a test, and the first after each, are all that pass, in order.
 use Rattle.std.proofs.Common.{◌≡◌, Bool, true, false, cond, Some, None, List, [], ◌∷◌, ◌++◌, refl, sym, ap, ◌∙◌}
 use Rattle.std.specs.List.{filter}
-use Rattle.ic_unsafe_ref.specs.declared.place.Place.{Place}
-use Rattle.ic_link_ops.specs.Sequences.{first}
+use Rattle.ic_link_ops.specs.Prelude.{Place, first}
 use Rattle.ic_link_ops.proofs.SequenceLemmas.{none_not, some_same}
 
--- p stands in s, and those of s that pass are it and those behind it that do
+-- p stands in s, and those of s that pass are it and those after it that do
 pub record FirstFound (test : Place → Bool) (s : List Place) (p : Place) : Type 0 where
   pub front : List Place
   pub back : List Place

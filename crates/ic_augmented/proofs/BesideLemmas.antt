@@ -1,19 +1,17 @@
 -- What was written within a tree: that of one that is summed, and with a place whose summary is stale.
 use Rattle.std.proofs.Common.{◌≡◌, ◌≢◌, ◌≤◌, ◌+◌, ℕ, suc, Bool, true, false, cond, ◌||◌, Option, Some, None, List, [], ◌∷◌, ◌++◌, refl, sym, ap, ◌∙◌, subst, arith, inl, inr}
 use Rattle.std.proofs.lemmas.Bool.{false_from_ne_true}
-use Rattle.ic_unsafe_ref.specs.declared.place.Place.{Place}
+use Rattle.ic_link_ops.specs.Prelude.{Place, Cut, join, insert, IsAbsent, Table}
 use Rattle.ic_unsafe_ref.proofs.PlaceLemmas.{same_or_not}
-use Rattle.ic_link_ops.specs.RedBlackTree.{Node, Shows}
-use Rattle.ic_link_ops.specs.Sequences.{Cut, join, insert, IsAbsent}
-use Rattle.ic_link_ops.specs.Tables.{Table}
+use Rattle.ic_link_ops.specs.RedBlackTree.{Node, Represents}
 use Rattle.ic_link_ops.specs.Times.{one_at, times, times_in}
 use Rattle.ic_link_ops.specs.Trees.{Tree, leaf, fork, in_order}
 use Rattle.ic_link_ops.proofs.SequenceLemmas.{none_not, some_same, absent_left, absent_right, absent_both, absent_with}
 use Rattle.ic_link_ops.proofs.Times.{absent_times, one_at_self, one_at_other, times_order}
 use Rattle.ic_rbtree.specs.Closed.{IsIn}
-use Rattle.ic_rbtree.proofs.ShownClosed.{is_it, among}
+use Rattle.ic_rbtree.proofs.RepresentedClosed.{is_it, among}
 use Rattle.ic_augmented.specs.Sums.{Sums, is_fresh, IsSummed}
-use Rattle.ic_augmented.specs.Consistent.{ShowsSummed}
+use Rattle.ic_augmented.specs.Consistent.{RepresentsSummed}
 use Rattle.ic_augmented.specs.Beside.{IsWrittenWithin, IsWrittenIn, IsEdgeOf}
 use Rattle.ic_augmented.proofs.ConsistencyLemmas.{where_is}
 
@@ -78,7 +76,7 @@ module _ {S : Type 0} where
   ]
 
 module _ {E S : Type 0} (n : E → Node) where
-  pub summed_within : {z : Sums S} {v : Table E} {root : Option Place} {s : List Place} → ShowsSummed n z v root s → IsWrittenWithin z s
+  pub summed_within : {z : Sums S} {v : Table E} {root : Option Place} {s : List Place} → RepresentsSummed n z v root s → IsWrittenWithin z s
   summed_within {z} {v} {root} {s} h q p m fresh up =
       let times_are : (x : Place) → times x h.shows.tree ≡ times_in x s = λ x. sym (times_order x h.shows.tree) ∙ ap (times_in x) h.shows.held.order in
       upper_within z None h.shows.tree s h.summed (λ x k. omega (arith, k, times_are x)) (λ x e. absurd (none_not x e)) q p (omega (arith, m, times_are q)) up

@@ -1,17 +1,15 @@
 -- A summary that has changed, passed on to those above it.
 use Rattle.std.proofs.Common.{◌≡◌, ◌≢◌, ◌≤◌, ◌+◌, true, false, Option, Some, None, List, [], ◌∷◌, ◌++◌, refl, sym, ap, ◌∙◌, subst, arith, inl, inr}
-use Rattle.ic_unsafe_ref.specs.declared.place.Place.{Place}
+use Rattle.ic_link_ops.specs.Prelude.{Place, IsAbsent, IsDisjoint, IsMember, Table}
 use Rattle.ic_link_ops.specs.declared.color.Color.{Color}
 use Rattle.ic_link_ops.specs.declared.side.Side.{Side}
 use Rattle.ic_link_ops.specs.declared.side.Side.TheVariants.{Left, Right}
 use Rattle.ic_link_ops.specs.Frames.{Frame, frame, plug, put_in, above, IsAround}
-use Rattle.ic_link_ops.specs.RedBlackTree.{Node, IsTree, Shows}
-use Rattle.ic_link_ops.specs.Sequences.{IsAbsent, IsDisjoint, IsMember}
-use Rattle.ic_link_ops.specs.Tables.{Table}
+use Rattle.ic_link_ops.specs.RedBlackTree.{Node, IsTree, Represents}
 use Rattle.ic_link_ops.specs.Times.{one_at, times, times_in, times_around}
 use Rattle.ic_link_ops.specs.Trees.{Tree, leaf, fork, top, in_order}
 use Rattle.ic_link_ops.proofs.SequenceLemmas.{none_not, some_same}
-use Rattle.ic_link_ops.proofs.ShownTrees.{holds_out}
+use Rattle.ic_link_ops.proofs.RepresentedTrees.{holds_out}
 use Rattle.ic_link_ops.proofs.Times.{one_at_self, apart, times_plug, times_order, absent_times}
 use Rattle.ic_augmented.specs.Sums.{Sums, is_fresh, seen, IsSummed, Writes}
 use Rattle.ic_augmented.specs.Consistent.{IsUnder, IsJoined, IsSameAt, IsConsistentTree, IsConsistentBelow, IsConsistentBut, IsConsistent, Refreshes}
@@ -394,9 +392,9 @@ module _ {E : Type 0} (n : E → Node) (v : Table E) where
       inr (on fs (put_in (frame d c a b) t) (subtree_put n v d c a b fs t h) (top_put d c a b t ∙ (sym (subtree_parent n v (frame d c a b ∷ fs) t p h e) ∙ is)))
 
 module _ {E S : Type 0} (n : E → Node) (v : Table E) where
-  -- THE EDGE SETTLED: each fresh summary of the shown tree is right
+  -- THE EDGE SETTLED: each fresh summary of the represented tree is right
   pub settled : (z y : Sums S) (root : Option Place) (front : List Place) (p edge : Place) (back : List Place) → ClimbsTo n v z y p edge
-      → ((fs : List Frame) (t : Tree) → IsSubtree n v fs t → top t ≡ Some p → IsAmong edge fs) → (h : Shows n v root (front ++ p ∷ back))
+      → ((fs : List Frame) (t : Tree) → IsSubtree n v fs t → top t ≡ Some p → IsAmong edge fs) → (h : Represents n v root (front ++ p ∷ back))
       → IsConsistentBut n v z (front ++ p ∷ back) (Some edge) → IsConsistentTree y h.tree
   settled z y root front p edge back climbs among h k =
       let x = member_subtree n v root front p back h in
@@ -408,7 +406,7 @@ module _ {E S : Type 0} (n : E → Node) (v : Table E) where
 
   -- and each of another tree
   pub others_settled : (z y : Sums S) (root other : Option Place) (front : List Place) (p edge : Place) (back t : List Place) → y.join ≡ z.join → OthersStay n v z y p
-      → ((fs : List Frame) (t : Tree) → IsSubtree n v fs t → top t ≡ Some p → IsAmong edge fs) → Shows n v root (front ++ p ∷ back) → Shows n v other t → IsDisjoint (front ++ p ∷ back) t
+      → ((fs : List Frame) (t : Tree) → IsSubtree n v fs t → top t ≡ Some p → IsAmong edge fs) → Represents n v root (front ++ p ∷ back) → Represents n v other t → IsDisjoint (front ++ p ∷ back) t
       → IsConsistentBut n v z t (Some edge) → IsConsistent n v y t
   others_settled z y root other front p edge back t ej stays among h k apart but =
       let x = member_subtree n v root front p back h in
@@ -420,7 +418,7 @@ module _ {E S : Type 0} (n : E → Node) (v : Table E) where
       (others_consistent n v z y other t ej (λ q m. stays x.fs u x.subtree refl q (out q m)) (k, λ q m none. but q m (other_than q m))).1
 
 -- THE EDGE SETTLED from itself on, where it is a member
-module _ {E S : Type 0} (n : E → Node) (v : Table E) (z y : Sums S) (root : Option Place) (s : List Place) (edge : Place) (h : Shows n v root s) (member : IsMember edge s) where
+module _ {E S : Type 0} (n : E → Node) (v : Table E) (z y : Sums S) (root : Option Place) (s : List Place) (edge : Place) (h : Represents n v root s) (member : IsMember edge s) where
   pub settled_here : ClimbsTo n v z y edge edge → IsConsistentBut n v z s (Some edge) → IsConsistent n v y s
   settled_here climbs k q m but x e =
       let at = member_at n v root s edge h member in
@@ -433,7 +431,7 @@ module _ {E S : Type 0} (n : E → Node) (v : Table E) (z y : Sums S) (root : Op
   kept_beside stays q out = let at = member_at n v root s edge h member in stays at.fs (fork at.c at.a edge at.b) at.subtree refl q (at.whole q ∙ absent_times q s out)
 
   -- and each fresh summary of another tree is right
-  pub others_settled_here : (other : Option Place) (t : List Place) → y.join ≡ z.join → OthersStay n v z y edge → Shows n v other t → IsDisjoint s t → IsConsistentBut n v z t (Some edge) → IsConsistent n v y t
+  pub others_settled_here : (other : Option Place) (t : List Place) → y.join ≡ z.join → OthersStay n v z y edge → Represents n v other t → IsDisjoint s t → IsConsistentBut n v z t (Some edge) → IsConsistent n v y t
   others_settled_here other t ej stays k apart but =
       (others_consistent n v z y other t ej (λ q m. kept_beside stays q (member_out q s t apart m))
       (k, λ q m none. but q m (λ i. member (subst (λ (p : Place). IsAbsent p s) (sym (some_same i)) (member_out q s t apart m))))).1

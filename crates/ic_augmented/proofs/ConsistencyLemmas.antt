@@ -1,17 +1,16 @@
 -- Summaries that are right where they are fresh, kept by each write; and stale ones written anew.
 use Rattle.std.proofs.Common.{◌≡◌, ◌≢◌, ◌≤◌, ◌+◌, ℕ, suc, zero, ◌-◌, true, false, Option, Some, None, List, refl, sym, ap, ◌∙◌, subst, arith, inl, inr, ◌⊎◌}
 use Rattle.std.proofs.Math.Nat.{le-max_left, le-max_right}
-use Rattle.ic_unsafe_ref.specs.declared.place.Place.{Place}
+use Rattle.ic_link_ops.specs.Prelude.{Place, Table, ChangesOnly}
 use Rattle.ic_unsafe_ref.proofs.PlaceLemmas.{same_or_not}
 use Rattle.ic_link_ops.specs.declared.color.Color.{Color}
-use Rattle.ic_link_ops.specs.Tables.{Table, ChangesOnly}
 use Rattle.ic_link_ops.specs.Trees.{Tree, leaf, fork, top}
 use Rattle.ic_link_ops.specs.RedBlackTree.{Node, IsTree}
 use Rattle.ic_link_ops.specs.Times.{one_at, times, times_in}
 use Rattle.ic_link_ops.proofs.SequenceLemmas.{none_not, some_same}
 use Rattle.ic_link_ops.proofs.Times.{one_at_self, one_at_other, apart}
 use Rattle.ic_rbtree.specs.Height.{height}
-use Rattle.ic_augmented.specs.Sums.{Sums, is_fresh, seen, total, IsSummed, MarksAlone, Invalidates, Writes}
+use Rattle.ic_augmented.specs.Sums.{Sums, is_fresh, seen, total, IsSummed, WritesNoSummary, Invalidates, Writes}
 use Rattle.ic_augmented.specs.Consistent.{IsUnder, IsJoined, IsSameAt, IsConsistentTree, IsConsistentBelow, Refreshes, IsConsistentBut, IsConsistent}
 
 pub times_top : (p : Place) (t : Tree) → top t ≡ Some p → 1 ≤ times p t
@@ -232,7 +231,7 @@ module _ {S : Type 0} where
   ]
 
   -- one more summary is made stale
-  pub marks_next : (old z w : Sums S) (p : Place) → Invalidates z w p → MarksAlone old z → MarksAlone old w
+  pub marks_next : (old z w : Sums S) (p : Place) → Invalidates z w p → WritesNoSummary old z → WritesNoSummary old w
   marks_next old z w p k h = record { fresh = still; upper = λ q. k.upper q ∙ h.upper q } where
     still : (q : Place) (x : S) → w.fresh q ≡ Some x → old.fresh q ≡ Some x
     still q x e = h.fresh q x (sym (k.others q (not_stale w p q x k.stale e)) ∙ e)

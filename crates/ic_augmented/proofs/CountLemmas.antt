@@ -3,9 +3,8 @@ use Rattle.std.proofs.Common.{◌≡◌, ◌≢◌, ◌≤◌, ◌<◌, ◌+◌,
 use Rattle.std.specs.Bool.{⊤}
 use Rattle.std.proofs.Math.Nat.{min-eq_left, le-max_left, le-max_right}
 use Rattle.std.specs.List.{slice_get}
-use Rattle.ic_unsafe_ref.specs.declared.place.Place.{Place}
+use Rattle.ic_link_ops.specs.Prelude.{Place, Table}
 use Rattle.ic_link_ops.specs.declared.color.Color.{Color}
-use Rattle.ic_link_ops.specs.Tables.{Table}
 use Rattle.ic_link_ops.specs.Trees.{Tree, leaf, fork, top, in_order}
 use Rattle.ic_link_ops.specs.RedBlackTree.{Node, IsTree}
 use Rattle.ic_link_ops.proofs.SequenceLemmas.{none_not, some_same}
@@ -16,7 +15,7 @@ use Rattle.ic_augmented.specs.declared.sum_table.Cell.{Cell}
 use Rattle.ic_augmented.specs.Sums.{seen, total, IsSummed}
 use Rattle.ic_augmented.specs.SumTables.{or_zero}
 use Rattle.ic_augmented.specs.Counts.{counts_in}
-use Rattle.ic_augmented.specs.Consistent.{ShowsSummed}
+use Rattle.ic_augmented.specs.Consistent.{RepresentsSummed}
 use Rattle.ic_augmented.proofs.ConsistencyLemmas.{summed_seen}
 
 -- THE COUNT OF A TREE is how many members it has
@@ -118,7 +117,7 @@ module _ {E : Type 0} (n : E → Node) (v : Table E) (es : List (Cell ⊤ ℕ)) 
         f (Some p) k.b k.tree.2 (er ∙ k.tree.0.right) k.summed_right k.few_right k.low_right
         ∙ (sym (get_right (in_order k.a) (in_order k.b) p (position - before - 1)) ∙ (ap (slice_get (in_order (fork k.c k.a p k.b))) there ∙ ap (λ (y : Tree). slice_get (in_order y) position) (sym k.is)))
 
-module _ {E : Type 0} (n : E → Node) (v : Table E) (es : List (Cell ⊤ ℕ)) (root : Option Place) (s : List Place) (h : ShowsSummed n (counts_in es) v root s) where
+module _ {E : Type 0} (n : E → Node) (v : Table E) (es : List (Cell ⊤ ℕ)) (root : Option Place) (s : List Place) (h : RepresentsSummed n (counts_in es) v root s) where
   few_members : length (in_order h.shows.tree) ≤ 8589934591
   few_members = subst (λ (y : List Place). length y ≤ 8589934591) (sym h.shows.held.order) (few_places s h.shows.held.distinct)
 

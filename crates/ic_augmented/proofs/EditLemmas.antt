@@ -1,34 +1,31 @@
 -- Edits of a tree keep each fresh summary right.
 use Rattle.std.specs.declared.cmp.Ordering.{Ordering}
 use Rattle.std.proofs.Common.{◌≡◌, ◌≢◌, ◌≤◌, ◌+◌, Bool, true, false, Option, Some, None, List, [], ◌∷◌, ◌++◌, refl, sym, ap, ◌∙◌, subst, arith, inl, inr}
-use Rattle.ic_unsafe_ref.specs.declared.place.Place.{Place}
-use Rattle.ic_unsafe_ref.specs.Objects.{Objects}
+use Rattle.ic_link_ops.specs.Prelude.{Place, Objects, Cut, join, insert, IsAbsent, IsDisjoint, Table, ChangesOnly}
 use Rattle.ic_unsafe_ref.proofs.PlaceLemmas.{same_or_not}
 use Rattle.ic_link_ops.specs.declared.side.Side.{Side}
 use Rattle.ic_link_ops.specs.Edits.{Removes}
-use Rattle.ic_link_ops.specs.Sequences.{Cut, join, insert, IsAbsent, IsDisjoint}
-use Rattle.ic_link_ops.specs.Tables.{Table, ChangesOnly}
 use Rattle.ic_link_ops.specs.Trees.{top, in_order}
-use Rattle.ic_link_ops.specs.RedBlackTree.{Node, Shows}
+use Rattle.ic_link_ops.specs.RedBlackTree.{Node, Represents}
 use Rattle.ic_link_ops.specs.Times.{one_at, times, times_in}
 use Rattle.ic_link_ops.proofs.Times.{one_at_self, one_at_other, times_append, times_order, absent_times}
 use Rattle.ic_link_ops.proofs.SequenceLemmas.{disjoint_cons, some_same}
-use Rattle.ic_link_ops.proofs.ShownTrees.{holds_once, shows_beside, shows_frame, free_absent, one_sequence}
+use Rattle.ic_link_ops.proofs.RepresentedTrees.{holds_once, represents_beside, represents_frame, free_absent, one_sequence}
 use Rattle.ic_rbtree.specs.Closed.{IsIn, AreIn, IsNode, IsClosed, IsClosedBut}
 use Rattle.ic_rbtree.specs.Comparing.{compared, own_order}
 use Rattle.ic_rbtree.specs.Height.{height}
-use Rattle.ic_rbtree.specs.Insertion.{IsHole, Attaches}
+use Rattle.ic_rbtree.specs.Insertion.{IsInsertPos, Attaches}
 use Rattle.ic_rbtree.specs.Ordered.{InsertsInOrder}
-use Rattle.ic_rbtree.specs.Pieces.{loose, Shown}
+use Rattle.ic_rbtree.specs.Pieces.{loose, Represented}
 use Rattle.ic_rbtree.specs.Transplants.{TakesAway}
 use Rattle.ic_rbtree.proofs.Attaching.{inserts}
-use Rattle.ic_rbtree.proofs.Removing.{removes, loose_absent, shown_of, shows_of}
+use Rattle.ic_rbtree.proofs.Removing.{removes, loose_absent, represented_of, represents_of}
 use Rattle.ic_rbtree.proofs.Climbed.{path_few}
-use Rattle.ic_rbtree.proofs.ShownClosed.{among_there, with_itself, shown_closed, shown_closed_but, hole_in}
+use Rattle.ic_rbtree.proofs.RepresentedClosed.{among_there, with_itself, represented_closed, represented_closed_but, hole_in}
 use Rattle.ic_augmented.specs.Sums.{Sums, is_fresh, Invalidates}
-use Rattle.ic_augmented.specs.Consistent.{IsSameAt, IsConsistentBut, IsConsistent, IsConsistentTree, KeepsConsistent, ShowsConsistent, ShowsSummed, Refreshes, IsJoined}
+use Rattle.ic_augmented.specs.Consistent.{IsSameAt, IsConsistentBut, IsConsistent, IsConsistentTree, KeepsConsistent, RepresentsConsistent, RepresentsSummed, Refreshes, IsJoined}
 use Rattle.ic_augmented.specs.Beside.{IsEdgeOf}
-use Rattle.ic_augmented.specs.Fresh.{ShowsFresh}
+use Rattle.ic_augmented.specs.Fresh.{RepresentsFresh}
 use Rattle.ic_augmented.proofs.BesideLemmas.{edge_of}
 use Rattle.ic_augmented.proofs.FenceLemmas.{fence_of, fence_is, members_of, members_are}
 use Rattle.ic_augmented.proofs.ConsistencyLemmas.{not_stale, invalidated_same, times_top, summed_top, fresh_summed, consistent_tree, tree_consistent, consistent_kept, summed_consistent_tree}
@@ -39,8 +36,8 @@ module _ {E : Type 0} (n : E → Node) where
   unchanged v p = record { extent = refl; others = λ q other. refl }
 
   -- a linked place beside the tree
-  loose_shown : (v : Table E) (root : Option Place) (s : List Place) (p : Place) → Shows n v root s → IsAbsent p s → (n (v.entry p)).linked ≡ true → Shown n v v root s (loose p ∷ [])
-  loose_shown v root s p h out linked = record {
+  loose_represented : (v : Table E) (root : Option Place) (s : List Place) (p : Place) → Represents n v root s → IsAbsent p s → (n (v.entry p)).linked ≡ true → Represented n v v root s (loose p ∷ [])
+  loose_represented v root s p h out linked = record {
     tree = h.tree;
     stands = record {
       are = ((tt, h.starts), (h.held.entries, (linked, tt)));
@@ -62,70 +59,70 @@ module _ {E : Type 0} (n : E → Node) where
     ]
 
   -- a place that has just been linked, beside the tree
-  pub free_member : (old : Table E) (root : Option Place) (s t : List Place) (p : Place) → t ≡ s → Shows n old root s → (n (old.entry p)).linked ≡ false → IsAbsent p t
+  pub free_member : (old : Table E) (root : Option Place) (s t : List Place) (p : Place) → t ≡ s → Represents n old root s → (n (old.entry p)).linked ≡ false → IsAbsent p t
   free_member old root s t p e h free = subst (IsAbsent p) (sym e) (free_absent h free)
 
   -- a member stands in the tree as often as in the sequence
-  member_times : (v : Table E) (root : Option Place) (s : List Place) (h : Shows n v root s) (q : Place) → times q h.tree ≡ times_in q s
+  member_times : (v : Table E) (root : Option Place) (s : List Place) (h : Represents n v root s) (q : Place) → times q h.tree ≡ times_in q s
   member_times v root s h q = sym (times_order q h.tree) ∙ ap (times_in q) h.held.order
 
-  -- a place that is put in is shown then
-  pub attached_shows : (v w : Table E) (root new_root parent : Option Place) (d : Side) (p : Place) (gap : Cut) → Attaches n v w root new_root parent d p
-      → IsNode n v p → IsAbsent p (join gap) → Shows n v root (join gap) → IsHole n v parent d gap → Shows n w new_root (insert gap p)
-  attached_shows v w root new_root parent d p gap done linked out h hole = shows_of n (done v gap [] (loose_shown v root (join gap) p h out linked) hole)
+  -- a place that is put in is represented then
+  pub attached_represents : (v w : Table E) (root new_root parent : Option Place) (d : Side) (p : Place) (gap : Cut) → Attaches n v w root new_root parent d p
+      → IsNode n v p → IsAbsent p (join gap) → Represents n v root (join gap) → IsInsertPos n v parent d gap → Represents n w new_root (insert gap p)
+  attached_represents v w root new_root parent d p gap done linked out h hole = represents_of n (done v gap [] (loose_represented v root (join gap) p h out linked) hole)
 
   -- the tree and the place are closed but there, and have the parent
-  pub attach_closed : (v : Table E) (root parent : Option Place) (d : Side) (p : Place) (gap : Cut) → IsNode n v p → IsAbsent p (join gap) → Shows n v root (join gap) → IsHole n v parent d gap
+  pub attach_closed : (v : Table E) (root parent : Option Place) (d : Side) (p : Place) (gap : Cut) → IsNode n v p → IsAbsent p (join gap) → Represents n v root (join gap) → IsInsertPos n v parent d gap
       → IsClosedBut n v root (Some p) (fence_of n v root p) × AreIn (fence_of n v root p) (Some p ∷ parent ∷ [])
   attach_closed v root parent d p gap linked out h hole =
-      let there = loose_shown v root (join gap) p h out linked in
+      let there = loose_represented v root (join gap) p h out linked in
       subst (λ (S : Place → Bool). IsClosedBut n v root (Some p) S × AreIn S (Some p ∷ parent ∷ [])) (sym (fence_is n p h))
-      (shown_closed_but n there, (with_itself n there, (hole_in n v p parent d gap hole, tt)))
+      (represented_closed_but n there, (with_itself n there, (hole_in n v p parent d gap hole, tt)))
 
   -- of a member that is taken out: the tree is closed, and has it
-  pub unlink_closed : (v : Table E) (root : Option Place) (front : List Place) (p : Place) (back : List Place) → Shows n v root (front ++ p ∷ back)
+  pub unlink_closed : (v : Table E) (root : Option Place) (front : List Place) (p : Place) (back : List Place) → Represents n v root (front ++ p ∷ back)
       → IsClosed n v root (members_of n v root) × (members_of n v root p ≡ true)
   unlink_closed v root front p back h =
-      subst (λ (S : Place → Bool). IsClosed n v root S × (S p ≡ true)) (sym (members_are n h)) (shown_closed n (shown_of n h), among_there p front back)
+      subst (λ (S : Place → Bool). IsClosed n v root S × (S p ≡ true)) (sym (members_are n h)) (represented_closed n (represented_of n h), among_there p front back)
 
   -- an edge that stands in it is the one at p, or another member
-  pub unlinked_edge : (v : Table E) (root edge : Option Place) (front : List Place) (p : Place) (back : List Place) → Shows n v root (front ++ p ∷ back) → IsIn (members_of n v root) edge
+  pub unlinked_edge : (v : Table E) (root edge : Option Place) (front : List Place) (p : Place) (back : List Place) → Represents n v root (front ++ p ∷ back) → IsIn (members_of n v root) edge
       → IsEdgeOf edge p (front ++ back)
   unlinked_edge v root edge front p back h i = edge_of edge front p back (subst (λ (S : Place → Bool). IsIn S edge) (members_are n h) i)
 
-  module _ (v w : Table E) (root new_root : Option Place) (front : List Place) (p : Place) (back : List Place) (taken : TakesAway n v w root new_root p) (h : Shows n v root (front ++ p ∷ back)) where
+  module _ (v w : Table E) (root new_root : Option Place) (front : List Place) (p : Place) (back : List Place) (taken : TakesAway n v w root new_root p) (h : Represents n v root (front ++ p ∷ back)) where
     pub unlinked_absent : IsAbsent p (front ++ back)
-    unlinked_absent = loose_absent n (taken v front back [] (shown_of n h))
+    unlinked_absent = loose_absent n (taken v front back [] (represented_of n h))
 
-    -- the others are shown then, and nothing but entries of members is changed
-    pub unlinked : {z : Table E} → ChangesOnly w z p → Removes (Shows n) v z new_root (record { front = front; back = p ∷ back })
-    unlinked {z} only = removes n v w z root new_root p (record { front = front; back = p ∷ back }) back refl (shown_of n h) (taken v front back [] (shown_of n h)) only
+    -- the others are represented then, and nothing but entries of members is changed
+    pub unlinked : {z : Table E} → ChangesOnly w z p → Removes (Represents n) v z new_root (record { front = front; back = p ∷ back })
+    unlinked {z} only = removes n v w z root new_root p (record { front = front; back = p ∷ back }) back refl (represented_of n h) (taken v front back [] (represented_of n h)) only
 
   -- the table covers as many places
   pub attached_extent : (v w : Table E) (root new_root parent : Option Place) (d : Side) (p : Place) (gap : Cut) → Attaches n v w root new_root parent d p
-      → IsNode n v p → IsAbsent p (join gap) → Shows n v root (join gap) → IsHole n v parent d gap → w.extent ≡ v.extent
+      → IsNode n v p → IsAbsent p (join gap) → Represents n v root (join gap) → IsInsertPos n v parent d gap → w.extent ≡ v.extent
   attached_extent v w root new_root parent d p gap done linked out h hole =
-      (inserts n v v w root new_root p gap (unchanged v p) (done v gap [] (loose_shown v root (join gap) p h out linked) hole)).frame.extent
+      (inserts n v v w root new_root p gap (unchanged v p) (done v gap [] (loose_represented v root (join gap) p h out linked) hole)).frame.extent
 
   -- and a tree that shares no place with it is as it was
   pub attached_others : (v w : Table E) (root new_root parent other : Option Place) (d : Side) (p : Place) (gap : Cut) (t : List Place) → Attaches n v w root new_root parent d p
-      → IsNode n v p → IsAbsent p (join gap) → Shows n v root (join gap) → IsHole n v parent d gap → IsDisjoint t (join gap) → IsAbsent p t → Shows n v other t → Shows n w other t
+      → IsNode n v p → IsAbsent p (join gap) → Represents n v root (join gap) → IsInsertPos n v parent d gap → IsDisjoint t (join gap) → IsAbsent p t → Represents n v other t → Represents n w other t
   attached_others v w root new_root parent other d p gap t done linked out h hole apart absent k =
-      let put = inserts n v v w root new_root p gap (unchanged v p) (done v gap [] (loose_shown v root (join gap) p h out linked) hole) in
-      shows_frame k (disjoint_cons p t (join gap) absent apart) put.frame
+      let put = inserts n v v w root new_root p gap (unchanged v p) (done v gap [] (loose_represented v root (join gap) p h out linked) hole) in
+      represents_frame k (disjoint_cons p t (join gap) absent apart) put.frame
 
 -- a member is another place than one that is none
 member_other : (q p : Place) (s : List Place) → IsAbsent p s → 1 ≤ times_in q s → q ≢ p
 member_other q p s out m i = let k : times_in q s ≡ 0 = subst (λ (y : Place). times_in y s ≡ 0) (sym i) (absent_times p s out) in absurd (omega (arith, m, k))
 
 -- an insert in order, by the object's own key among the values that stood before
-pub own_searched : {E H V K : Type 0} {Shows : Table E → H → List Place → Type 0} {old w : Table E} {head : H} {s : List Place} (cmp : K → K → Ordering) (key_of : V → K)
+pub own_searched : {E H V K : Type 0} {Represents : Table E → H → List Place → Type 0} {old w : Table E} {head : H} {s : List Place} (cmp : K → K → Ordering) (key_of : V → K)
     {order : V → Ordering} {before after : Objects V} {place object : Place} → place ≡ object → after ≡ before → order ≡ own_order cmp key_of after place
-    → InsertsInOrder Shows (compared order after) old w head s place → InsertsInOrder Shows (compared (own_order cmp key_of before object) before) old w head s object
-own_searched {V = V} {Shows = Shows} {old} {w} {head} {s} cmp key_of {before = before} {after} {place} same stay own i =
-    subst (λ (p : Place). InsertsInOrder Shows (compared (own_order cmp key_of before p) before) old w head s p) same
-    (subst (λ (o : Objects V). InsertsInOrder Shows (compared (own_order cmp key_of o place) o) old w head s place) stay
-    (subst (λ (o : V → Ordering). InsertsInOrder Shows (compared o after) old w head s place) own i))
+    → InsertsInOrder Represents (compared order after) old w head s place → InsertsInOrder Represents (compared (own_order cmp key_of before object) before) old w head s object
+own_searched {V = V} {Represents = Represents} {old} {w} {head} {s} cmp key_of {before = before} {after} {place} same stay own i =
+    subst (λ (p : Place). InsertsInOrder Represents (compared (own_order cmp key_of before p) before) old w head s p) same
+    (subst (λ (o : Objects V). InsertsInOrder Represents (compared (own_order cmp key_of o place) o) old w head s place) stay
+    (subst (λ (o : V → Ordering). InsertsInOrder Represents (compared o after) old w head s place) own i))
 
 module _ {E S : Type 0} (n : E → Node) where
   fewer_consistent : (v : Table E) (z : Sums S) (edge : Option Place) (s t : List Place) → ((q : Place) → times_in q t ≤ times_in q s) → IsConsistentBut n v z s edge → IsConsistentBut n v z t edge
@@ -149,12 +146,12 @@ module _ {E S : Type 0} (n : E → Node) where
       fewer_consistent v y None (p ∷ join gap) (insert gap p) (λ q. omega (arith, times_append q gap.front gap.back, times_append q gap.front (p ∷ gap.back)))
       (stale_more v y (join gap) p none (invalidated.consistent (join gap) h))
 
-  -- the shown tree is consistent
-  pub consistent_shown : (v : Table E) (z : Sums S) (root : Option Place) (s : List Place) (h : ShowsConsistent n z v root s) → IsConsistentTree z h.0.tree
-  consistent_shown v z root s h = consistent_tree n v z s None h.0.tree h.1 h.0.held.entries (λ q. omega (arith, member_times n v root s h.0 q))
+  -- the represented tree is consistent
+  pub consistent_represented : (v : Table E) (z : Sums S) (root : Option Place) (s : List Place) (h : RepresentsConsistent n z v root s) → IsConsistentTree z h.0.tree
+  consistent_represented v z root s h = consistent_tree n v z s None h.0.tree h.1 h.0.held.entries (λ q. omega (arith, member_times n v root s h.0 q))
 
   -- ALL IS FRESH, of a tree that is consistent
-  pub refreshed_tree : (v : Table E) (z y : Sums S) (root : Option Place) (s : List Place) (h : Shows n v root s) → IsConsistentTree z h.tree → Refreshes IsConsistentTree z y None h.tree 67 → ShowsSummed n y v root s
+  pub refreshed_tree : (v : Table E) (z y : Sums S) (root : Option Place) (s : List Place) (h : Represents n v root s) → IsConsistentTree z h.tree → Refreshes IsConsistentTree z y None h.tree 67 → RepresentsSummed n y v root s
   refreshed_tree v z y root s h k f = record {
     shows = h;
     summed = f.summed (holds_once h.held) k (omega (arith, low));
@@ -162,42 +159,42 @@ module _ {E S : Type 0} (n : E → Node) where
     low : height h.tree ≤ 66
     low = path_few n h [] h.tree (height h.tree) refl (omega arith)
 
-  pub refreshed : (v : Table E) (z y : Sums S) (root : Option Place) (s : List Place) (h : ShowsConsistent n z v root s) → Refreshes IsConsistentTree z y None h.0.tree 67 → ShowsSummed n y v root s
-  refreshed v z y root s h f = refreshed_tree v z y root s h.0 (consistent_shown v z root s h) f
+  pub refreshed : (v : Table E) (z y : Sums S) (root : Option Place) (s : List Place) (h : RepresentsConsistent n z v root s) → Refreshes IsConsistentTree z y None h.0.tree 67 → RepresentsSummed n y v root s
+  refreshed v z y root s h f = refreshed_tree v z y root s h.0 (consistent_represented v z root s h) f
 
-  -- a shown tree that is consistent is so in its sequence
-  shown_consistent : (v : Table E) (z : Sums S) (root : Option Place) (s : List Place) (h : Shows n v root s) → IsConsistentTree z h.tree → IsConsistent n v z s
-  shown_consistent v z root s h k q m but x e = tree_consistent n v z None h.tree k h.held.entries q (omega (arith, m, member_times n v root s h q)) x e
+  -- a represented tree that is consistent is so in its sequence
+  represented_consistent : (v : Table E) (z : Sums S) (root : Option Place) (s : List Place) (h : Represents n v root s) → IsConsistentTree z h.tree → IsConsistent n v z s
+  represented_consistent v z root s h k q m but x e = tree_consistent n v z None h.tree k h.held.entries q (omega (arith, m, member_times n v root s h q)) x e
 
   -- and so consistent
-  pub still_consistent : (v : Table E) (z : Sums S) (root : Option Place) (s : List Place) → ShowsSummed n z v root s → ShowsConsistent n z v root s
-  still_consistent v z root s h = (h.shows, shown_consistent v z root s h.shows (summed_consistent_tree z None h.shows.tree h.summed))
+  pub still_consistent : (v : Table E) (z : Sums S) (root : Option Place) (s : List Place) → RepresentsSummed n z v root s → RepresentsConsistent n z v root s
+  still_consistent v z root s h = (h.shows, represented_consistent v z root s h.shows (summed_consistent_tree z None h.shows.tree h.summed))
 
   -- WHERE ALL STAYS THAT IS KEPT at the members, each fresh summary is right still
   pub others_consistent : (v : Table E) (z w : Sums S) (root : Option Place) (s : List Place) → w.join ≡ z.join → ((q : Place) → 1 ≤ times_in q s → IsSameAt z w q)
-      → ShowsConsistent n z v root s → ShowsConsistent n w v root s
+      → RepresentsConsistent n z v root s → RepresentsConsistent n w v root s
   others_consistent v z w root s ej same h =
       let members : (q : Place) → 1 ≤ times q h.0.tree → IsSameAt z w q = λ q m. same q (omega (arith, m, member_times n v root s h.0 q)) in
-      (h.0, shown_consistent v w root s h.0 (consistent_kept z w h.0.tree ej members (consistent_shown v z root s h)))
+      (h.0, represented_consistent v w root s h.0 (consistent_kept z w h.0.tree ej members (consistent_represented v z root s h)))
 
   -- AND THE TREE STAYS SUMMED
   pub still_summed : (v w : Table E) (z y : Sums S) (root : Option Place) (s : List Place) → ((q : Place) → 1 ≤ times_in q s → IsSameAt z y q)
-      → ShowsSummed n z v root s → ShowsConsistent n y w root s → ShowsSummed n y w root s
-  still_summed v w z y root s same h k = record { shows = k.0; summed = fresh_summed y None k.0.tree (λ p e. at p e) (consistent_shown w y root s k) } where
+      → RepresentsSummed n z v root s → RepresentsConsistent n y w root s → RepresentsSummed n y w root s
+  still_summed v w z y root s same h k = record { shows = k.0; summed = fresh_summed y None k.0.tree (λ p e. at p e) (consistent_represented w y root s k) } where
     at : (p : Place) → top k.0.tree ≡ Some p → (is_fresh (y.fresh p) ≡ true) × (y.upper p ≡ None)
     at p e =
         let was : top h.shows.tree ≡ Some p = sym h.shows.starts ∙ (k.0.starts ∙ e) in
         let kept = same p (omega (arith, times_top p h.shows.tree was, member_times n v root s h.shows p)) in
-        let told = summed_top z None h.shows.tree p h.summed was in
-        (ap is_fresh kept.fresh ∙ told.0, kept.upper ∙ told.1)
+        let printed = summed_top z None h.shows.tree p h.summed was in
+        (ap is_fresh kept.fresh ∙ printed.0, kept.upper ∙ printed.1)
 
   -- AND WHERE A PLACE that is no member is made stale
-  pub invalidated_shows : (v : Table E) (z y : Sums S) (root : Option Place) (s : List Place) (p : Place) → IsAbsent p s → Invalidates z y p → ShowsConsistent n z v root s → ShowsConsistent n y v root s
-  invalidated_shows v z y root s p out k h = others_consistent v z y root s k.join (λ q m. invalidated_same z y p q k (member_other q p s out m)) h
+  pub invalidated_represents : (v : Table E) (z y : Sums S) (root : Option Place) (s : List Place) (p : Place) → IsAbsent p s → Invalidates z y p → RepresentsConsistent n z v root s → RepresentsConsistent n y v root s
+  invalidated_represents v z y root s p out k h = others_consistent v z y root s k.join (λ q m. invalidated_same z y p q k (member_other q p s out m)) h
 
-  pub invalidated_summed : (v : Table E) (z y : Sums S) (root : Option Place) (s : List Place) (p : Place) → IsAbsent p s → Invalidates z y p → ShowsSummed n z v root s → ShowsSummed n y v root s
+  pub invalidated_summed : (v : Table E) (z y : Sums S) (root : Option Place) (s : List Place) (p : Place) → IsAbsent p s → Invalidates z y p → RepresentsSummed n z v root s → RepresentsSummed n y v root s
   invalidated_summed v z y root s p out k h =
-      still_summed v v z y root s (λ q m. invalidated_same z y p q k (member_other q p s out m)) h (invalidated_shows v z y root s p out k (still_consistent v z root s h))
+      still_summed v v z y root s (λ q m. invalidated_same z y p q k (member_other q p s out m)) h (invalidated_represents v z y root s p out k (still_consistent v z root s h))
 
   -- another place changes
   pub beside_consistent : (v w : Table E) (z : Sums S) (t : List Place) (p : Place) → IsAbsent p t → ChangesOnly v w p → IsConsistent n v z t → IsConsistent n w z t
@@ -205,26 +202,26 @@ module _ {E S : Type 0} (n : E → Node) where
     other : q ≢ p
     other = member_other q p t out m
 
-  pub beside_shows : (v w : Table E) (z : Sums S) (root : Option Place) (s : List Place) (p : Place) → IsAbsent p s → ChangesOnly v w p → ShowsConsistent n z v root s → ShowsConsistent n z w root s
-  beside_shows v w z root s p out only h = (shows_beside h.0 out only.others, beside_consistent v w z s p out only h.1)
+  pub beside_represents : (v w : Table E) (z : Sums S) (root : Option Place) (s : List Place) (p : Place) → IsAbsent p s → ChangesOnly v w p → RepresentsConsistent n z v root s → RepresentsConsistent n z w root s
+  beside_represents v w z root s p out only h = (represents_beside h.0 out only.others, beside_consistent v w z s p out only h.1)
 
-  pub beside_summed : (v w : Table E) (z : Sums S) (root : Option Place) (s : List Place) (p : Place) → IsAbsent p s → ChangesOnly v w p → ShowsSummed n z v root s → ShowsSummed n z w root s
-  beside_summed v w z root s p out only h = still_summed v w z z root s (λ q m. record { fresh = refl; upper = refl }) h (beside_shows v w z root s p out only (still_consistent v z root s h))
+  pub beside_summed : (v w : Table E) (z : Sums S) (root : Option Place) (s : List Place) (p : Place) → IsAbsent p s → ChangesOnly v w p → RepresentsSummed n z v root s → RepresentsSummed n z w root s
+  beside_summed v w z root s p out only h = still_summed v w z z root s (λ q m. record { fresh = refl; upper = refl }) h (beside_represents v w z root s p out only (still_consistent v z root s h))
 
   pub acquired_consistent : (old v : Table E) (z : Sums S) (root : Option Place) (s t : List Place) (p : Place) → t ≡ s → (n (old.entry p)).linked ≡ false → ChangesOnly old v p
-      → ShowsConsistent n z old root s → ShowsConsistent n z v root t
-  acquired_consistent old v z root s t p e free only h = subst (ShowsConsistent n z v root) (sym e) (beside_shows old v z root s p (free_absent h.0 free) only h)
+      → RepresentsConsistent n z old root s → RepresentsConsistent n z v root t
+  acquired_consistent old v z root s t p e free only h = subst (RepresentsConsistent n z v root) (sym e) (beside_represents old v z root s p (free_absent h.0 free) only h)
 
   -- and so all is fresh
-  pub all_fresh : (v : Table E) (z : Sums S) (root : Option Place) (s : List Place) → ShowsSummed n z v root s → ShowsFresh n z v root s
+  pub all_fresh : (v : Table E) (z : Sums S) (root : Option Place) (s : List Place) → RepresentsSummed n z v root s → RepresentsFresh n z v root s
   all_fresh v z root s h = record { summed = h; consistent = still_consistent v z root s h }
 
   -- an insert in order, into a tree that is summed then
-  pub inserts_fresh : {at : Place → Ordering} (old w : Table E) (x : Sums S) (root : Option Place) (s : List Place) (p : Place) (gap : Cut) → ShowsFresh n x w root (insert gap p)
-      → InsertsInOrder (Shows n) at old w root s p → InsertsInOrder (ShowsFresh n x) at old w root s p
+  pub inserts_fresh : {at : Place → Ordering} (old w : Table E) (x : Sums S) (root : Option Place) (s : List Place) (p : Place) (gap : Cut) → RepresentsFresh n x w root (insert gap p)
+      → InsertsInOrder (Represents n) at old w root s p → InsertsInOrder (RepresentsFresh n x) at old w root s p
   inserts_fresh old w x root s p gap h i = record {
     gap = i.gap;
     same = i.same;
     border = i.border;
-    inserted = record { shows = subst (ShowsFresh n x w root) (one_sequence h.summed.shows i.inserted.shows) h; frame = i.inserted.frame };
+    inserted = record { shows = subst (RepresentsFresh n x w root) (one_sequence h.summed.shows i.inserted.shows) h; frame = i.inserted.frame };
   }

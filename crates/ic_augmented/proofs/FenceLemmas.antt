@@ -1,14 +1,12 @@
--- What an edit does behind a fence it does in the table: a place is put in, or taken out.
+-- What an edit does after a fence it does in the table: a place is put in, or taken out.
 use Rattle.std.proofs.Common.{◌≡◌, ◌≢◌, ◌≤◌, ◌+◌, ℕ, zero, suc, Bool, true, false, ◌&&◌, Option, Some, None, List, [], ◌∷◌, ◌++◌, refl, sym, ap, ◌∙◌, subst, arith, inl, inr}
 use Rattle.std.proofs.lemmas.Bool.{and_from}
 use Rattle.std.proofs.Math.Nat.{le-max_left, le-max_right}
-use Rattle.ic_unsafe_ref.specs.declared.place.Place.{Place}
+use Rattle.ic_link_ops.specs.Prelude.{Place, Cut, Table}
 use Rattle.ic_unsafe_ref.proofs.PlaceLemmas.{same_or_not}
 use Rattle.ic_link_ops.specs.declared.side.Side.{Side}
 use Rattle.ic_link_ops.specs.declared.side.Side.TheVariants.{Left, Right}
-use Rattle.ic_link_ops.specs.RedBlackTree.{Node, IsTree, Shows}
-use Rattle.ic_link_ops.specs.Sequences.{Cut}
-use Rattle.ic_link_ops.specs.Tables.{Table}
+use Rattle.ic_link_ops.specs.RedBlackTree.{Node, IsTree, Represents}
 use Rattle.ic_link_ops.specs.Times.{one_at, times, times_in}
 use Rattle.ic_link_ops.specs.Trees.{Tree, leaf, fork, top, in_order}
 use Rattle.ic_link_ops.proofs.Frames.{tree_same, side_same, around_same}
@@ -16,12 +14,12 @@ use Rattle.ic_link_ops.proofs.SequenceLemmas.{none_not, some_same}
 use Rattle.ic_link_ops.proofs.Times.{one_at_self, one_at_other, times_append, times_order}
 use Rattle.ic_rbtree.specs.Closed.{IsIn, IsClosedBut, IsClosed, IsSafe, IsSafeBut, KeepsNodes}
 use Rattle.ic_rbtree.specs.Height.{height}
-use Rattle.ic_rbtree.specs.Insertion.{IsHole, Attaches}
-use Rattle.ic_rbtree.specs.Pieces.{Piece, cell, loose, below, around, times_all, times_piece, IsPiece, ArePieces, Shown}
+use Rattle.ic_rbtree.specs.Insertion.{IsInsertPos, Attaches}
+use Rattle.ic_rbtree.specs.Pieces.{Piece, cell, loose, below, around, times_all, times_piece, IsPiece, ArePieces, Represented}
 use Rattle.ic_rbtree.specs.Transplants.{TakesAway}
 use Rattle.ic_rbtree.proofs.Climbed.{path_few}
-use Rattle.ic_rbtree.proofs.Removing.{shown_of, shows_of}
-use Rattle.ic_rbtree.proofs.ShownClosed.{among, with_place}
+use Rattle.ic_rbtree.proofs.Removing.{represented_of, represents_of}
+use Rattle.ic_rbtree.proofs.RepresentedClosed.{among, with_place}
 use Rattle.ic_augmented.specs.Fences.{fenced, fenced_node}
 use Rattle.ic_augmented.proofs.ConsistencyLemmas.{where_is}
 
@@ -68,8 +66,8 @@ module _ {E : Type 0} (n : E → Node) where
       ∙ (ap (λ (z : List Place). z ++ p ∷ listed entry k (n (entry p)).right) left ∙ ap (λ (z : List Place). in_order a ++ p ∷ z) right)
 
   -- A SHOWN TREE lists its members
-  listed_shown : {v : Table E} {root : Option Place} {s : List Place} → Shows n v root s → listed v.entry 67 root ≡ s
-  listed_shown {v} {root} {s} h =
+  listed_represented : {v : Table E} {root : Option Place} {s : List Place} → Represents n v root s → listed v.entry 67 root ≡ s
+  listed_represented {v} {root} {s} h =
       let low : height h.tree ≤ 66 = path_few n h [] h.tree (height h.tree) refl (omega arith) in
       listed_tree v.entry None h.tree 67 root h.held.entries h.starts (omega (arith, low)) ∙ h.held.order
 
@@ -77,17 +75,17 @@ module _ {E : Type 0} (n : E → Node) where
   pub members_of : (v : Table E) (root : Option Place) → Place → Bool
   members_of v root q = among q (listed v.entry 67 root)
 
-  pub members_are : {v : Table E} {root : Option Place} {s : List Place} → Shows n v root s → members_of v root ≡ λ q. among q s
+  pub members_are : {v : Table E} {root : Option Place} {s : List Place} → Represents n v root s → members_of v root ≡ λ q. among q s
   unfolding members_of
-  members_are {v} {root} {s} h = ap {B = Place → Bool} (λ (z : List Place). λ (q : Place). among q z) (listed_shown h)
+  members_are {v} {root} {s} h = ap {B = Place → Bool} (λ (z : List Place). λ (q : Place). among q z) (listed_represented h)
 
   -- THE FENCE of an insert: the place too
   pub fence_of : (v : Table E) (root : Option Place) (p : Place) → Place → Bool
   fence_of v root p = with_place p (listed v.entry 67 root)
 
-  pub fence_is : {v : Table E} {root : Option Place} {s : List Place} (p : Place) → Shows n v root s → fence_of v root p ≡ with_place p s
+  pub fence_is : {v : Table E} {root : Option Place} {s : List Place} (p : Place) → Represents n v root s → fence_of v root p ≡ with_place p s
   unfolding fence_of
-  fence_is p h = ap (λ (z : List Place). with_place p z) (listed_shown h)
+  fence_is p h = ap (λ (z : List Place). with_place p z) (listed_represented h)
 
   -- pieces depend on the entries of their members alone
   piece_same : (old new : Place → E) (x : Piece) → ((q : Place) → (times_piece q x ≡ 0 → ⊥) → new q ≡ old q) → IsPiece n old x → IsPiece n new x
@@ -106,9 +104,9 @@ module _ {E : Type 0} (n : E → Node) where
   pieces_on entry [] ps h k = k
   pieces_on entry (x ∷ xs) ps h k = (h.0, pieces_on entry xs ps h.1 k)
 
-  pieces_behind : (entry : Place → E) (xs ps : List Piece) → ArePieces n entry (xs ++ ps) → ArePieces n entry ps
-  pieces_behind entry [] ps h = h
-  pieces_behind entry (x ∷ xs) ps h = pieces_behind entry xs ps h.1
+  pieces_after : (entry : Place → E) (xs ps : List Piece) → ArePieces n entry (xs ++ ps) → ArePieces n entry ps
+  pieces_after entry [] ps h = h
+  pieces_after entry (x ∷ xs) ps h = pieces_after entry xs ps h.1
 
   module _ (inside : Place → Bool) where
     -- INTO THE FENCE, where all members stand inside, and out of it
@@ -128,15 +126,15 @@ module _ {E : Type 0} (n : E → Node) where
       tree_out entry (Some p) b h.2,
     )
 
-    hole_behind : (v : Table E) (parent : Option Place) (d : Side) (gap : Cut) → IsHole n v parent d gap → IsHole (fenced_node n) (fenced inside v) parent d gap
-    hole_behind v None d gap h = h
-    hole_behind v (Some q) Left gap h = h
-    hole_behind v (Some q) Right gap h = h
+    hole_after : (v : Table E) (parent : Option Place) (d : Side) (gap : Cut) → IsInsertPos n v parent d gap → IsInsertPos (fenced_node n) (fenced inside v) parent d gap
+    hole_after v None d gap h = h
+    hole_after v (Some q) Left gap h = h
+    hole_after v (Some q) Right gap h = h
 
     module _ {v : Table E} {root but : Option Place} (closed : IsClosedBut n v root but inside) where
-      -- closed here, and so behind the fence
-      closed_behind : IsClosedBut (fenced_node n) (fenced inside v) root but inside
-      closed_behind = record { linked = λ q m. and_from _ _ m (closed.linked q m); left = closed.left; right = closed.right; parent = closed.parent; starts = closed.starts }
+      -- closed here, and so after the fence
+      closed_after : IsClosedBut (fenced_node n) (fenced inside v) root but inside
+      closed_after = record { linked = λ q m. and_from _ _ m (closed.linked q m); left = closed.left; right = closed.right; parent = closed.parent; starts = closed.starts }
 
       -- what is closed has the whole tree
       members_inside : (up : Option Place) (t : Tree) → IsTree n v.entry up t → IsIn inside (top t) → ((x : Place) → 1 ≤ times x t → but ≡ Some x → ⊥) → (q : Place) → 1 ≤ times q t → inside q ≡ true
@@ -152,9 +150,9 @@ module _ {E : Type 0} (n : E → Node) where
           ]
 
       -- A SHOWN TREE BEHIND THE FENCE, with the first of the pieces beside it
-      module _ {base : Table E} {s : List Place} (xs ps : List Piece) (h : Shown n base v root s (xs ++ ps)) (out : (x : Place) → 1 ≤ times x h.tree → but ≡ Some x → ⊥) where
-        shown_behind : ArePieces (fenced_node n) (λ q. (inside q, v.entry q)) xs → Shown (fenced_node n) (fenced inside v) (fenced inside v) root s xs
-        shown_behind here = record {
+      module _ {base : Table E} {s : List Place} (xs ps : List Piece) (h : Represented n base v root s (xs ++ ps)) (out : (x : Place) → 1 ≤ times x h.tree → but ≡ Some x → ⊥) where
+        represented_after : ArePieces (fenced_node n) (λ q. (inside q, v.entry q)) xs → Represented (fenced_node n) (fenced inside v) (fenced inside v) root s xs
+        represented_after here = record {
           tree = h.tree;
           stands = record {
             are = ((tt, h.stands.are.0.1), (tree_in v.entry None h.tree (members_inside None h.tree h.stands.are.1.0 (subst (λ (o : Option Place). IsIn inside o) h.stands.are.0.1 closed.starts) out) h.stands.are.1.0, here));
@@ -168,20 +166,20 @@ module _ {E : Type 0} (n : E → Node) where
         }
 
         -- and what an edit makes of it is so in the table, beside the other pieces
-        module _ {w : Table E} {new_root : Option Place} {u : List Place} (ys : List Piece) (linked : KeepsNodes n v w) (r : Shown (fenced_node n) (fenced inside v) (fenced inside w) new_root u ys)
+        module _ {w : Table E} {new_root : Option Place} {u : List Place} (ys : List Piece) (linked : KeepsNodes n v w) (r : Represented (fenced_node n) (fenced inside v) (fenced inside w) new_root u ys)
             (count : (q : Place) → times q r.tree + times_all q ys ≡ times q h.tree + times_all q xs) (are : ArePieces n w.entry ys) where
           kept : (q : Place) → times q r.tree + times_all q ys ≡ 0 → w.entry q ≡ v.entry q
           kept q none = ap (λ (e : Bool × E). e.1) (r.stands.beside q (omega (arith, none)))
 
-          shown_before : Shown n base w new_root u (ys ++ ps)
-          shown_before = record {
+          represented_before : Represented n base w new_root u (ys ++ ps)
+          represented_before = record {
             tree = r.tree;
             stands = record {
               are = (
                 (tt, r.stands.are.0.1),
                 (
                   tree_out w.entry None r.tree r.stands.are.1.0,
-                  pieces_on w.entry ys ps are (pieces_same v.entry w.entry ps (λ q m. kept q (omega (arith, h.stands.once q, count q, times_on q xs ps, some_of (times_all q ps) m))) (pieces_behind v.entry xs ps h.stands.are.1.1)),
+                  pieces_on w.entry ys ps are (pieces_same v.entry w.entry ps (λ q m. kept q (omega (arith, h.stands.once q, count q, times_on q xs ps, some_of (times_all q ps) m))) (pieces_after v.entry xs ps h.stands.are.1.1)),
                 ),
               );
               once = λ q. omega (arith, h.stands.once q, count q, times_on q xs ps, times_on q ys ps);
@@ -195,29 +193,29 @@ module _ {E : Type 0} (n : E → Node) where
 
     -- A PLACE THAT COMES IN
     module _ {v : Table E} {root : Option Place} {p : Place} (closed : IsClosedBut n v root (Some p) inside) (here : inside p ≡ true) where
-      pub safe_behind : (parent : Option Place) → IsIn inside parent → IsSafeBut (fenced_node n) (fenced inside v) root p (Some p ∷ parent ∷ [])
-      safe_behind parent i = (inside, closed_behind closed, (here, (i, tt)))
+      pub safe_after : (parent : Option Place) → IsIn inside parent → IsSafeBut (fenced_node n) (fenced inside v) root p (Some p ∷ parent ∷ [])
+      safe_after parent i = (inside, closed_after closed, (here, (i, tt)))
 
-      -- PUT IN behind the fence, and so in the table
+      -- PUT IN after the fence, and so in the table
       pub attached_before : {w : Table E} {new_root : Option Place} (parent : Option Place) (d : Side) → KeepsNodes n v w
           → Attaches (fenced_node n) (fenced inside v) (fenced inside w) root new_root parent d p → Attaches n v w root new_root parent d p
       attached_before {w} {new_root} parent d linked done base gap ps h hole =
           let out : (x : Place) → 1 ≤ times x h.tree → Some p ≡ Some x → ⊥ =
           λ x m e. let k : times x h.tree + one_at x p ≤ 1 = omega (arith, h.stands.once x) in let one : one_at x p ≡ 1 = subst (λ (y : Place). one_at y p ≡ 1) (some_same e) (one_at_self p) in omega (arith, m, k, one) in
-          let r = done (fenced inside v) gap [] (shown_behind closed (loose p ∷ []) ps h out (and_from _ _ here h.stands.are.1.1.0, tt)) (hole_behind v parent d gap hole) in
-          shown_before closed (loose p ∷ []) ps h out [] linked r (λ q. counted q gap.front p gap.back h.tree h.order r.tree r.order) tt
+          let r = done (fenced inside v) gap [] (represented_after closed (loose p ∷ []) ps h out (and_from _ _ here h.stands.are.1.1.0, tt)) (hole_after v parent d gap hole) in
+          represented_before closed (loose p ∷ []) ps h out [] linked r (λ q. counted q gap.front p gap.back h.tree h.order r.tree r.order) tt
 
     -- A MEMBER THAT GOES
     module _ {v : Table E} {root : Option Place} (closed : IsClosed n v root inside) where
       pub safe_within : {p : Place} → inside p ≡ true → IsSafe (fenced_node n) (fenced inside v) root (Some p ∷ [])
-      safe_within here = (inside, closed_behind closed, (here, tt))
+      safe_within here = (inside, closed_after closed, (here, tt))
 
-      pub shows_behind : {s : List Place} → Shows n v root s → Shows (fenced_node n) (fenced inside v) root s
-      shows_behind h = shows_of (fenced_node n) (shown_behind closed [] [] (shown_of n h) (λ x m e. none_not x e) tt)
+      pub represents_after : {s : List Place} → Represents n v root s → Represents (fenced_node n) (fenced inside v) root s
+      represents_after h = represents_of (fenced_node n) (represented_after closed [] [] (represented_of n h) (λ x m e. none_not x e) tt)
 
-      -- TAKEN OUT behind the fence, and so in the table
+      -- TAKEN OUT after the fence, and so in the table
       pub taken_before : {p : Place} {w : Table E} {new_root : Option Place} → KeepsNodes n v w → TakesAway (fenced_node n) (fenced inside v) (fenced inside w) root new_root p → TakesAway n v w root new_root p
       taken_before {p} {w} {new_root} linked done base front back ps h =
           let out : (x : Place) → 1 ≤ times x h.tree → None ≡ Some x → ⊥ = λ x m e. none_not x e in
-          let r = done (fenced inside v) front back [] (shown_behind closed [] ps h out tt) in
-          shown_before closed [] ps h out (loose p ∷ []) linked r (λ q. let k = counted q front p back r.tree r.order h.tree h.order in omega (arith, k)) (and_right _ _ r.stands.are.1.1.0, tt)
+          let r = done (fenced inside v) front back [] (represented_after closed [] ps h out tt) in
+          represented_before closed [] ps h out (loose p ∷ []) linked r (λ q. let k = counted q front p back r.tree r.order h.tree h.order in omega (arith, k)) (and_right _ _ r.stands.are.1.1.0, tt)

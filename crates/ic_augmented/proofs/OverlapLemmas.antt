@@ -1,4 +1,4 @@
--- The first interval that overlaps: below a place, and behind it.
+-- The first interval that overlaps: below a place, and after it.
 use Rattle.std.proofs.Common.{◌≡◌, ◌≢◌, ◌≤◌, ◌<◌, ◌-◌, ◌&&◌, nat_lt, ◌⊎◌, ℕ, Bool, true, false, cond, Option, Some, None, List, [], ◌∷◌, ◌++◌, length, map, max, refl, sym, ap, ◌∙◌, subst, arith, inl, inr, append_assoc}
 use Rattle.std.proofs.Math.Nat.{le-max_left, le-max_right, max-le}
 use Rattle.std.proofs.lemmas.Bool.{ltb-true, ltb-false, lt-ltb, le-ltb}
@@ -7,23 +7,19 @@ use Rattle.std.specs.Cmp.{nat_cmp_is}
 use Rattle.std.specs.List.{filter}
 use Rattle.std.specs.Ordering.{nat_cmp}
 use Rattle.std.specs.declared.cmp.Ordering.TheVariants.{Equal, Greater}
-use Rattle.ic_unsafe_ref.specs.declared.place.Place.{Place}
-use Rattle.ic_unsafe_ref.specs.Objects.{Objects, is_placed}
+use Rattle.ic_link_ops.specs.Prelude.{Place, Objects, is_placed, first, Table, ArePlaced}
 use Rattle.ic_link_ops.specs.declared.color.Color.{Color}
 use Rattle.ic_link_ops.specs.declared.side.Side.TheVariants.{Left, Right}
 use Rattle.ic_link_ops.specs.Frames.{Frame, frame, plug, above, after}
 use Rattle.ic_link_ops.specs.Walk.{is_end}
-use Rattle.ic_link_ops.specs.PlacedObjects.{ArePlaced}
 use Rattle.ic_link_ops.specs.RedBlackTree.{Node, IsTree}
-use Rattle.ic_link_ops.specs.Sequences.{first}
-use Rattle.ic_link_ops.specs.Tables.{Table}
 use Rattle.ic_link_ops.specs.Trees.{Tree, leaf, fork, top, in_order}
 use Rattle.ic_link_ops.proofs.SequenceLemmas.{none_not, some_same}
 use Rattle.ic_rbtree.specs.Borders.{IsSorted}
 use Rattle.ic_rbtree.specs.Height.{height}
 use Rattle.ic_rbtree.proofs.Climbed.{path_few}
 use Rattle.ic_augmented.specs.declared.sum_table.Cell.{Cell}
-use Rattle.ic_augmented.specs.Consistent.{ShowsSummed}
+use Rattle.ic_augmented.specs.Consistent.{RepresentsSummed}
 use Rattle.ic_augmented.specs.Greatest.{number_in, greatest_in}
 use Rattle.ic_augmented.specs.Intervals.{overlaps}
 use Rattle.ic_augmented.specs.SumTables.{or_zero}
@@ -44,9 +40,9 @@ and_false : (b : Bool) → b && false ≡ false
 and_false true = refl
 and_false false = refl
 
-nothing_behind : (s t : List Place) → s ++ t ≡ [] → t ≡ []
-nothing_behind [] t e = e
-nothing_behind (x ∷ s) t e = cc
+nothing_after : (s t : List Place) → s ++ t ≡ [] → t ≡ []
+nothing_after [] t e = e
+nothing_after (x ∷ s) t e = cc
 
 -- ORDER by starts
 module _ (start : Place → ℕ) where
@@ -60,9 +56,9 @@ module _ (start : Place → ℕ) where
   sorted_tail x [] h = tt
   sorted_tail x (y ∷ s) h = h.1
 
-  pub sorted_behind : (f g : List Place) → IsSorted nat_cmp (map start (f ++ g)) → IsSorted nat_cmp (map start g)
-  sorted_behind [] g h = h
-  sorted_behind (x ∷ f) g h = sorted_behind f g (sorted_tail x (f ++ g) h)
+  pub sorted_after : (f g : List Place) → IsSorted nat_cmp (map start (f ++ g)) → IsSorted nat_cmp (map start g)
+  sorted_after [] g h = h
+  sorted_after (x ∷ f) g h = sorted_after f g (sorted_tail x (f ++ g) h)
 
   pub sorted_front : (f g : List Place) → IsSorted nat_cmp (map start (f ++ g)) → IsSorted nat_cmp (map start f)
   sorted_front [] g h = tt
@@ -89,11 +85,11 @@ module _ (start : Place → ℕ) (es : List (Cell ℕ ℕ)) (from to : ℕ) wher
   ends_before : (q : Place) → end q ≤ from → test q ≡ false
   ends_before q h = ap (λ (b : Bool). nat_lt (start q) to && b) (le-ltb from (end q) h) ∙ and_false (nat_lt (start q) to)
 
-  starts_behind : (q : Place) → to ≤ start q → test q ≡ false
-  starts_behind q h = ap (λ (b : Bool). b && nat_lt from (end q)) (le-ltb (start q) to h)
+  starts_after : (q : Place) → to ≤ start q → test q ≡ false
+  starts_after q h = ap (λ (b : Bool). b && nat_lt from (end q)) (le-ltb (start q) to h)
 
-  must_start_behind : (q : Place) → from < end q → test q ≡ false → to ≤ start q
-  must_start_behind q ends none = elim (below_or_not (start q) to) [
+  must_start_after : (q : Place) → from < end q → test q ≡ false → to ≤ start q
+  must_start_after q ends none = elim (below_or_not (start q) to) [
     | inl starts ↦ let k : true ≡ false = sym (over q starts ends) ∙ none in cc
     | inr h ↦ h
   ]
@@ -110,12 +106,12 @@ module _ (start : Place → ℕ) (es : List (Cell ℕ ℕ)) (from to : ℕ) wher
     pick true k = let l : q ∷ filter test s ≡ [] = sym (takes q s k) ∙ e in cc
     pick false k = k
 
-  -- behind one that starts too late all do
+  -- after one that starts too late all do
   late : (q : Place) (s : List Place) → to ≤ start q → IsSorted nat_cmp (map start (q ∷ s)) → filter test (q ∷ s) ≡ []
-  late q [] h sorted = drops q [] (starts_behind q h)
-  late q (r ∷ s) h sorted = drops q (r ∷ s) (starts_behind q h) ∙ late r s (omega (arith, h, not_later start q r sorted.0)) sorted.1
+  late q [] h sorted = drops q [] (starts_after q h)
+  late q (r ∷ s) h sorted = drops q (r ∷ s) (starts_after q h) ∙ late r s (omega (arith, h, not_later start q r sorted.0)) sorted.1
 
-  -- a tree whose greatest end is not behind `from` has none
+  -- a tree whose greatest end is not after `from` has none
   none_below : (t : Tree) → or_zero (total (greatest_in es) t) ≤ from → filter test (in_order t) ≡ []
   none_below leaf h = refl
   none_below (fork c a p b) h =
@@ -154,18 +150,18 @@ module _ (start : Place → ℕ) (es : List (Cell ℕ ℕ)) (from to : ℕ) wher
       | inr less ↦ absurd (omega (arith, h, max-le low (max-le lower less)))
     ]
 
-  -- where a member of the front ends behind `from`, the first that overlaps stands in the front, or none does
+  -- where a member of the front ends after `from`, the first that overlaps stands in the front, or none does
   first_left : (s rest : List Place) → Reaches s → IsSorted nat_cmp (map start (s ++ rest)) → first (filter test s) ≡ first (filter test (s ++ rest))
   first_left s rest r sorted = pick (filter test s) refl where
     pick : (w : List Place) → filter test s ≡ w → first (filter test s) ≡ first (filter test (s ++ rest))
     pick (x ∷ w) e = ap first e ∙ sym (ap first (filter-append test s rest ∙ ap (λ (y : List Place). y ++ filter test rest) e))
     pick [] e =
         let both : filter test r.front ++ filter test (r.q ∷ r.back) ≡ [] = sym (filter-append test r.front (r.q ∷ r.back)) ∙ (ap (filter test) (sym r.is) ∙ e) in
-        let behind : to ≤ start r.q = must_start_behind r.q r.ends (must_fail r.q r.back (nothing_behind (filter test r.front) (filter test (r.q ∷ r.back)) both)) in
+        let behind : to ≤ start r.q = must_start_after r.q r.ends (must_fail r.q r.back (nothing_after (filter test r.front) (filter test (r.q ∷ r.back)) both)) in
         let split : s ++ rest ≡ r.front ++ (r.q ∷ (r.back ++ rest)) = ap (λ (y : List Place). y ++ rest) r.is ∙ append_assoc r.front (r.q ∷ r.back) rest in
-        let on : IsSorted nat_cmp (map start (r.q ∷ (r.back ++ rest))) = sorted_behind start r.front (r.q ∷ (r.back ++ rest)) (subst (λ (y : List Place). IsSorted nat_cmp (map start y)) split sorted) in
+        let on : IsSorted nat_cmp (map start (r.q ∷ (r.back ++ rest))) = sorted_after start r.front (r.q ∷ (r.back ++ rest)) (subst (λ (y : List Place). IsSorted nat_cmp (map start y)) split sorted) in
         let none : filter test (r.q ∷ r.back) ++ filter test rest ≡ [] = sym (filter-append test (r.q ∷ r.back) rest) ∙ late r.q (r.back ++ rest) behind on in
-        let rest_none : filter test rest ≡ [] = nothing_behind (filter test (r.q ∷ r.back)) (filter test rest) none in
+        let rest_none : filter test rest ≡ [] = nothing_after (filter test (r.q ∷ r.back)) (filter test rest) none in
         ap first (e ∙ sym (filter-append test s rest ∙ (ap (λ (y : List Place). y ++ filter test rest) e ∙ rest_none)))
 
   -- the left subtree has none
@@ -196,7 +192,7 @@ module _ (start : Place → ℕ) (es : List (Cell ℕ ℕ)) (from to : ℕ) wher
 
       pub overlap_none : g ≤ from → to ≤ start p → (t : Tree) → Some p ≡ top t → Finds None t
       overlap_none less behind = at_root p None (λ c a b h s sorted low.
-          sym (ap first (skipped a (p ∷ in_order b) (omega (arith, less, left_greatest c a b h s)) ∙ late p (in_order b) behind (sorted_behind start (in_order a) (p ∷ in_order b) sorted))))
+          sym (ap first (skipped a (p ∷ in_order b) (omega (arith, less, left_greatest c a b h s)) ∙ late p (in_order b) behind (sorted_after start (in_order a) (p ∷ in_order b) sorted))))
 
       pub overlap_here : g ≤ from → start p < to → from < end p → (t : Tree) → Some p ≡ top t → Finds (Some p) t
       overlap_here less starts ends = at_root p (Some p) (λ c a b h s sorted low.
@@ -204,12 +200,12 @@ module _ (start : Place → ℕ) (es : List (Cell ℕ ℕ)) (from to : ℕ) wher
 
       pub overlap_right : (result : Option Place) → g ≤ from → end p ≤ from → FindsFirst r (turns - 1) result → (t : Tree) → Some p ≡ top t → Finds result t
       overlap_right result less ends found = at_root p result (λ c a b h s sorted low.
-          found (Some p) b h.2 (er ∙ h.0.right) s.3 (sorted_tail start p (in_order b) (sorted_behind start (in_order a) (p ∷ in_order b) sorted)) (omega (arith, low, le-max_right (height a) (height b)))
+          found (Some p) b h.2 (er ∙ h.0.right) s.3 (sorted_tail start p (in_order b) (sorted_after start (in_order a) (p ∷ in_order b) sorted)) (omega (arith, low, le-max_right (height a) (height b)))
           ∙ sym (ap first (skipped a (p ∷ in_order b) (omega (arith, less, left_greatest c a b h s)) ∙ drops p (in_order b) (ends_before p ends))))
 
   module _ {E : Type 0} (n : E → Node) (v : Table E) where
     -- FROM THE ROOT
-    pub first_is : {root : Option Place} (s : List Place) (h : ShowsSummed n (greatest_in es) v root s) → IsSorted nat_cmp (map start s) → (o result : Option Place) → o ≡ root → FindsFirst n v None 67 o 67 result
+    pub first_is : {root : Option Place} (s : List Place) (h : RepresentsSummed n (greatest_in es) v root s) → IsSorted nat_cmp (map start s) → (o result : Option Place) → o ≡ root → FindsFirst n v None 67 o 67 result
         → result ≡ first (filter test s)
     first_is s h sorted o result e found =
         let low : height h.shows.tree ≤ 66 = path_few n h.shows [] h.shows.tree (height h.shows.tree) refl (omega arith) in
@@ -246,101 +242,101 @@ module _ {E T : Type 0} (n : E → Node) (v : Table E) (objects : Objects T) (u 
 
 module _ {E : Type 0} (n : E → Node) (v : Table E) where
   module _ {T : Type 0} (objects : Objects T) where
-    -- the parent's subtree, and what stands behind it
-    pub behind_up : (fs : List Frame) (t : Tree) (up : Place) → IsSubtree n v fs t → ArePlaced objects (after fs) → above fs ≡ Some up
+    -- the parent's subtree, and what stands after it
+    pub after_up : (fs : List Frame) (t : Tree) (up : Place) → IsSubtree n v fs t → ArePlaced objects (after fs) → above fs ≡ Some up
         → (gs : List Frame) × (u : Tree) × IsSubtree n v gs u × (top u ≡ Some up) × ArePlaced objects (after gs)
-    behind_up [] t up h placed e = absurd (none_not up e)
-    behind_up (frame Left c q b ∷ fs) t up h placed e = (fs, fork c t q b, subtree_left n v c q b fs t h, e, placed_right objects (in_order b) (after fs) placed.1)
-    behind_up (frame Right c q b ∷ fs) t up h placed e = (fs, fork c b q t, subtree_right n v c q b fs t h, e, placed)
+    after_up [] t up h placed e = absurd (none_not up e)
+    after_up (frame Left c q b ∷ fs) t up h placed e = (fs, fork c t q b, subtree_left n v c q b fs t h, e, placed_right objects (in_order b) (after fs) placed.1)
+    after_up (frame Right c q b ∷ fs) t up h placed e = (fs, fork c b q t, subtree_right n v c q b fs t h, e, placed)
 
     module _ (p up : Place) (right : Option Place) (right_is : right ≡ (n (v.entry up)).right) (other : is_end right p ≡ false) where
-      -- a right child has the parent behind it
+      -- a right child has the parent after it
       absurd_right : (fs : List Frame) (t : Tree) (c : Color) (q : Place) (b : Tree) → IsSubtree n v (frame Right c q b ∷ fs) t → top t ≡ Some p → Some q ≡ Some up → ⊥
       absurd_right fs t c q b h e eu = not_end right p other (right_is ∙ (ap (λ (y : Place). (n (v.entry y)).right) (sym (some_same eu)) ∙ (h.around.0.right ∙ e)))
 
-      pub behind_here : (fs : List Frame) (t : Tree) → IsSubtree n v fs t → top t ≡ Some p → ArePlaced objects (after fs) → above fs ≡ Some up → is_placed objects up ≡ true
-      behind_here [] t h e placed eu = absurd (none_not up eu)
-      behind_here (frame Left c q b ∷ fs) t h e placed eu = subst (λ (y : Place). is_placed objects y ≡ true) (some_same eu) placed.0
-      behind_here (frame Right c q b ∷ fs) t h e placed eu = absurd (absurd_right fs t c q b h e eu)
+      pub after_here : (fs : List Frame) (t : Tree) → IsSubtree n v fs t → top t ≡ Some p → ArePlaced objects (after fs) → above fs ≡ Some up → is_placed objects up ≡ true
+      after_here [] t h e placed eu = absurd (none_not up eu)
+      after_here (frame Left c q b ∷ fs) t h e placed eu = subst (λ (y : Place). is_placed objects y ≡ true) (some_same eu) placed.0
+      after_here (frame Right c q b ∷ fs) t h e placed eu = absurd (absurd_right fs t c q b h e eu)
 
-      pub behind_tree : (fs : List Frame) (t : Tree) → IsSubtree n v fs t → top t ≡ Some p → ArePlaced objects (after fs) → above fs ≡ Some up → HasTree n v objects None up right
-      behind_tree [] t h e placed eu = absurd (none_not up eu)
-      behind_tree (frame Left c q b ∷ fs) t h e placed eu =
+      pub after_tree : (fs : List Frame) (t : Tree) → IsSubtree n v fs t → top t ≡ Some p → ArePlaced objects (after fs) → above fs ≡ Some up → HasTree n v objects None up right
+      after_tree [] t h e placed eu = absurd (none_not up eu)
+      after_tree (frame Left c q b ∷ fs) t h e placed eu =
           (Some q, b, h.around.1, right_is ∙ (ap (λ (y : Place). (n (v.entry y)).right) (sym (some_same eu)) ∙ h.around.0.right), placed_left objects (in_order b) (after fs) placed.1)
-      behind_tree (frame Right c q b ∷ fs) t h e placed eu = absurd (absurd_right fs t c q b h e eu)
+      after_tree (frame Right c q b ∷ fs) t h e placed eu = absurd (absurd_right fs t c q b h e eu)
 
   module _ (start : Place → ℕ) (es : List (Cell ℕ ℕ)) (from to : ℕ) where
-    -- what is found behind the subtree at a place
-    abbrev pub FindsBehind : Place → ℕ → Option Place → Type 0
-    FindsBehind p turns result = (fs : List Frame) (t : Tree) → IsSubtree n v fs t → IsSummed (greatest_in es) None (plug fs t) → top t ≡ Some p → IsSorted nat_cmp (map start (after fs)) → length fs ≤ turns
+    -- what is found after the subtree at a place
+    abbrev pub FindsAfter : Place → ℕ → Option Place → Type 0
+    FindsAfter p turns result = (fs : List Frame) (t : Tree) → IsSubtree n v fs t → IsSummed (greatest_in es) None (plug fs t) → top t ≡ Some p → IsSorted nat_cmp (map start (after fs)) → length fs ≤ turns
         → result ≡ first (filter (test start es from to) (after fs))
 
     module _ (p up : Place) (turns : ℕ) (right : Option Place) (right_is : right ≡ (n (v.entry up)).right) (result : Option Place) where
-      -- behind a right child stands what stands behind the parent's subtree
-      pub behind_right : FindsBehind up (turns - 1) result → is_end right p ≡ true → (fs : List Frame) (t : Tree) → above fs ≡ Some up → IsSubtree n v fs t → IsSummed (greatest_in es) None (plug fs t) → top t ≡ Some p
+      -- after a right child stands what stands after the parent's subtree
+      pub after_right : FindsAfter up (turns - 1) result → is_end right p ≡ true → (fs : List Frame) (t : Tree) → above fs ≡ Some up → IsSubtree n v fs t → IsSummed (greatest_in es) None (plug fs t) → top t ≡ Some p
           → IsSorted nat_cmp (map start (after fs)) → length fs ≤ turns → result ≡ first (filter (test start es from to) (after fs))
-      behind_right on same [] t eu h s e sorted low = absurd (none_not up eu)
-      behind_right on same (frame Left c q b ∷ fs) t eu h s e sorted low =
+      after_right on same [] t eu h s e sorted low = absurd (none_not up eu)
+      after_right on same (frame Left c q b ∷ fs) t eu h s e sorted low =
           let twice : top b ≡ Some p = sym h.around.0.right ∙ (ap (λ (y : Place). (n (v.entry y)).right) (some_same eu) ∙ (sym right_is ∙ end_is right p same)) in
           absurd (omega (arith, h.once p, times_plug p fs (fork c t q b), times_top p t e, times_top p b twice))
-      behind_right on same (frame Right c q b ∷ fs) t eu h s e sorted low = on fs (fork c b q t) (subtree_right n v c q b fs t h) s eu sorted (omega (arith, low))
+      after_right on same (frame Right c q b ∷ fs) t eu h s e sorted low = on fs (fork c b q t) (subtree_right n v c q b fs t h) s eu sorted (omega (arith, low))
 
-      -- behind a left one stand the parent, its right subtree and then that
+      -- after a left one stand the parent, its right subtree and then that
       module _ (found : (b : Tree) (fs : List Frame) (c : Color) (t : Tree) → IsSubtree n v fs (fork c t up b) → IsSummed (greatest_in es) None (plug fs (fork c t up b)) → IsSummed (greatest_in es) (Some up) b → right ≡ top b
           → IsTree n v.entry (Some up) b → IsSorted nat_cmp (map start (up ∷ (in_order b ++ after fs))) → length fs ≤ turns - 1 → result ≡ first (filter (test start es from to) (up ∷ (in_order b ++ after fs)))) where
-        pub behind_left : is_end right p ≡ false → (fs : List Frame) (t : Tree) → above fs ≡ Some up → IsSubtree n v fs t → IsSummed (greatest_in es) None (plug fs t) → top t ≡ Some p
+        pub after_left : is_end right p ≡ false → (fs : List Frame) (t : Tree) → above fs ≡ Some up → IsSubtree n v fs t → IsSummed (greatest_in es) None (plug fs t) → top t ≡ Some p
             → IsSorted nat_cmp (map start (after fs)) → length fs ≤ turns → result ≡ first (filter (test start es from to) (after fs))
-        behind_left other [] t eu h s e sorted low = absurd (none_not up eu)
-        behind_left other (frame Right c q b ∷ fs) t eu h s e sorted low =
+        after_left other [] t eu h s e sorted low = absurd (none_not up eu)
+        after_left other (frame Right c q b ∷ fs) t eu h s e sorted low =
             absurd (not_end right p other (right_is ∙ (ap (λ (y : Place). (n (v.entry y)).right) (sym (some_same eu)) ∙ (h.around.0.right ∙ e))))
-        behind_left other (frame Left c q b ∷ fs) t eu h s e sorted low = at q (sym (some_same eu)) (subtree_left n v c q b fs t h) s h.around.0.right h.around.1 sorted where
+        after_left other (frame Left c q b ∷ fs) t eu h s e sorted low = at q (sym (some_same eu)) (subtree_left n v c q b fs t h) s h.around.0.right h.around.1 sorted where
           at : (y : Place) → up ≡ y → IsSubtree n v fs (fork c t y b) → IsSummed (greatest_in es) None (plug fs (fork c t y b)) → (n (v.entry y)).right ≡ top b → IsTree n v.entry (Some y) b
               → IsSorted nat_cmp (map start (y ∷ (in_order b ++ after fs))) → result ≡ first (filter (test start es from to) (y ∷ (in_order b ++ after fs)))
           at y is = subst (λ (x : Place). IsSubtree n v fs (fork c t x b) → IsSummed (greatest_in es) None (plug fs (fork c t x b)) → (n (v.entry x)).right ≡ top b → IsTree n v.entry (Some x) b
               → IsSorted nat_cmp (map start (x ∷ (in_order b ++ after fs))) → result ≡ first (filter (test start es from to) (x ∷ (in_order b ++ after fs)))) is
               (λ h2 s2 r2 t2 sorted2. found b fs c t h2 s2 (summed_below (greatest_in es) fs (fork c t up b) s2).3 (right_is ∙ r2) t2 sorted2 (omega (arith, low)))
 
-      pub behind_none : result ≡ None → to ≤ start up → is_end right p ≡ false → (fs : List Frame) (t : Tree) → above fs ≡ Some up → IsSubtree n v fs t → IsSummed (greatest_in es) None (plug fs t) → top t ≡ Some p
+      pub after_none : result ≡ None → to ≤ start up → is_end right p ≡ false → (fs : List Frame) (t : Tree) → above fs ≡ Some up → IsSubtree n v fs t → IsSummed (greatest_in es) None (plug fs t) → top t ≡ Some p
           → IsSorted nat_cmp (map start (after fs)) → length fs ≤ turns → result ≡ first (filter (test start es from to) (after fs))
-      behind_none none behind = behind_left (λ b fs c t h s sb rb tb sorted low. none ∙ sym (ap first (late start es from to up (in_order b ++ after fs) behind sorted)))
+      after_none none behind = after_left (λ b fs c t h s sb rb tb sorted low. none ∙ sym (ap first (late start es from to up (in_order b ++ after fs) behind sorted)))
 
-      pub behind_this : result ≡ Some up → start up < to → from < number_in es up → is_end right p ≡ false → (fs : List Frame) (t : Tree) → above fs ≡ Some up → IsSubtree n v fs t → IsSummed (greatest_in es) None (plug fs t)
+      pub after_this : result ≡ Some up → start up < to → from < number_in es up → is_end right p ≡ false → (fs : List Frame) (t : Tree) → above fs ≡ Some up → IsSubtree n v fs t → IsSummed (greatest_in es) None (plug fs t)
           → top t ≡ Some p → IsSorted nat_cmp (map start (after fs)) → length fs ≤ turns → result ≡ first (filter (test start es from to) (after fs))
-      behind_this is starts ends = behind_left (λ b fs c t h s sb rb tb sorted low. is ∙ sym (ap first (takes start es from to up (in_order b ++ after fs) (over start es from to up starts ends))))
+      after_this is starts ends = after_left (λ b fs c t h s sb rb tb sorted low. is ∙ sym (ap first (takes start es from to up (in_order b ++ after fs) (over start es from to up starts ends))))
 
       module _ (g : ℕ) (g_is : g ≡ or_zero (seen (greatest_in es) right)) (ends : number_in es up ≤ from) where
         greatest_is : (b : Tree) → right ≡ top b → IsSummed (greatest_in es) (Some up) b → g ≡ or_zero (total (greatest_in es) b)
         greatest_is b rb sb = g_is ∙ ap or_zero (ap (seen (greatest_in es)) rb ∙ summed_seen (greatest_in es) (Some up) b sb)
 
-        pub behind_below : from < g → FindsFirst start es from to n v None 67 right 67 result → is_end right p ≡ false → (fs : List Frame) (t : Tree) → above fs ≡ Some up → IsSubtree n v fs t
+        pub after_below : from < g → FindsFirst start es from to n v None 67 right 67 result → is_end right p ≡ false → (fs : List Frame) (t : Tree) → above fs ≡ Some up → IsSubtree n v fs t
             → IsSummed (greatest_in es) None (plug fs t) → top t ≡ Some p → IsSorted nat_cmp (map start (after fs)) → length fs ≤ turns → result ≡ first (filter (test start es from to) (after fs))
-        behind_below more below = behind_left (λ b fs c t h s sb rb tb sorted low.
+        after_below more below = after_left (λ b fs c t h s sb rb tb sorted low.
             let rest = sorted_tail start up (in_order b ++ after fs) sorted in
             below (Some up) b tb rb sb (sorted_front start (in_order b) (after fs) rest) (omega (arith, h.low, lower fs (fork c t up b), le-max_right (height t) (height b)))
             ∙ (first_left start es from to (in_order b) (after fs) (reaches start es from to b (omega (arith, more, greatest_is b rb sb))) rest
             ∙ sym (ap first (drops start es from to up (in_order b ++ after fs) (ends_before start es from to up ends)))))
 
-        pub behind_on : g ≤ from → FindsBehind up (turns - 1) result → is_end right p ≡ false → (fs : List Frame) (t : Tree) → above fs ≡ Some up → IsSubtree n v fs t → IsSummed (greatest_in es) None (plug fs t) → top t ≡ Some p
+        pub after_on : g ≤ from → FindsAfter up (turns - 1) result → is_end right p ≡ false → (fs : List Frame) (t : Tree) → above fs ≡ Some up → IsSubtree n v fs t → IsSummed (greatest_in es) None (plug fs t) → top t ≡ Some p
             → IsSorted nat_cmp (map start (after fs)) → length fs ≤ turns → result ≡ first (filter (test start es from to) (after fs))
-        behind_on less on = behind_left (λ b fs c t h s sb rb tb sorted low.
-            on fs (fork c t up b) h s refl (sorted_behind start (in_order b) (after fs) (sorted_tail start up (in_order b ++ after fs) sorted)) low
+        after_on less on = after_left (λ b fs c t h s sb rb tb sorted low.
+            on fs (fork c t up b) h s refl (sorted_after start (in_order b) (after fs) (sorted_tail start up (in_order b ++ after fs) sorted)) low
             ∙ sym (ap first (drops start es from to up (in_order b ++ after fs) (ends_before start es from to up ends) ∙ skipped start es from to b (after fs) (omega (arith, less, greatest_is b rb sb)))))
 
-    pub behind_root : (fs : List Frame) → above fs ≡ None → None ≡ first (filter (test start es from to) (after fs))
-    behind_root [] e = refl
-    behind_root (frame d c p b ∷ fs) e = absurd (none_not p (sym e))
+    pub after_root : (fs : List Frame) → above fs ≡ None → None ≡ first (filter (test start es from to) (after fs))
+    after_root [] e = refl
+    after_root (frame d c p b ∷ fs) e = absurd (none_not p (sym e))
 
-    pub behind_spent : (fs : List Frame) → length fs ≤ 0 → None ≡ first (filter (test start es from to) (after fs))
-    behind_spent [] e = refl
-    behind_spent (f ∷ fs) e = absurd (omega (arith, e))
+    pub after_spent : (fs : List Frame) → length fs ≤ 0 → None ≡ first (filter (test start es from to) (after fs))
+    after_spent [] e = refl
+    after_spent (f ∷ fs) e = absurd (omega (arith, e))
 
     module _ (root : Option Place) (front : List Place) (p : Place) (back : List Place) (right : Option Place) (g : ℕ) (result : Option Place) (right_is : right ≡ (n (v.entry p)).right) (g_is : g ≡ or_zero (seen (greatest_in es) right)) where
-      -- what is found behind a member
+      -- what is found after a member
       abbrev FindsNext : Type 0
-      FindsNext = ShowsSummed n (greatest_in es) v root (front ++ p ∷ back) → IsSorted nat_cmp (map start (front ++ p ∷ back)) → result ≡ first (filter (test start es from to) back)
+      FindsNext = RepresentsSummed n (greatest_in es) v root (front ++ p ∷ back) → IsSorted nat_cmp (map start (front ++ p ∷ back)) → result ≡ first (filter (test start es from to) back)
 
-      behind_sorted : (s : List Place) → s ≡ back → IsSorted nat_cmp (map start (front ++ p ∷ back)) → IsSorted nat_cmp (map start s)
-      behind_sorted s e sorted = subst (λ (y : List Place). IsSorted nat_cmp (map start y)) (sym e) (sorted_tail start p back (sorted_behind start front (p ∷ back) sorted))
+      after_sorted : (s : List Place) → s ≡ back → IsSorted nat_cmp (map start (front ++ p ∷ back)) → IsSorted nat_cmp (map start s)
+      after_sorted s e sorted = subst (λ (y : List Place). IsSorted nat_cmp (map start y)) (sym e) (sorted_tail start p back (sorted_after start front (p ∷ back) sorted))
 
       pub next_below : from < g → FindsFirst start es from to n v None 67 right 67 result → FindsNext
       next_below more below h sorted =
@@ -350,18 +346,18 @@ module _ {E : Type 0} (n : E → Node) (v : Table E) where
           let sb = (summed_below (greatest_in es) x.fs t summed).3 in
           let rb : right ≡ top x.b = right_is ∙ x.subtree.tree.0.right in
           let many : g ≡ or_zero (total (greatest_in es) x.b) = g_is ∙ ap or_zero (ap (seen (greatest_in es)) rb ∙ summed_seen (greatest_in es) (Some p) x.b sb) in
-          let rest = behind_sorted (in_order x.b ++ after x.fs) x.back_is sorted in
+          let rest = after_sorted (in_order x.b ++ after x.fs) x.back_is sorted in
           below (Some p) x.b x.subtree.tree.2 rb sb (sorted_front start (in_order x.b) (after x.fs) rest) (omega (arith, x.subtree.low, lower x.fs t, le-max_right (height x.a) (height x.b)))
           ∙ (first_left start es from to (in_order x.b) (after x.fs) (reaches start es from to x.b (omega (arith, more, many))) rest ∙ ap (λ (y : List Place). first (filter (test start es from to) y)) x.back_is)
 
-      pub next_behind : g ≤ from → FindsBehind p 67 result → FindsNext
-      next_behind less behind h sorted =
+      pub next_after : g ≤ from → FindsAfter p 67 result → FindsNext
+      next_after less behind h sorted =
           let x = member_subtree n v root front p back h.shows in
           let t : Tree = fork x.c x.a p x.b in
           let summed = subst (λ (y : Tree). IsSummed (greatest_in es) None y) (sym x.same) h.summed in
           let sb = (summed_below (greatest_in es) x.fs t summed).3 in
           let rb : right ≡ top x.b = right_is ∙ x.subtree.tree.0.right in
           let many : g ≡ or_zero (total (greatest_in es) x.b) = g_is ∙ ap or_zero (ap (seen (greatest_in es)) rb ∙ summed_seen (greatest_in es) (Some p) x.b sb) in
-          let rest = behind_sorted (in_order x.b ++ after x.fs) x.back_is sorted in
-          behind x.fs t x.subtree summed refl (sorted_behind start (in_order x.b) (after x.fs) rest) (omega (arith, x.low))
+          let rest = after_sorted (in_order x.b ++ after x.fs) x.back_is sorted in
+          behind x.fs t x.subtree summed refl (sorted_after start (in_order x.b) (after x.fs) rest) (omega (arith, x.low))
           ∙ (sym (ap first (skipped start es from to x.b (after x.fs) (omega (arith, less, many)))) ∙ ap (λ (y : List Place). first (filter (test start es from to) y)) x.back_is)

@@ -1,19 +1,18 @@
 -- Summaries renewed from a place up to the root.
 use Rattle.std.proofs.Common.{◌≡◌, ◌≤◌, ◌<◌, ◌-◌, ℕ, Option, Some, None, List, [], ◌∷◌, ◌++◌, length, refl, sym, ◌∙◌, subst, arith}
-use Rattle.ic_unsafe_ref.specs.declared.place.Place.{Place}
+use Rattle.ic_link_ops.specs.Prelude.{Place, Table}
 use Rattle.ic_link_ops.specs.declared.side.Side.TheVariants.{Left, Right}
 use Rattle.ic_link_ops.specs.Frames.{Frame, frame, plug, above}
 use Rattle.ic_link_ops.specs.RedBlackTree.{Node, IsTree}
-use Rattle.ic_link_ops.specs.Tables.{Table}
 use Rattle.ic_link_ops.specs.Times.{times, times_around}
 use Rattle.ic_link_ops.specs.Trees.{Tree, fork, top}
 use Rattle.ic_link_ops.proofs.SequenceLemmas.{none_not}
 use Rattle.ic_link_ops.proofs.Times.{times_plug}
 use Rattle.ic_augmented.specs.Sums.{Sums, IsSummed}
-use Rattle.ic_augmented.specs.Consistent.{IsSameAt, IsConsistentTree, IsConsistentBelow, IsConsistentBeside, Refreshes, ShowsConsistent, ShowsSummed}
+use Rattle.ic_augmented.specs.Consistent.{IsSameAt, IsConsistentTree, IsConsistentBelow, IsConsistentBeside, Refreshes, RepresentsConsistent, RepresentsSummed}
 use Rattle.ic_augmented.specs.Subtrees.{IsSubtree}
 use Rattle.ic_augmented.proofs.ConsistencyLemmas.{consistent_kept, same_on, summed_consistent_tree}
-use Rattle.ic_augmented.proofs.EditLemmas.{consistent_shown}
+use Rattle.ic_augmented.proofs.EditLemmas.{consistent_represented}
 use Rattle.ic_augmented.proofs.SubtreeLemmas.{lower, member_subtree, subtree_left, subtree_right}
 
 module _ {S : Type 0} where
@@ -81,12 +80,12 @@ module _ {E S : Type 0} (n : E → Node) (v : Table E) where
         same_on z y w q (others_here (frame Right c a b ∷ fs) t h e q out) (on fs (fork c b a t) (subtree_right n v c a b fs t h) at q out)
 
   -- FROM A MEMBER: all is fresh
-  pub propagated : (z y : Sums S) (root : Option Place) (front : List Place) (p : Place) (back : List Place) → RefreshesPath z y p 67 → ShowsConsistent n z v root (front ++ p ∷ back)
-      → ShowsSummed n y v root (front ++ p ∷ back)
+  pub propagated : (z y : Sums S) (root : Option Place) (front : List Place) (p : Place) (back : List Place) → RefreshesPath z y p 67 → RepresentsConsistent n z v root (front ++ p ∷ back)
+      → RepresentsSummed n y v root (front ++ p ∷ back)
   propagated z y root front p back path h =
       let x = member_subtree n v root front p back h.0 in
       let t : Tree = fork x.c x.a p x.b in
-      let parts = consistent_parts z x.fs t (subst (λ (u : Tree). IsConsistentTree z u) (sym x.same) (consistent_shown n v z root (front ++ p ∷ back) h)) in
+      let parts = consistent_parts z x.fs t (subst (λ (u : Tree). IsConsistentTree z u) (sym x.same) (consistent_represented n v z root (front ++ p ∷ back) h)) in
       record {
         shows = h.0;
         summed = subst (λ (u : Tree). IsSummed y None u) x.same (path x.fs t x.subtree refl (omega (arith, x.low)) parts.1 (parts.0.1, parts.0.2));

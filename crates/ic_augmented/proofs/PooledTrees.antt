@@ -1,14 +1,13 @@
 -- For callers: fresh summaries stay right where tables grow, and what an insert in order says of the links alone.
 use Rattle.std.specs.declared.cmp.Ordering.{Ordering}
 use Rattle.std.proofs.Common.{◌≡◌, ℕ, Option, List, sym, ◌∙◌, subst}
-use Rattle.ic_unsafe_ref.specs.declared.place.Place.{Place}
-use Rattle.ic_link_ops.specs.Tables.{Table}
-use Rattle.ic_link_ops.specs.RedBlackTree.{Node, Shows}
-use Rattle.ic_link_ops.proofs.ShownTrees.{one_sequence}
+use Rattle.ic_link_ops.specs.Prelude.{Place, Table}
+use Rattle.ic_link_ops.specs.RedBlackTree.{Node, Represents}
+use Rattle.ic_link_ops.proofs.RepresentedTrees.{one_sequence}
 use Rattle.ic_rbtree.specs.Ordered.{InsertsInOrder}
 use Rattle.ic_augmented.specs.declared.sum_table.SumTable.{SumTable}
-use Rattle.ic_augmented.specs.Consistent.{IsJoined, IsSameAt, IsConsistent, ShowsConsistent}
-use Rattle.ic_augmented.specs.Fresh.{ShowsFresh}
+use Rattle.ic_augmented.specs.Consistent.{IsJoined, IsSameAt, IsConsistent, RepresentsConsistent}
+use Rattle.ic_augmented.specs.Fresh.{RepresentsFresh}
 use Rattle.ic_augmented.specs.Greatest.{greatest, greatest_of, number_at}
 use Rattle.ic_augmented.specs.GreatestLaws.{greatest_tells}
 use Rattle.ic_augmented.specs.Sums.{Sums}
@@ -24,17 +23,17 @@ module _ {E S : Type 0} (n : E → Node) where
       (joined_at z y q _ _ x (h q member but x (sym (same q).fresh ∙ fresh)) (joins q) (λ c k. same c) (λ c k. same c))
 
   -- AN INSERT, of the links alone
-  pub inserts_shown : {at : Place → Ordering} {old new : Table E} {z : Sums S} {root : Option Place} {s : List Place} {p : Place} → InsertsInOrder (ShowsConsistent n z) at old new root s p
-      → InsertsInOrder (Shows n) at old new root s p
-  inserts_shown i = record { gap = i.gap; same = i.same; border = i.border; inserted = record { shows = i.inserted.shows.0; frame = i.inserted.frame } }
+  pub inserts_represented : {at : Place → Ordering} {old new : Table E} {z : Sums S} {root : Option Place} {s : List Place} {p : Place} → InsertsInOrder (RepresentsConsistent n z) at old new root s p
+      → InsertsInOrder (Represents n) at old new root s p
+  inserts_represented i = record { gap = i.gap; same = i.same; border = i.border; inserted = record { shows = i.inserted.shows.0; frame = i.inserted.frame } }
 
   -- and one after which all is fresh, of consistency alone
-  pub inserts_consistent : {at : Place → Ordering} {old new : Table E} {z : Sums S} {root : Option Place} {s : List Place} {p : Place} → InsertsInOrder (ShowsFresh n z) at old new root s p
-      → InsertsInOrder (ShowsConsistent n z) at old new root s p
+  pub inserts_consistent : {at : Place → Ordering} {old new : Table E} {z : Sums S} {root : Option Place} {s : List Place} {p : Place} → InsertsInOrder (RepresentsFresh n z) at old new root s p
+      → InsertsInOrder (RepresentsConsistent n z) at old new root s p
   inserts_consistent i = record { gap = i.gap; same = i.same; border = i.border; inserted = record { shows = i.inserted.shows.consistent; frame = i.inserted.frame } }
 
-  -- what is consistent in one sequence that is shown is so in each
-  pub consistent_in : {v : Table E} {z : Sums S} {root : Option Place} {t : List Place} (s : List Place) → ShowsConsistent n z v root t → Shows n v root s → IsConsistent n v z s
+  -- what is consistent in one sequence that is represented is so in each
+  pub consistent_in : {v : Table E} {z : Sums S} {root : Option Place} {t : List Place} (s : List Place) → RepresentsConsistent n z v root t → Represents n v root s → IsConsistent n v z s
   consistent_in {v} {z} s h shown = subst (IsConsistent n v z) (one_sequence h.0 shown) h.1
 
 -- THE NUMBERS STAY where what is joined does

@@ -1,14 +1,12 @@
--- How many members stand in front of a subtree of a tree with counts.
+-- How many members stand before a subtree of a tree with counts.
 use Rattle.std.proofs.Common.{◌≡◌, ◌≢◌, ◌≤◌, ◌+◌, ◌-◌, ◌^◌, ℕ, suc, true, false, Option, Some, None, List, [], ◌∷◌, ◌++◌, length, min, refl, sym, ap, ◌∙◌, subst, arith, length-append, eqb-true, eq-eqb}
 use Rattle.std.specs.Bool.{⊤}
 use Rattle.std.proofs.Math.Nat.{min-eq_left}
-use Rattle.ic_unsafe_ref.specs.declared.place.Place.{Place}
-use Rattle.ic_unsafe_ref.specs.Places.{index_of}
+use Rattle.ic_link_ops.specs.Prelude.{Place, index_of, Table}
 use Rattle.ic_unsafe_ref.proofs.PlaceLemmas.{same_index}
 use Rattle.ic_link_ops.specs.declared.side.Side.TheVariants.{Left, Right}
 use Rattle.ic_link_ops.specs.Frames.{Frame, frame, plug, above, before, after}
 use Rattle.ic_link_ops.specs.RedBlackTree.{Node}
-use Rattle.ic_link_ops.specs.Tables.{Table}
 use Rattle.ic_link_ops.specs.Trees.{Tree, fork, top, in_order}
 use Rattle.ic_link_ops.specs.Walk.{is_end}
 use Rattle.ic_link_ops.proofs.Frames.{in_order_parts}
@@ -18,7 +16,7 @@ use Rattle.ic_augmented.specs.declared.sum_table.Cell.{Cell}
 use Rattle.ic_augmented.specs.Counts.{counts_in}
 use Rattle.ic_augmented.specs.SumTables.{or_zero}
 use Rattle.ic_augmented.specs.Sums.{Sums, seen, IsSummed}
-use Rattle.ic_augmented.specs.Consistent.{ShowsSummed}
+use Rattle.ic_augmented.specs.Consistent.{RepresentsSummed}
 use Rattle.ic_augmented.specs.Subtrees.{IsSubtree}
 use Rattle.ic_augmented.proofs.ConsistencyLemmas.{times_top}
 use Rattle.ic_augmented.proofs.CountLemmas.{seen_count}
@@ -53,19 +51,19 @@ before_spent [] e = refl
 before_spent (f ∷ fs) e = absurd (omega (arith, e))
 
 module _ {E : Type 0} (n : E → Node) (v : Table E) (es : List (Cell ⊤ ℕ)) where
-  -- what is counted in front of the subtree at a place
+  -- what is counted before the subtree at a place
   abbrev pub CountsBefore : Place → ℕ → ℕ → Type 0
   CountsBefore p turns r = (fs : List Frame) (t : Tree) → IsSubtree n v fs t → IsSummed (counts_in es) None (plug fs t) → top t ≡ Some p → length fs ≤ turns → r ≡ length (before fs)
 
   module _ (up : Place) (turns r : ℕ) (above_it : CountsBefore up (turns - 1) r) (right : Option Place) (right_is : right ≡ (n (v.entry up)).right) where
-    -- THE STEP from a left child, in front of which stands what stands in front of the parent's subtree
+    -- THE STEP from a left child, before which stands what stands before the parent's subtree
     pub before_left : (p : Place) (fs : List Frame) (t : Tree) → above fs ≡ Some up → is_end right p ≡ false → IsSubtree n v fs t → IsSummed (counts_in es) None (plug fs t) → top t ≡ Some p → length fs ≤ turns → r ≡ length (before fs)
     before_left p [] t eu other h s e low = absurd (none_not up eu)
     before_left p (frame Left c q b ∷ fs) t eu other h s e low = above_it fs (fork c t q b) (subtree_left n v c q b fs t h) s eu (omega (arith, low))
     before_left p (frame Right c q b ∷ fs) t eu other h s e low =
         absurd (not_end right p other (right_is ∙ (ap (λ (y : Place). (n (v.entry y)).right) (sym (some_same eu)) ∙ (h.around.0.right ∙ e))))
 
-    -- and from a right one, in front of which stand the left subtree and the parent too
+    -- and from a right one, before which stand the left subtree and the parent too
     pub before_right : (p : Place) (left : Option Place) (k m : ℕ) (fs : List Frame) (t : Tree) → above fs ≡ Some up → is_end right p ≡ true → left ≡ (n (v.entry up)).left → k ≡ or_zero (seen (counts_in es) left)
         → m ≡ min (min (r + k) (2 ^ 64 - 1) + 1) (2 ^ 64 - 1) → IsSubtree n v fs t → IsSummed (counts_in es) None (plug fs t) → top t ≡ Some p → length fs ≤ turns → m ≡ length (before fs)
     before_right p left k m [] t eu same el ek em h s e low = absurd (none_not up eu)
@@ -88,7 +86,7 @@ module _ {E : Type 0} (n : E → Node) (v : Table E) (es : List (Cell ⊤ ℕ)) 
 
   -- THE INDEX of a member
   pub index_is : (root : Option Place) (front : List Place) (p : Place) (back : List Place) (left : Option Place) (r k m : ℕ) → CountsBefore p 67 r → left ≡ (n (v.entry p)).left
-      → k ≡ or_zero (seen (counts_in es) left) → m ≡ min (r + k) (2 ^ 64 - 1) → ShowsSummed n (counts_in es) v root (front ++ p ∷ back) → m ≡ length front
+      → k ≡ or_zero (seen (counts_in es) left) → m ≡ min (r + k) (2 ^ 64 - 1) → RepresentsSummed n (counts_in es) v root (front ++ p ∷ back) → m ≡ length front
   index_is root front p back left r k m counted el ek em h =
       let x = member_subtree n v root front p back h.shows in
       let summed = subst (λ (y : Tree). IsSummed (counts_in es) None y) (sym x.same) h.summed in

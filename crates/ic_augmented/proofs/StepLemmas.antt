@@ -1,19 +1,16 @@
 -- What a write of links or a step keeps of the summary at one place; and what steps keep of a sequence.
 use Rattle.std.specs.declared.cmp.Ordering.{Ordering}
 use Rattle.std.proofs.Common.{◌≡◌, ◌≢◌, ◌≤◌, ◌⊎◌, Option, Some, None, Result, Ok, Err, OnErr, List, [], ◌∷◌, ◌++◌, ap, sym, ◌∙◌, subst, arith, inl, inr}
-use Rattle.ic_unsafe_ref.specs.declared.place.Place.{Place}
+use Rattle.ic_link_ops.specs.Prelude.{Place, join, insert, Table, ChangesOnly, LinkStep, acquires, releases}
 use Rattle.ic_unsafe_ref.proofs.PlaceLemmas.{same_or_not}
-use Rattle.ic_link_ops.specs.LinkSteps.{LinkStep, acquires, releases}
-use Rattle.ic_link_ops.specs.RedBlackTree.{Node, Shows}
-use Rattle.ic_link_ops.specs.Sequences.{join, insert}
-use Rattle.ic_link_ops.specs.Tables.{Table, ChangesOnly}
+use Rattle.ic_link_ops.specs.RedBlackTree.{Node, Represents}
 use Rattle.ic_link_ops.specs.Times.{times_in}
 use Rattle.ic_link_ops.proofs.SequenceLemmas.{none_not}
 use Rattle.ic_link_ops.proofs.Times.{one_at_self, one_at_other, times_append}
 use Rattle.ic_rbtree.specs.Ordered.{InsertsInOrder}
-use Rattle.ic_augmented.specs.Consistent.{IsJoined, IsConsistent, IsConsistentBut, ShowsConsistent, KeepsConsistent}
+use Rattle.ic_augmented.specs.Consistent.{IsJoined, IsConsistent, IsConsistentBut, RepresentsConsistent, KeepsConsistent}
 use Rattle.ic_augmented.specs.Sums.{Sums}
-use Rattle.ic_augmented.specs.SummedSteps.{IsAcquired, IsRightAt, DoesSummed}
+use Rattle.ic_augmented.specs.SummedSteps.{IsAcquired, IsRightAt, TraceSummed}
 use Rattle.ic_augmented.specs.declared.summed.Summed.{Summed}
 use Rattle.ic_augmented.proofs.ConsistencyLemmas.{written_stale, written_beside}
 
@@ -77,8 +74,8 @@ module _ {E S : Type 0} (n : E → Node) where
   ]
 
 -- WHAT STEPS KEEP of a sequence: each of its places was right, or has been linked
-module _ {N M E S : Type 0} {Does : N → N → List LinkStep → Type 0} {n : E → Node} {table : N → Table E} {sums : M → Sums S} {Covers : M → Place → Type 0} {old new : Summed N M} {steps : List LinkStep} where
-  pub kept_right : DoesSummed Does n table sums Covers old new steps → (s t : List Place) → ((q : Place) → 1 ≤ times_in q t → IsAcquired q steps ⊎ (1 ≤ times_in q s))
+module _ {N M E S : Type 0} {Trace : N → N → List LinkStep → Type 0} {n : E → Node} {table : N → Table E} {sums : M → Sums S} {Covers : M → Place → Type 0} {old new : Summed N M} {steps : List LinkStep} where
+  pub kept_right : TraceSummed Trace n table sums Covers old new steps → (s t : List Place) → ((q : Place) → 1 ≤ times_in q t → IsAcquired q steps ⊎ (1 ≤ times_in q s))
       → IsConsistent n (table old.links) (sums old.sums) s → IsConsistent n (table new.links) (sums new.sums) t
   kept_right d s t among h q m but x e = elim (among q m) [
     | inl a ↦ d.right q (inl a) x e
@@ -86,13 +83,13 @@ module _ {N M E S : Type 0} {Does : N → N → List LinkStep → Type 0} {n : E
   ]
 
   -- in the same one
-  pub still_right : DoesSummed Does n table sums Covers old new steps → (s : List Place) → IsConsistent n (table old.links) (sums old.sums) s → IsConsistent n (table new.links) (sums new.sums) s
+  pub still_right : TraceSummed Trace n table sums Covers old new steps → (s : List Place) → IsConsistent n (table old.links) (sums old.sums) s → IsConsistent n (table new.links) (sums new.sums) s
   still_right d s h = kept_right d s s (λ q m. inr m) h
 
-module _ {N M E S : Type 0} {Does : N → N → List LinkStep → Type 0} {n : E → Node} {table : N → Table E} {sums : M → Sums S} {Covers : M → Place → Type 0} {old new : Summed N M} {p : Place} where
+module _ {N M E S : Type 0} {Trace : N → N → List LinkStep → Type 0} {n : E → Node} {table : N → Table E} {sums : M → Sums S} {Covers : M → Place → Type 0} {old new : Summed N M} {p : Place} where
   -- AN INSERT IN ORDER keeps each fresh summary right
-  pub inserted_right : {at : Place → Ordering} {root : Option Place} {s : List Place} → DoesSummed Does n table sums Covers old new (acquires p ∷ []) → IsConsistent n (table old.links) (sums old.sums) s
-      → InsertsInOrder (Shows n) at (table old.links) (table new.links) root s p → InsertsInOrder (ShowsConsistent n (sums new.sums)) at (table old.links) (table new.links) root s p
+  pub inserted_right : {at : Place → Ordering} {root : Option Place} {s : List Place} → TraceSummed Trace n table sums Covers old new (acquires p ∷ []) → IsConsistent n (table old.links) (sums old.sums) s
+      → InsertsInOrder (Represents n) at (table old.links) (table new.links) root s p → InsertsInOrder (RepresentsConsistent n (sums new.sums)) at (table old.links) (table new.links) root s p
   inserted_right {s = s} d h i = record {
     gap = i.gap;
     same = i.same;
@@ -108,7 +105,7 @@ module _ {N M E S : Type 0} {Does : N → N → List LinkStep → Type 0} {n : E
     ]
 
   -- A REMOVAL too
-  pub removed_right : (front back : List Place) → DoesSummed Does n table sums Covers old new (releases p ∷ []) → IsConsistent n (table old.links) (sums old.sums) (front ++ p ∷ back)
+  pub removed_right : (front back : List Place) → TraceSummed Trace n table sums Covers old new (releases p ∷ []) → IsConsistent n (table old.links) (sums old.sums) (front ++ p ∷ back)
       → IsConsistent n (table new.links) (sums new.sums) (front ++ back)
   removed_right front back d h = kept_right d (front ++ p ∷ back) (front ++ back) (λ q m. inr (omega (arith, m, times_append q front back, times_append q front (p ∷ back)))) h
 

@@ -1,18 +1,16 @@
--- A subtree of a shown tree: found by the sequence, read at its root, and left upward.
+-- A subtree of a represented tree: found by the sequence, read at its root, and left upward.
 use Rattle.std.proofs.Common.{◌≡◌, ◌≤◌, ◌<◌, ◌+◌, ℕ, suc, zero, true, Option, Some, None, List, [], ◌∷◌, ◌++◌, length, refl, sym, ap, ◌∙◌, subst, arith, append-nil}
 use Rattle.std.proofs.Math.Nat.{le-max_left, le-max_right}
-use Rattle.ic_unsafe_ref.specs.declared.place.Place.{Place}
+use Rattle.ic_link_ops.specs.Prelude.{Place, IsMember, Table}
 use Rattle.ic_link_ops.specs.declared.color.Color.{Color}
 use Rattle.ic_link_ops.specs.declared.side.Side.TheVariants.{Left, Right}
 use Rattle.ic_link_ops.specs.Frames.{Frame, frame, plug, above, before, after, IsAround}
-use Rattle.ic_link_ops.specs.RedBlackTree.{Node, IsTree, Shows}
-use Rattle.ic_link_ops.specs.Sequences.{IsMember}
-use Rattle.ic_link_ops.specs.Tables.{Table}
+use Rattle.ic_link_ops.specs.RedBlackTree.{Node, IsTree, Represents}
 use Rattle.ic_link_ops.specs.Times.{times, times_in}
 use Rattle.ic_link_ops.specs.Trees.{Tree, leaf, fork, top, in_order}
 use Rattle.ic_link_ops.proofs.Frames.{focus}
 use Rattle.ic_link_ops.proofs.SequenceLemmas.{none_not, some_same, member_split}
-use Rattle.ic_link_ops.proofs.ShownTrees.{holds_once}
+use Rattle.ic_link_ops.proofs.RepresentedTrees.{holds_once}
 use Rattle.ic_link_ops.proofs.Times.{times_order}
 use Rattle.ic_link_ops.proofs.Walks.{few_places}
 use Rattle.ic_rbtree.specs.Closed.{IsNode}
@@ -70,7 +68,7 @@ module _ {E : Type 0} (n : E → Node) where
     pub whole : (q : Place) → times q (plug fs (fork c a p b)) ≡ times_in q s
 
   module _ (v : Table E) where
-    pub member_subtree : (root : Option Place) (front : List Place) (p : Place) (back : List Place) (h : Shows n v root (front ++ p ∷ back)) → MemberSubtree v h.tree front p back
+    pub member_subtree : (root : Option Place) (front : List Place) (p : Place) (back : List Place) (h : Represents n v root (front ++ p ∷ back)) → MemberSubtree v h.tree front p back
     member_subtree root front p back h =
         let f = focus h.tree [] front p back h.held.order in
         let t : Tree = fork f.1 f.2 p f.3 in
@@ -94,10 +92,10 @@ module _ {E : Type 0} (n : E → Node) where
         }
 
     -- the subtree at a member, of the tree that stands around it
-    pub member_at : (root : Option Place) (s : List Place) (p : Place) → Shows n v root s → IsMember p s → MemberAt v s p
+    pub member_at : (root : Option Place) (s : List Place) (p : Place) → Represents n v root s → IsMember p s → MemberAt v s p
     member_at root s p h m =
         let cut = member_split p s m in
-        let k : Shows n v root (cut.0 ++ p ∷ cut.1) = subst (Shows n v root) cut.2 h in
+        let k : Represents n v root (cut.0 ++ p ∷ cut.1) = subst (Represents n v root) cut.2 h in
         let x = member_subtree root cut.0 p cut.1 k in
         record {
           fs = x.fs;

@@ -1,11 +1,9 @@
 -- Values and summaries of a table as they are written.
 use Rattle.std.proofs.Common.{◌≡◌, ◌≢◌, ◌<◌, ℕ, Option, Some, None, List, length, slice_index_or, slice_set, sym, ap, ◌∙◌, subst, inl, inr}
 use Rattle.std.proofs.Math.Path.{fun_ext}
-use Rattle.ic_unsafe_ref.specs.declared.place.Place.{Place}
-use Rattle.ic_unsafe_ref.specs.Places.{index_of}
+use Rattle.ic_link_ops.specs.Prelude.{Place, index_of, Table}
 use Rattle.ic_unsafe_ref.proofs.PlaceLemmas.{same_or_not}
 use Rattle.ic_link_ops.specs.RedBlackTree.{Node}
-use Rattle.ic_link_ops.specs.Tables.{Table}
 use Rattle.ic_link_ops.proofs.EntryLemmas.{others_same, entry_same, entry_read}
 use Rattle.ic_augmented.specs.declared.sum_table.Cell.{Cell}
 use Rattle.ic_augmented.specs.Consistent.{IsSameAt, IsConsistent}

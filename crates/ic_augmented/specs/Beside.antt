@@ -1,7 +1,6 @@
 -- What no climb from a tree reaches: the summaries that stand beside it.
 use Rattle.std.specs.Prelude.{◌≡◌, ◌≢◌, ◌≤◌, Bool, true, false, Option, Some, List}
-use Rattle.ic_unsafe_ref.specs.declared.place.Place.{Place}
-use Rattle.ic_link_ops.specs.Sequences.{IsMember}
+use Rattle.ic_link_ops.specs.Prelude.{Place, IsMember}
 use Rattle.ic_link_ops.specs.Times.{times_in}
 use Rattle.ic_rbtree.specs.Closed.{IsIn}
 use Rattle.ic_augmented.specs.Sums.{Sums, is_fresh}

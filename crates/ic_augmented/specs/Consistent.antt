@@ -1,13 +1,12 @@
 -- Summaries that are right where they are fresh: what every edit keeps.
 use Rattle.std.specs.Prelude.{◌≡◌, ◌≤◌, ℕ, true, Option, Some, None, List, [], ◌∷◌}
-use Rattle.ic_unsafe_ref.specs.declared.place.Place.{Place}
-use Rattle.ic_link_ops.specs.Tables.{Table}
+use Rattle.ic_link_ops.specs.Prelude.{Place, Table}
 use Rattle.ic_link_ops.specs.Frames.{Frame, frame}
 use Rattle.ic_link_ops.specs.Trees.{Tree, leaf, fork, top}
-use Rattle.ic_link_ops.specs.RedBlackTree.{Node, Shows}
+use Rattle.ic_link_ops.specs.RedBlackTree.{Node, Represents}
 use Rattle.ic_link_ops.specs.Times.{times, times_in}
 use Rattle.ic_rbtree.specs.Height.{height}
-use Rattle.ic_augmented.specs.Sums.{Sums, is_fresh, seen, IsSummed, MarksAlone}
+use Rattle.ic_augmented.specs.Sums.{Sums, is_fresh, seen, IsSummed, WritesNoSummary}
 
 module _ {S : Type 0} where
   -- the child is fresh, and its summary was written below q
@@ -60,20 +59,20 @@ module _ {E S : Type 0} (n : E → Node) where
   -- an edit keeps what is right, and writes no summary, of whatever tree: it makes some stale
   pub record KeepsConsistent (v w : Table E) (z y : Sums S) : Type 0 where
     pub consistent : (s : List Place) → IsConsistent v z s → IsConsistent w y s
-    pub marks : MarksAlone z y
+    pub marks : WritesNoSummary z y
     pub join : y.join ≡ z.join
 
   -- from the one place at which a fresh summary may be wrong to another, an edit keeps what is right beside it, and writes no summary
   pub record KeepsEdge (v w : Table E) (z y : Sums S) (was is : Option Place) : Type 0 where
     pub consistent : (s : List Place) → IsConsistentBut v z s was → IsConsistentBut w y s is
-    pub marks : MarksAlone z y
+    pub marks : WritesNoSummary z y
     pub join : y.join ≡ z.join
 
   -- THE TABLE SHOWS s, and each fresh summary is right
-  abbrev pub ShowsConsistent : Sums S → Table E → Option Place → List Place → Type 0
-  ShowsConsistent z v root s = Shows n v root s × IsConsistent v z s
+  abbrev pub RepresentsConsistent : Sums S → Table E → Option Place → List Place → Type 0
+  RepresentsConsistent z v root s = Represents n v root s × IsConsistent v z s
 
   -- THE TABLE SHOWS s, SUMMED: the summary of each subtree stands at its root
-  pub record ShowsSummed (z : Sums S) (v : Table E) (root : Option Place) (s : List Place) : Type 0 where
-    pub shows : Shows n v root s
+  pub record RepresentsSummed (z : Sums S) (v : Table E) (root : Option Place) (s : List Place) : Type 0 where
+    pub shows : Represents n v root s
     pub summed : IsSummed z None shows.tree

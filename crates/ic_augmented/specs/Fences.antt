@@ -1,8 +1,7 @@
--- A table behind a fence: a place outside it is seen as not linked, so no call can write there.
+-- A table after a fence: a place outside it is seen as not linked, so no call can write there.
 use Rattle.std.specs.Prelude.{Bool, ◌&&◌}
-use Rattle.ic_unsafe_ref.specs.declared.place.Place.{Place}
+use Rattle.ic_link_ops.specs.Prelude.{Place, Table}
 use Rattle.ic_link_ops.specs.RedBlackTree.{Node}
-use Rattle.ic_link_ops.specs.Tables.{Table}
 
 module _ {E : Type 0} where
   -- each entry, and whether its place is inside

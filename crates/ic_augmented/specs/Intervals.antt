@@ -1,13 +1,12 @@
 -- Intervals that overlap another.
 use Rattle.std.specs.Prelude.{ℕ, Bool, ◌&&◌, nat_lt}
-use Rattle.ic_unsafe_ref.specs.declared.place.Place.{Place}
-use Rattle.ic_unsafe_ref.specs.Objects.{Objects}
+use Rattle.ic_link_ops.specs.Prelude.{Place, Objects}
 use Rattle.ic_rbtree.specs.SortedObjects.{key_at}
 
 -- the start of the interval at p, 0 where none is placed
 abbrev pub start_in : Objects ℕ → Place → ℕ
 start_in starts p = key_at (λ (start : ℕ). start) starts p
 
--- THE INTERVAL at p OVERLAPS [from, to): it starts before `to`, and ends behind `from`. An end is not in its interval
+-- THE INTERVAL at p OVERLAPS [from, to): it starts before `to`, and ends after `from`. An end is not in its interval
 abbrev pub overlaps : (start end : Place → ℕ) → ℕ → ℕ → Place → Bool
 overlaps start end from to p = nat_lt (start p) to && nat_lt from (end p)

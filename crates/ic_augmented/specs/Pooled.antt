@@ -1,7 +1,6 @@
 -- Links and summaries that grow together.
 use Rattle.std.specs.Prelude.{◌≡◌, ◌<◌, Option}
-use Rattle.ic_unsafe_ref.specs.declared.place.Place.{Place}
-use Rattle.ic_unsafe_ref.specs.Places.{index_of}
+use Rattle.ic_link_ops.specs.Prelude.{Place, index_of}
 use Rattle.ic_augmented.specs.Consistent.{IsSameAt}
 use Rattle.ic_augmented.specs.Summed.{links_of, sums_of}
 use Rattle.ic_augmented.specs.SumTables.{joined, room_of, value_of}

@@ -1,9 +1,7 @@
 -- Steps that keep fresh summaries right do so together.
 use Rattle.std.specs.Prelude.{◌⊎◌, List, [], ◌∷◌, ◌++◌}
 use Rattle.std.proofs.Common.{inl, inr}
-use Rattle.ic_unsafe_ref.specs.declared.place.Place.{Place}
-use Rattle.ic_link_ops.specs.LinkSteps.{LinkStep, acquires, releases}
-use Rattle.ic_link_ops.specs.Tables.{Table}
+use Rattle.ic_link_ops.specs.Prelude.{Place, Table, LinkStep, acquires, releases}
 use Rattle.ic_link_ops.specs.RedBlackTree.{Node}
 use Rattle.ic_augmented.specs.Sums.{Sums}
 use Rattle.ic_augmented.specs.SummedSteps.{IsAcquired, IsRightAt}

@@ -1,7 +1,6 @@
 -- Tables of summaries: a value at each place, and the summary that is joined of it.
 use Rattle.std.specs.Prelude.{ℕ, Option, Some, None, List, length, slice_index_or}
-use Rattle.ic_unsafe_ref.specs.declared.place.Place.{Place}
-use Rattle.ic_unsafe_ref.specs.Places.{index_of}
+use Rattle.ic_link_ops.specs.Prelude.{Place, index_of}
 use Rattle.ic_augmented.specs.Sums.{Sums}
 use Rattle.ic_augmented.specs.declared.sum_table.Cell.{Cell}
 use Rattle.ic_augmented.specs.declared.sum_table.SumTable.{SumTable}

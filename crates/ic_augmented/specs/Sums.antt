@@ -32,7 +32,7 @@ module _ {S : Type 0} where
   IsSummed z up (fork c a p b) = (z.fresh p ≡ total z (fork c a p b)) × (z.upper p ≡ up) × IsSummed z (Some p) a × IsSummed z (Some p) b
 
   -- no summary was written from one state to the other: each is as it was, or stale now, and each parent is as it was
-  pub record MarksAlone (old new : Sums S) : Type 0 where
+  pub record WritesNoSummary (old new : Sums S) : Type 0 where
     pub fresh : (q : Place) (x : S) → new.fresh q ≡ Some x → old.fresh q ≡ Some x
     pub upper : (q : Place) → new.upper q ≡ old.upper q
 

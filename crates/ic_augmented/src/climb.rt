@@ -6,12 +6,9 @@
 //! ```
 
 ghost use Rattle.std.specs.Prelude.{◌≡◌, Bool, false, Option, Some, None, List, ◌∷◌, ◌++◌, IsTrue, IfSome, IfNone};
-ghost use Rattle.ic_unsafe_ref.specs.declared.place.Place.{Place};
+ghost use Rattle.ic_link_ops.specs.Prelude.{Place, IsAbsent, IsDisjoint, Table, HasMember};
 ghost use Rattle.ic_link_ops.specs.Frames.{Frame, plug};
-ghost use Rattle.ic_link_ops.specs.Positions.{HasMember};
-ghost use Rattle.ic_link_ops.specs.RedBlackTree.{IsTree, Shows};
-ghost use Rattle.ic_link_ops.specs.Sequences.{IsAbsent, IsDisjoint};
-ghost use Rattle.ic_link_ops.specs.Tables.{Table};
+ghost use Rattle.ic_link_ops.specs.RedBlackTree.{IsTree, Represents};
 ghost use Rattle.ic_link_ops.specs.Trees.{Tree, top};
 ghost use Rattle.ic_link_ops.specs.Times.{times};
 ghost use Rattle.ic_rbtree.specs.Closed.{IsIn, IsNode};
@@ -23,11 +20,11 @@ ghost use Rattle.ic_augmented.specs.Subtrees.{IsSubtree};
 use crate::ranks::is_at;
 use crate::stale::{invalidate_up, renew};
 use crate::sums::RenewSums;
-use ic_rbtree::Nodes;
+use ic_rbtree::NodeStore;
 use ic_unsafe_ref::Place;
 
 // Whether the edge stands above the place.
-fn is_above<N: Nodes>(links: &N, place: Place, edge: Place) -> bool
+fn is_above<N: NodeStore>(links: &N, place: Place, edge: Place) -> bool
     requires { (fs : List Frame) × (t : Tree) × IsSubtree N.node (N.table links.now) fs t × (top t ≡ Some place) }
     ensures { IsTrue result → (fs : List Frame) (t : Tree) → IsSubtree N.node (N.table links.now) fs t → top t ≡ Some place → IsAmong edge fs }
 {
@@ -42,7 +39,7 @@ fn is_above<N: Nodes>(links: &N, place: Place, edge: Place) -> bool
 
 // Writes the summary of a place, after the stale ones below it, in code of its own.
 #[inline(never)]
-fn renew_whole<N: Nodes, M: RenewSums>(
+fn renew_whole<N: NodeStore, M: RenewSums>(
     links: &N,
     sums: &mut M,
     here: Place,
@@ -60,7 +57,7 @@ fn renew_whole<N: Nodes, M: RenewSums>(
 
 // Renews the summary of a place, where that of one child had been `from` and is `to`: what it was and is, none where it is stale.
 #[inline(always)]
-fn renew_at<N: Nodes, M: RenewSums>(
+fn renew_at<N: NodeStore, M: RenewSums>(
     links: &N,
     sums: &mut M,
     place: Place,
@@ -88,7 +85,7 @@ fn renew_at<N: Nodes, M: RenewSums>(
 }
 
 // Renews the summaries from a place up as far as they change, where that of one child had been `from` and is `to`.
-fn pass_on<N: Nodes, M: RenewSums>(
+fn pass_on<N: NodeStore, M: RenewSums>(
     links: &N,
     sums: &mut M,
     place: Place,
@@ -119,7 +116,7 @@ fn pass_on<N: Nodes, M: RenewSums>(
 
 // Renews the summary of the edge, and those above as far as they change.
 #[inline(always)]
-fn climb_on<N: Nodes, M: RenewSums>(links: &N, sums: &mut M, edge: Place)
+fn climb_on<N: NodeStore, M: RenewSums>(links: &N, sums: &mut M, edge: Place)
     requires covered { (q : Place) → IsNode N.node (N.table links.now) q → M.Covers sums.old q }
     requires subtree { (fs : List Frame) × (t : Tree) × IsSubtree N.node (N.table links.now) fs t × (top t ≡ Some edge) }
     ensures covers { (q : Place) → M.Covers sums.old q → M.Covers sums.new q }
@@ -144,7 +141,7 @@ fn climb_on<N: Nodes, M: RenewSums>(links: &N, sums: &mut M, edge: Place)
 }
 
 // Renews the summaries from a place up to the edge, and those above as far as they change.
-fn climb<N: Nodes, M: RenewSums>(links: &N, sums: &mut M, place: Place, edge: Place)
+fn climb<N: NodeStore, M: RenewSums>(links: &N, sums: &mut M, place: Place, edge: Place)
     requires covered { (q : Place) → IsNode N.node (N.table links.now) q → M.Covers sums.old q }
     requires subtree { (fs : List Frame) × (t : Tree) × IsSubtree N.node (N.table links.now) fs t × (top t ≡ Some place) }
     ensures covers { (q : Place) → M.Covers sums.old q → M.Covers sums.new q }
@@ -167,22 +164,22 @@ fn climb<N: Nodes, M: RenewSums>(links: &N, sums: &mut M, place: Place, edge: Pl
 
 // Renews what an insert of the place has left stale below the edge, and what changes above. If the edge is not above the place, the
 // summaries above the edge are made stale.
-pub(crate) fn settle<N: Nodes, M: RenewSums>(
+pub(crate) fn settle<N: NodeStore, M: RenewSums>(
     links: &N,
     sums: &mut M,
     place: Place,
     edge: Option<Place>,
 )
-    requires member { (root : Option Place) × HasMember (Shows N.node (N.table links.now) root) place }
+    requires member { (root : Option Place) × HasMember (Represents N.node (N.table links.now) root) place }
     requires covered { (q : Place) → IsNode N.node (N.table links.now) q → M.Covers sums.old q }
     ensures covers { (q : Place) → M.Covers sums.old q → M.Covers sums.new q }
     ensures join { (M.sums sums.new).join ≡ (M.sums sums.old).join }
-    ensures consistent { (root : Option Place) (front back : List Place) (h : Shows N.node (N.table links.now) root (front ++ place ∷ back))
+    ensures consistent { (root : Option Place) (front back : List Place) (h : Represents N.node (N.table links.now) root (front ++ place ∷ back))
         → IsConsistentBut N.node (N.table links.now) (M.sums sums.old) (front ++ place ∷ back) edge → IsConsistentTree (M.sums sums.new) h.tree }
-    ensures others { (root other : Option Place) (front back t : List Place) → Shows N.node (N.table links.now) root (front ++ place ∷ back)
-        → Shows N.node (N.table links.now) other t → IsDisjoint (front ++ place ∷ back) t
+    ensures others { (root other : Option Place) (front back t : List Place) → Represents N.node (N.table links.now) root (front ++ place ∷ back)
+        → Represents N.node (N.table links.now) other t → IsDisjoint (front ++ place ∷ back) t
         → IsConsistentBut N.node (N.table links.now) (M.sums sums.old) t edge → IsConsistent N.node (N.table links.now) (M.sums sums.new) t }
-    ensures beside { (root : Option Place) (front back : List Place) → Shows N.node (N.table links.now) root (front ++ place ∷ back)
+    ensures beside { (root : Option Place) (front back : List Place) → Represents N.node (N.table links.now) root (front ++ place ∷ back)
         → (inside : Place → Bool) → IsWrittenIn (M.sums sums.old) inside → IsIn inside edge
         → (q : Place) → IsAbsent q (front ++ place ∷ back) → inside q ≡ false → IsSameAt (M.sums sums.old) (M.sums sums.new) q }
 {
@@ -198,22 +195,22 @@ pub(crate) fn settle<N: Nodes, M: RenewSums>(
 
 // Renews what the removal of the place has left stale below the edge, and what changes above. If the edge is the place itself, no member's
 // summary may be wrong.
-pub(crate) fn settle_without<N: Nodes, M: RenewSums>(
+pub(crate) fn settle_without<N: NodeStore, M: RenewSums>(
     links: &N,
     sums: &mut M,
     place: Place,
     edge: Option<Place>,
 )
-    requires member { (root : Option Place) × (s : List Place) × Shows N.node (N.table links.now) root s × IsEdgeOf edge place s }
+    requires member { (root : Option Place) × (s : List Place) × Represents N.node (N.table links.now) root s × IsEdgeOf edge place s }
     requires covered { (q : Place) → IsNode N.node (N.table links.now) q → M.Covers sums.old q }
     ensures covers { (q : Place) → M.Covers sums.old q → M.Covers sums.new q }
     ensures join { (M.sums sums.new).join ≡ (M.sums sums.old).join }
-    ensures consistent { (root : Option Place) (s : List Place) → Shows N.node (N.table links.now) root s → IsEdgeOf edge place s → IsAbsent place s
+    ensures consistent { (root : Option Place) (s : List Place) → Represents N.node (N.table links.now) root s → IsEdgeOf edge place s → IsAbsent place s
         → IsConsistentBut N.node (N.table links.now) (M.sums sums.old) s edge → IsConsistent N.node (N.table links.now) (M.sums sums.new) s }
-    ensures others { (root other : Option Place) (s t : List Place) → Shows N.node (N.table links.now) root s → IsEdgeOf edge place s
-        → Shows N.node (N.table links.now) other t → IsDisjoint s t → IsAbsent place t
+    ensures others { (root other : Option Place) (s t : List Place) → Represents N.node (N.table links.now) root s → IsEdgeOf edge place s
+        → Represents N.node (N.table links.now) other t → IsDisjoint s t → IsAbsent place t
         → IsConsistentBut N.node (N.table links.now) (M.sums sums.old) t edge → IsConsistent N.node (N.table links.now) (M.sums sums.new) t }
-    ensures beside { (root : Option Place) (s : List Place) → Shows N.node (N.table links.now) root s → IsEdgeOf edge place s
+    ensures beside { (root : Option Place) (s : List Place) → Represents N.node (N.table links.now) root s → IsEdgeOf edge place s
         → (q : Place) → IsAbsent q s → IsSameAt (M.sums sums.old) (M.sums sums.new) q }
 {
     let Some(highest) = edge else {

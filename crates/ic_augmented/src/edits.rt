@@ -9,18 +9,16 @@
 //! ```
 
 ghost use Rattle.std.specs.Prelude.{◌≡◌, Option, Some, None, List, [], ◌∷◌, ◌++◌};
-ghost use Rattle.ic_unsafe_ref.specs.declared.place.Place.{Place};
-ghost use Rattle.ic_link_ops.specs.Sequences.{Cut, join, insert, IsAbsent, IsDistinct};
-ghost use Rattle.ic_link_ops.specs.Positions.{HasMember};
-ghost use Rattle.ic_link_ops.specs.RedBlackTree.{Shows};
+ghost use Rattle.ic_link_ops.specs.Prelude.{Place, Cut, join, insert, IsAbsent, IsDistinct, HasMember};
+ghost use Rattle.ic_link_ops.specs.RedBlackTree.{Represents};
 ghost use Rattle.ic_rbtree.specs.Closed.{IsNode, IsSafeBut, KeepsNodes};
-ghost use Rattle.ic_rbtree.specs.Insertion.{IsHole, Attaches};
+ghost use Rattle.ic_rbtree.specs.Insertion.{IsInsertPos, Attaches};
 ghost use Rattle.ic_rbtree.specs.Kept.{TellsEnds, IsBelow};
 ghost use Rattle.ic_rbtree.specs.Transplants.{TakesAway};
 ghost use Rattle.ic_rbtree.specs.Tree.{head_of, root_in};
 ghost use Rattle.ic_augmented.specs.Summed.{links_of, sums_of};
-ghost use Rattle.ic_augmented.specs.Consistent.{IsSameAt, ShowsConsistent, ShowsSummed};
-ghost use Rattle.ic_augmented.specs.Fresh.{KeepsBesideTree, ShowsFresh};
+ghost use Rattle.ic_augmented.specs.Consistent.{IsSameAt, RepresentsConsistent, RepresentsSummed};
+ghost use Rattle.ic_augmented.specs.Fresh.{ChangesOnlyInTree, RepresentsFresh};
 
 use crate::climb::{settle, settle_without};
 use crate::marking::{attach_marking, unlink_marking};
@@ -28,7 +26,7 @@ use crate::stale::{invalidate_up, refresh_below, refresh_path};
 use crate::summed::Summed;
 use crate::sums::RenewSums;
 use ic_link_ops::Side;
-use ic_rbtree::{Nodes, RBTree, TreeHead};
+use ic_rbtree::{NodeStore, RBTree, TreeHead};
 use ic_unsafe_ref::Place;
 use std::marker::Brand;
 
@@ -36,9 +34,9 @@ use std::marker::Brand;
 ///
 /// It does what `RBTree::attach` and [`refresh`] do, and is faster: the summaries above the place are renewed as far as they change, each by what has
 /// changed below. Each fresh summary of another tree in the table stays right, and it stays fresh where those of this tree were written below its own
-/// members, as they are in a tree that is summed. It requires what `RBTree::attach` requires, that the links show a
+/// members, as they are in a tree that is summed. It requires what `RBTree::attach` requires, that the links represent a
 /// tree with this hole, and that there is room for a summary at each linked place. O(log n + v) for v summaries that were stale before.
-pub fn attach_fresh<A, E: TreeHead, N: Nodes, M: RenewSums>(
+pub fn attach_fresh<A, E: TreeHead, N: NodeStore, M: RenewSums>(
     tree: &mut RBTree<A, E>,
     summed: &mut Summed<N, M>,
     parent: Option<Place>,
@@ -47,18 +45,18 @@ pub fn attach_fresh<A, E: TreeHead, N: Nodes, M: RenewSums>(
 )
     requires safe { IsSafeBut N.node (N.table (links_of summed.old)) (root_in E.kept tree.old) place (Some place ∷ parent ∷ []) }
     requires hole { (gap : Cut) × IsNode N.node (N.table (links_of summed.old)) place × IsAbsent place (join gap)
-        × Shows N.node (N.table (links_of summed.old)) (root_in E.kept tree.old) (join gap) × IsHole N.node (N.table (links_of summed.old)) parent side gap }
+        × Represents N.node (N.table (links_of summed.old)) (root_in E.kept tree.old) (join gap) × IsInsertPos N.node (N.table (links_of summed.old)) parent side gap }
     requires covered { (q : Place) → IsNode N.node (N.table (links_of summed.old)) q → M.Covers (sums_of summed.old) q }
     ensures fresh { (gap : Cut) → IsNode N.node (N.table (links_of summed.old)) place → IsAbsent place (join gap)
-        → ShowsConsistent N.node (M.sums (sums_of summed.old)) (N.table (links_of summed.old)) (root_in E.kept tree.old) (join gap)
-        → IsHole N.node (N.table (links_of summed.old)) parent side gap
-        → ShowsFresh N.node (M.sums (sums_of summed.new)) (N.table (links_of summed.new)) (root_in E.kept tree.new) (insert gap place) }
+        → RepresentsConsistent N.node (M.sums (sums_of summed.old)) (N.table (links_of summed.old)) (root_in E.kept tree.old) (join gap)
+        → IsInsertPos N.node (N.table (links_of summed.old)) parent side gap
+        → RepresentsFresh N.node (M.sums (sums_of summed.new)) (N.table (links_of summed.new)) (root_in E.kept tree.new) (insert gap place) }
     ensures attached { Attaches N.node (N.table (links_of summed.old)) (N.table (links_of summed.new)) (root_in E.kept tree.old) (root_in E.kept tree.new) parent side place }
     ensures ends { (gap : Cut) → IsBelow parent side gap → IsDistinct (join gap) → TellsEnds (E.kept (head_of tree.old)) (join gap)
         → TellsEnds (E.kept (head_of tree.new)) (insert gap place) }
     ensures linked { KeepsNodes N.node (N.table (links_of summed.old)) (N.table (links_of summed.new)) }
-    ensures quiet { N.Quiet (links_of summed.old) (links_of summed.new) }
-    ensures beside { KeepsBesideTree E.kept N.node N.table M.sums M.Covers (place ∷ []) (place ∷ []) tree.old tree.new summed.old summed.new }
+    ensures keeps_links { N.KeepsLinks (links_of summed.old) (links_of summed.new) }
+    ensures beside { ChangesOnlyInTree E.kept N.node N.table M.sums M.Covers (place ∷ []) (place ∷ []) tree.old tree.new summed.old summed.new }
 {
     invalidate_up(&summed.links, &mut summed.sums, place);
     let edge = attach_marking::<Brand, _, _, _, _>(tree, summed, parent, side, place);
@@ -74,22 +72,22 @@ pub fn attach_fresh<A, E: TreeHead, N: Nodes, M: RenewSums>(
 /// fresh summary of another tree in the table stays right, and it stays fresh where those of this tree were written below its own members, as they
 /// are in a tree that is summed. It requires that the place is that of a member, and that there is room for a summary at each linked place.
 /// O(log n + v) for v summaries that were stale before.
-pub fn unlink_fresh<A, E: TreeHead, N: Nodes, M: RenewSums>(
+pub fn unlink_fresh<A, E: TreeHead, N: NodeStore, M: RenewSums>(
     tree: &mut RBTree<A, E>,
     summed: &mut Summed<N, M>,
     place: Place,
 )
-    requires member { HasMember (Shows N.node (N.table (links_of summed.old)) (root_in E.kept tree.old)) place }
+    requires member { HasMember (Represents N.node (N.table (links_of summed.old)) (root_in E.kept tree.old)) place }
     requires covered { (q : Place) → IsNode N.node (N.table (links_of summed.old)) q → M.Covers (sums_of summed.old) q }
     ensures fresh { (front back : List Place)
-        → ShowsConsistent N.node (M.sums (sums_of summed.old)) (N.table (links_of summed.old)) (root_in E.kept tree.old) (front ++ place ∷ back)
-        → ShowsFresh N.node (M.sums (sums_of summed.new)) (N.table (links_of summed.new)) (root_in E.kept tree.new) (front ++ back) }
+        → RepresentsConsistent N.node (M.sums (sums_of summed.old)) (N.table (links_of summed.old)) (root_in E.kept tree.old) (front ++ place ∷ back)
+        → RepresentsFresh N.node (M.sums (sums_of summed.new)) (N.table (links_of summed.new)) (root_in E.kept tree.new) (front ++ back) }
     ensures stale { (M.sums (sums_of summed.new)).fresh place ≡ None }
     ensures taken { TakesAway N.node (N.table (links_of summed.old)) (N.table (links_of summed.new)) (root_in E.kept tree.old) (root_in E.kept tree.new) place }
-    ensures ends { (front back : List Place) → Shows N.node (N.table (links_of summed.old)) (root_in E.kept tree.old) (front ++ place ∷ back)
+    ensures ends { (front back : List Place) → Represents N.node (N.table (links_of summed.old)) (root_in E.kept tree.old) (front ++ place ∷ back)
         → TellsEnds (E.kept (head_of tree.old)) (front ++ place ∷ back) → TellsEnds (E.kept (head_of tree.new)) (front ++ back) }
-    ensures quiet { N.Quiet (links_of summed.old) (links_of summed.new) }
-    ensures beside { KeepsBesideTree E.kept N.node N.table M.sums M.Covers [] [] tree.old tree.new summed.old summed.new }
+    ensures keeps_links { N.KeepsLinks (links_of summed.old) (links_of summed.new) }
+    ensures beside { ChangesOnlyInTree E.kept N.node N.table M.sums M.Covers [] [] tree.old tree.new summed.old summed.new }
 {
     let edge = unlink_marking::<Brand, _, _, _, _>(tree, summed, place);
     settle_without(&summed.links, &mut summed.sums, place, edge);
@@ -100,20 +98,20 @@ pub fn unlink_fresh<A, E: TreeHead, N: Nodes, M: RenewSums>(
 
 /// Renews the stale summaries of the tree: then it is summed. The links stay, and so does all that is kept at places outside the tree.
 ///
-/// It requires that the links show a tree, and that there is room for a summary at each linked place. O(v) for v stale summaries.
-pub fn refresh<A, E: TreeHead, N: Nodes, M: RenewSums>(
+/// It requires that the links represent a tree, and that there is room for a summary at each linked place. O(v) for v stale summaries.
+pub fn refresh<A, E: TreeHead, N: NodeStore, M: RenewSums>(
     tree: &RBTree<A, E>,
     summed: &mut Summed<N, M>,
 )
-    requires shown { (s : List Place) × Shows N.node (N.table (links_of summed.old)) (root_in E.kept tree.now) s }
+    requires shown { (s : List Place) × Represents N.node (N.table (links_of summed.old)) (root_in E.kept tree.now) s }
     requires covered { (q : Place) → IsNode N.node (N.table (links_of summed.old)) q → M.Covers (sums_of summed.old) q }
     ensures summed { (s : List Place)
-        → ShowsConsistent N.node (M.sums (sums_of summed.old)) (N.table (links_of summed.old)) (root_in E.kept tree.now) s
-        → ShowsSummed N.node (M.sums (sums_of summed.new)) (N.table (links_of summed.new)) (root_in E.kept tree.now) s }
+        → RepresentsConsistent N.node (M.sums (sums_of summed.old)) (N.table (links_of summed.old)) (root_in E.kept tree.now) s
+        → RepresentsSummed N.node (M.sums (sums_of summed.new)) (N.table (links_of summed.new)) (root_in E.kept tree.now) s }
     ensures consistent { (s : List Place)
-        → ShowsConsistent N.node (M.sums (sums_of summed.old)) (N.table (links_of summed.old)) (root_in E.kept tree.now) s
-        → ShowsConsistent N.node (M.sums (sums_of summed.new)) (N.table (links_of summed.new)) (root_in E.kept tree.now) s }
-    ensures others { (s : List Place) → Shows N.node (N.table (links_of summed.old)) (root_in E.kept tree.now) s → (q : Place) → IsAbsent q s
+        → RepresentsConsistent N.node (M.sums (sums_of summed.old)) (N.table (links_of summed.old)) (root_in E.kept tree.now) s
+        → RepresentsConsistent N.node (M.sums (sums_of summed.new)) (N.table (links_of summed.new)) (root_in E.kept tree.now) s }
+    ensures others { (s : List Place) → Represents N.node (N.table (links_of summed.old)) (root_in E.kept tree.now) s → (q : Place) → IsAbsent q s
         → IsSameAt (M.sums (sums_of summed.old)) (M.sums (sums_of summed.new)) q }
     ensures join { (M.sums (sums_of summed.new)).join ≡ (M.sums (sums_of summed.old)).join }
     ensures covers { (q : Place) → M.Covers (sums_of summed.old) q → M.Covers (sums_of summed.new) q }
@@ -129,16 +127,16 @@ pub fn refresh<A, E: TreeHead, N: Nodes, M: RenewSums>(
 /// It does what [`refresh`] does, and is faster where what is stale stands at `place`, on the way from there to the root and beside that: after
 /// an insert of `place`. It requires that the place is that of a member, and that there is room for a summary at each linked place.
 /// O(log n + v) for v stale summaries.
-pub fn propagate<N: Nodes, M: RenewSums>(summed: &mut Summed<N, M>, place: Place)
-    requires member { (root : Option Place) × HasMember (Shows N.node (N.table (links_of summed.old)) root) place }
+pub fn propagate<N: NodeStore, M: RenewSums>(summed: &mut Summed<N, M>, place: Place)
+    requires member { (root : Option Place) × HasMember (Represents N.node (N.table (links_of summed.old)) root) place }
     requires covered { (q : Place) → IsNode N.node (N.table (links_of summed.old)) q → M.Covers (sums_of summed.old) q }
     ensures summed { (root : Option Place) (front back : List Place)
-        → ShowsConsistent N.node (M.sums (sums_of summed.old)) (N.table (links_of summed.old)) root (front ++ place ∷ back)
-        → ShowsSummed N.node (M.sums (sums_of summed.new)) (N.table (links_of summed.new)) root (front ++ place ∷ back) }
+        → RepresentsConsistent N.node (M.sums (sums_of summed.old)) (N.table (links_of summed.old)) root (front ++ place ∷ back)
+        → RepresentsSummed N.node (M.sums (sums_of summed.new)) (N.table (links_of summed.new)) root (front ++ place ∷ back) }
     ensures consistent { (root : Option Place) (front back : List Place)
-        → ShowsConsistent N.node (M.sums (sums_of summed.old)) (N.table (links_of summed.old)) root (front ++ place ∷ back)
-        → ShowsConsistent N.node (M.sums (sums_of summed.new)) (N.table (links_of summed.new)) root (front ++ place ∷ back) }
-    ensures others { (root : Option Place) (front back : List Place) → Shows N.node (N.table (links_of summed.old)) root (front ++ place ∷ back)
+        → RepresentsConsistent N.node (M.sums (sums_of summed.old)) (N.table (links_of summed.old)) root (front ++ place ∷ back)
+        → RepresentsConsistent N.node (M.sums (sums_of summed.new)) (N.table (links_of summed.new)) root (front ++ place ∷ back) }
+    ensures others { (root : Option Place) (front back : List Place) → Represents N.node (N.table (links_of summed.old)) root (front ++ place ∷ back)
         → (q : Place) → IsAbsent q (front ++ place ∷ back) → IsSameAt (M.sums (sums_of summed.old)) (M.sums (sums_of summed.new)) q }
     ensures join { (M.sums (sums_of summed.new)).join ≡ (M.sums (sums_of summed.old)).join }
     ensures covers { (q : Place) → M.Covers (sums_of summed.old) q → M.Covers (sums_of summed.new) q }

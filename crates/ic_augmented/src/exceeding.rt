@@ -5,26 +5,24 @@
 //! ```
 
 ghost use Rattle.std.specs.Prelude.{◌≡◌, ◌≤◌, Option, List, filter};
-ghost use Rattle.ic_unsafe_ref.specs.declared.place.Place.{Place};
-ghost use Rattle.ic_link_ops.specs.RedBlackTree.{IsTree, Shows};
-ghost use Rattle.ic_link_ops.specs.Sequences.{first};
-ghost use Rattle.ic_link_ops.specs.Tables.{Table};
+ghost use Rattle.ic_link_ops.specs.Prelude.{Place, first, Table};
+ghost use Rattle.ic_link_ops.specs.RedBlackTree.{IsTree, Represents};
 ghost use Rattle.ic_link_ops.specs.Trees.{Tree, top, in_order};
 ghost use Rattle.ic_rbtree.specs.Height.{height};
 ghost use Rattle.ic_rbtree.specs.Tree.{root_in};
-ghost use Rattle.ic_augmented.specs.Consistent.{ShowsSummed};
+ghost use Rattle.ic_augmented.specs.Consistent.{RepresentsSummed};
 ghost use Rattle.ic_augmented.specs.Greatest.{greatest, number_at, is_greater};
 ghost use Rattle.ic_augmented.specs.Summed.{links_of, sums_of};
 ghost use Rattle.ic_augmented.specs.Sums.{IsSummed};
 
 use crate::greatest::Greatest;
 use crate::summed::Summed;
-use ic_rbtree::{Nodes, RBTree, TreeHead};
+use ic_rbtree::{NodeStore, RBTree, TreeHead};
 use ic_unsafe_ref::Place;
 use std::alloc::Allocator;
 
 // The first member of the subtree at a place whose number is greater than `bound`.
-fn first_greater_below<N: Nodes, A: Allocator>(
+fn first_greater_below<N: NodeStore, A: Allocator>(
     links: &N,
     numbers: &Greatest<A>,
     place: Option<Place>,
@@ -53,15 +51,15 @@ fn first_greater_below<N: Nodes, A: Allocator>(
 
 /// The first member whose number is greater than `bound`, whatever the order of the numbers is. It finds none where no number is greater. O(log n).
 ///
-/// It requires that the links show a tree.
-pub fn first_greater<T, E: TreeHead, N: Nodes, A: Allocator>(
+/// It requires that the links represent a tree.
+pub fn first_greater<T, E: TreeHead, N: NodeStore, A: Allocator>(
     tree: &RBTree<T, E>,
     summed: &Summed<N, Greatest<A>>,
     bound: u64,
 ) -> Option<Place>
-    requires { (s : List Place) × Shows N.node (N.table (links_of summed.now)) (root_in E.kept tree.now) s }
+    requires { (s : List Place) × Represents N.node (N.table (links_of summed.now)) (root_in E.kept tree.now) s }
     ensures { (s : List Place)
-        → ShowsSummed N.node (greatest (sums_of summed.now)) (N.table (links_of summed.now)) (root_in E.kept tree.now) s
+        → RepresentsSummed N.node (greatest (sums_of summed.now)) (N.table (links_of summed.now)) (root_in E.kept tree.now) s
         → result ≡ first (filter (is_greater (number_at (sums_of summed.now)) bound) s) }
 {
     first_greater_below(&summed.links, &summed.sums, tree.root(), bound, 67)

@@ -8,18 +8,15 @@
 //! ```
 
 ghost use Rattle.std.specs.Prelude.{◌≡◌, None, OnOk, OnErr, IfErr, List, [], ◌∷◌, ◌++◌};
-ghost use Rattle.ic_unsafe_ref.specs.declared.place.Place.{Place};
-ghost use Rattle.ic_link_ops.specs.LinkSteps.{acquires, releases};
-ghost use Rattle.ic_link_ops.specs.Positions.{HasMember};
-ghost use Rattle.ic_link_ops.specs.RedBlackTree.{Shows};
-ghost use Rattle.ic_link_ops.specs.Tables.{IsCovered, KeepsBeside};
+ghost use Rattle.ic_link_ops.specs.Prelude.{Place, IsCovered, ChangesOnlyIn, HasMember, acquires, releases};
+ghost use Rattle.ic_link_ops.specs.RedBlackTree.{Represents};
 ghost use Rattle.ic_rbtree.specs.Comparing.{compared, own_order};
-ghost use Rattle.ic_rbtree.specs.Kept.{ShowsKept};
+ghost use Rattle.ic_rbtree.specs.Kept.{RepresentsKept};
 ghost use Rattle.ic_rbtree.specs.Ordered.{InsertsInOrder};
 ghost use Rattle.ic_rbtree.specs.Tree.{head_of, root_in, adapter_of};
 ghost use Rattle.ic_augmented.specs.Summed.{links_of, sums_of};
-ghost use Rattle.ic_augmented.specs.Consistent.{ShowsConsistent};
-ghost use Rattle.ic_augmented.specs.Fresh.{KeepsBesideTree, ShowsFresh};
+ghost use Rattle.ic_augmented.specs.Consistent.{RepresentsConsistent};
+ghost use Rattle.ic_augmented.specs.Fresh.{ChangesOnlyInTree, RepresentsFresh};
 
 use crate::edits::{attach_fresh, unlink_fresh};
 use crate::summed::Summed;
@@ -32,8 +29,8 @@ use ic_unsafe_ref::{UnsafeRef, Values};
 /// Inserts the object as [`RBTree::insert_keyed`] does, and renews the stale summaries of the tree: then it is summed.
 ///
 /// It does what `insert_keyed` and [`refresh`](crate::refresh) do, and is faster, but it descends also where the last member is kept. Each fresh
-/// summary of another tree in the table stays right. It requires that the object's place is covered, that the links show a tree, and that there is
-/// room for a summary at each covered place. A refused object comes back, and the tree, its links and its summaries are as they were.
+/// summary of another tree in the table stays right. It requires that the object's place is covered, that the links represent a tree, and that there
+/// is room for a summary at each covered place. A refused object comes back, and the tree, its links and its summaries are as they were.
 /// O(log n + v) for v summaries that were stale before.
 pub fn insert_fresh<A: KeyAdapter, E: TreeHead, L: RBTreeOps + LinkValues<A::Value>, M: RenewSums>(
     tree: &mut RBTree<A, E>,
@@ -41,19 +38,19 @@ pub fn insert_fresh<A: KeyAdapter, E: TreeHead, L: RBTreeOps + LinkValues<A::Val
     object: UnsafeRef<A::Value>,
 ) -> Result<(), AlreadyLinked<A::Value>>
     requires covered { IsCovered (L.table (links_of summed.old)) object }
-    requires shown { (s : List Place) × Shows L.node (L.table (links_of summed.old)) (root_in E.kept tree.old) s }
+    requires shown { (s : List Place) × Represents L.node (L.table (links_of summed.old)) (root_in E.kept tree.old) s }
     requires room { (q : Place) → IsCovered (L.table (links_of summed.old)) q → M.Covers (sums_of summed.old) q }
     ensures inserted { (s : List Place)
-        → ShowsConsistent L.node (M.sums (sums_of summed.old)) (L.table (links_of summed.old)) (root_in E.kept tree.old) s
-        → OnOk result (InsertsInOrder (ShowsFresh L.node (M.sums (sums_of summed.new)))
+        → RepresentsConsistent L.node (M.sums (sums_of summed.old)) (L.table (links_of summed.old)) (root_in E.kept tree.old) s
+        → OnOk result (InsertsInOrder (RepresentsFresh L.node (M.sums (sums_of summed.new)))
         (compared (own_order A.Key.cmp (A.key_of (adapter_of tree.old)) (L.values (links_of summed.old)) object) (L.values (links_of summed.old)))
         (L.table (links_of summed.old)) (L.table (links_of summed.new)) (root_in E.kept tree.new) s object) }
-    ensures kept { (s : List Place) → ShowsKept E.kept L.node (L.table (links_of summed.old)) (head_of tree.old) s
-        → OnOk result (InsertsInOrder (ShowsKept E.kept L.node)
+    ensures kept { (s : List Place) → RepresentsKept E.kept L.node (L.table (links_of summed.old)) (head_of tree.old) s
+        → OnOk result (InsertsInOrder (RepresentsKept E.kept L.node)
         (compared (own_order A.Key.cmp (A.key_of (adapter_of tree.old)) (L.values (links_of summed.old)) object) (L.values (links_of summed.old)))
         (L.table (links_of summed.old)) (L.table (links_of summed.new)) (head_of tree.new) s object) }
-    ensures acquired { OnOk result (L.Does (links_of summed.old) (links_of summed.new) (acquires object ∷ [])) }
-    ensures beside { KeepsBesideTree E.kept L.node L.table M.sums M.Covers [] (object ∷ []) tree.old tree.new summed.old summed.new }
+    ensures acquired { OnOk result (L.Trace (links_of summed.old) (links_of summed.new) (acquires object ∷ [])) }
+    ensures beside { ChangesOnlyInTree E.kept L.node L.table M.sums M.Covers [] (object ∷ []) tree.old tree.new summed.old summed.new }
     ensures refused { OnErr result (L.Refused (links_of summed.old) (links_of summed.new) object) }
     ensures unchanged { IfErr result (λ refused. (refused.0 ≡ object) × (tree.new ≡ tree.old) × (sums_of summed.new ≡ sums_of summed.old)) }
 {
@@ -80,18 +77,18 @@ pub fn remove_fresh<A: KeyAdapter, E: TreeHead, L: RBTreeOps, M: RenewSums>(
     summed: &mut Summed<L, M>,
     object: &UnsafeRef<A::Value>,
 )
-    requires member { HasMember (Shows L.node (L.table (links_of summed.old)) (root_in E.kept tree.old)) object.now }
+    requires member { HasMember (Represents L.node (L.table (links_of summed.old)) (root_in E.kept tree.old)) object.now }
     requires room { (q : Place) → IsCovered (L.table (links_of summed.old)) q → M.Covers (sums_of summed.old) q }
     ensures removed { (front back : List Place)
-        → ShowsConsistent L.node (M.sums (sums_of summed.old)) (L.table (links_of summed.old)) (root_in E.kept tree.old) (front ++ object.now ∷ back)
-        → ShowsFresh L.node (M.sums (sums_of summed.new)) (L.table (links_of summed.new)) (root_in E.kept tree.new) (front ++ back) }
-    ensures kept { (front back : List Place) → ShowsKept E.kept L.node (L.table (links_of summed.old)) (head_of tree.old) (front ++ object.now ∷ back)
-        → ShowsKept E.kept L.node (L.table (links_of summed.new)) (head_of tree.new) (front ++ back) }
+        → RepresentsConsistent L.node (M.sums (sums_of summed.old)) (L.table (links_of summed.old)) (root_in E.kept tree.old) (front ++ object.now ∷ back)
+        → RepresentsFresh L.node (M.sums (sums_of summed.new)) (L.table (links_of summed.new)) (root_in E.kept tree.new) (front ++ back) }
+    ensures kept { (front back : List Place) → RepresentsKept E.kept L.node (L.table (links_of summed.old)) (head_of tree.old) (front ++ object.now ∷ back)
+        → RepresentsKept E.kept L.node (L.table (links_of summed.new)) (head_of tree.new) (front ++ back) }
     ensures stale { (M.sums (sums_of summed.new)).fresh object.now ≡ None }
-    ensures released { L.Does (links_of summed.old) (links_of summed.new) (releases object.now ∷ []) }
-    ensures frame { (s : List Place) → Shows L.node (L.table (links_of summed.old)) (root_in E.kept tree.old) s
-        → KeepsBeside (L.table (links_of summed.old)) (L.table (links_of summed.new)) s }
-    ensures beside { KeepsBesideTree E.kept L.node L.table M.sums M.Covers [] [] tree.old tree.new summed.old summed.new }
+    ensures released { L.Trace (links_of summed.old) (links_of summed.new) (releases object.now ∷ []) }
+    ensures frame { (s : List Place) → Represents L.node (L.table (links_of summed.old)) (root_in E.kept tree.old) s
+        → ChangesOnlyIn (L.table (links_of summed.old)) (L.table (links_of summed.new)) s }
+    ensures beside { ChangesOnlyInTree E.kept L.node L.table M.sums M.Covers [] [] tree.old tree.new summed.old summed.new }
 {
     let place = object.place();
     unlink_fresh(tree, summed, place);

@@ -7,9 +7,8 @@
 //! ```
 
 ghost use Rattle.std.specs.Prelude.{◌≡◌, ◌⊎◌, Bool, true, Some, None, List, [], ◌∷◌, ◌++◌};
-ghost use Rattle.ic_unsafe_ref.specs.declared.place.Place.{Place};
-ghost use Rattle.ic_link_ops.specs.RedBlackTree.{Shows};
-ghost use Rattle.ic_link_ops.specs.Sequences.{Cut, join, insert, IsDistinct};
+ghost use Rattle.ic_link_ops.specs.Prelude.{Place, Cut, join, insert, IsDistinct};
+ghost use Rattle.ic_link_ops.specs.RedBlackTree.{Represents};
 ghost use Rattle.ic_rbtree.specs.Closed.{AreIn, IsIn, IsClosed, IsClosedBut, KeepsNodes};
 ghost use Rattle.ic_rbtree.specs.Insertion.{Attaches};
 ghost use Rattle.ic_rbtree.specs.Kept.{TellsEnds, IsBelow};
@@ -17,15 +16,15 @@ ghost use Rattle.ic_rbtree.specs.Transplants.{TakesAway};
 ghost use Rattle.ic_rbtree.specs.Tree.{head_of, root_in, adapter_of};
 ghost use Rattle.ic_augmented.specs.Beside.{IsWrittenIn, IsSameBeside, StaysInside};
 ghost use Rattle.ic_augmented.specs.Consistent.{IsConsistent, IsConsistentBut, KeepsEdge};
-ghost use Rattle.ic_augmented.specs.Marking.{links_in, QuietlyMarks};
+ghost use Rattle.ic_augmented.specs.Marking.{links_in, MarksOnly};
 ghost use Rattle.ic_augmented.specs.Summed.{links_of, sums_of};
-ghost use Rattle.ic_augmented.specs.Sums.{MarksAlone};
+ghost use Rattle.ic_augmented.specs.Sums.{WritesNoSummary};
 
 use crate::stale::invalidate_from;
 use crate::summed::Summed;
 use crate::sums::Sums;
 use ic_link_ops::Side;
-use ic_rbtree::{Color, Nodes, RBTree, TreeHead};
+use ic_rbtree::{Color, NodeStore, RBTree, TreeHead};
 use ic_unsafe_ref::Place;
 use std::marker::{Brand, PhantomData};
 
@@ -66,7 +65,7 @@ impl<'a, N, M, F> Marking<'a, N, M, F> {
 
 // `invalidate_from`, of links and summaries together.
 #[inline]
-fn invalidate_in<N: Nodes, M: Sums>(
+fn invalidate_in<N: NodeStore, M: Sums>(
     summed: &mut Summed<N, M>,
     edge: Option<Place>,
     place: Place,
@@ -82,7 +81,7 @@ fn invalidate_in<N: Nodes, M: Sums>(
 }
 
 /// Each write of a child below a fresh summary moves the edge to its place, and makes the summaries from the old edge up to there stale.
-impl<N: Nodes, M: Sums, F: Fence> Nodes for Marking<'_, N, M, F> {
+impl<N: NodeStore, M: Sums, F: Fence> NodeStore for Marking<'_, N, M, F> {
     ghost use Rattle.ic_augmented.specs.Fences.{fenced, fenced_node};
     ghost use Rattle.ic_augmented.specs.Marking.{sums_in, edge_in};
     ghost use Rattle.ic_augmented.specs.MarkLaws.{marks_still, marks_on, inside_still, inside_on};
@@ -94,7 +93,7 @@ impl<N: Nodes, M: Sums, F: Fence> Nodes for Marking<'_, N, M, F> {
 
     ghost node = { fenced_node N.node };
 
-    ghost Quiet = { QuietlyMarks N.Quiet N.node N.table M.sums M.Covers F.inside };
+    ghost KeepsLinks = { MarksOnly N.KeepsLinks N.node N.table M.sums M.Covers F.inside };
 
     #[inline]
     fn left(&self, place: Place) -> Option<Place> {
@@ -143,15 +142,15 @@ impl<N: Nodes, M: Sums, F: Fence> Nodes for Marking<'_, N, M, F> {
         self.summed.links.set_parent_and_color(place, parent, color);
     }
 
-    ghost quiet_still = { λ t. record { name = refl; quiet = N.quiet_still (links_in t); consistent = λ s h. h; marks = marks_still (M.sums (sums_in t)); beside = inside_still (M.sums (sums_in t)) (edge_in t) F.inside; covers = λ q h. h; join = refl } };
+    ghost keeps_links_still = { λ t. record { name = refl; keeps_links = N.keeps_links_still (links_in t); consistent = λ s h. h; marks = marks_still (M.sums (sums_in t)); beside = inside_still (M.sums (sums_in t)) (edge_in t) F.inside; covers = λ q h. h; join = refl } };
 
-    ghost quiet_on = { λ a b c x y. record { name = y.name ∙ x.name; quiet = N.quiet_on (links_in a) (links_in b) (links_in c) x.quiet y.quiet; consistent = λ s h. y.consistent s (x.consistent s h); marks = marks_on x.marks y.marks; beside = inside_on (edge_in a) (edge_in b) (edge_in c) F.inside x.marks x.beside y.beside; covers = λ q h. y.covers q (x.covers q h); join = y.join ∙ x.join } };
+    ghost keeps_links_on = { λ a b c x y. record { name = y.name ∙ x.name; keeps_links = N.keeps_links_on (links_in a) (links_in b) (links_in c) x.keeps_links y.keeps_links; consistent = λ s h. y.consistent s (x.consistent s h); marks = marks_on x.marks y.marks; beside = inside_on (edge_in a) (edge_in b) (edge_in c) F.inside x.marks x.beside y.beside; covers = λ q h. y.covers q (x.covers q h); join = y.join ∙ x.join } };
 
-    ghost quiet_keeps = { λ old new x q. ap (λ is. F.inside q && is) (N.quiet_keeps (links_in old) (links_in new) x.quiet q) };
+    ghost keeps_links_keeps = { λ old new x q. ap (λ is. F.inside q && is) (N.keeps_links_keeps (links_in old) (links_in new) x.keeps_links q) };
 }
 
 // Puts the place in, as `RBTree::attach` does. Inside the fence stand the tree and the place, and nothing outside it is written.
-fn attach_inside<F: Fence, A, E: TreeHead, N: Nodes, M: Sums>(
+fn attach_inside<F: Fence, A, E: TreeHead, N: NodeStore, M: Sums>(
     tree: &mut RBTree<A, E>,
     marking: &mut Marking<'_, N, M, F>,
     parent: Option<Place>,
@@ -163,7 +162,7 @@ fn attach_inside<F: Fence, A, E: TreeHead, N: Nodes, M: Sums>(
     ensures attached { Attaches N.node (N.table (links_in marking.old)) (N.table (links_in marking.new)) (root_in E.kept tree.old) (root_in E.kept tree.new) parent side place }
     ensures ends { (gap : Cut) → IsBelow parent side gap → IsDistinct (join gap) → TellsEnds (E.kept (head_of tree.old)) (join gap)
         → TellsEnds (E.kept (head_of tree.new)) (insert gap place) }
-    ensures quiet { QuietlyMarks N.Quiet N.node N.table M.sums M.Covers F.inside marking.old marking.new }
+    ensures keeps_links { MarksOnly N.KeepsLinks N.node N.table M.sums M.Covers F.inside marking.old marking.new }
     ensures adapter { adapter_of tree.new ≡ adapter_of tree.old }
 {
     tree.attach(marking, parent, side, place);
@@ -171,7 +170,7 @@ fn attach_inside<F: Fence, A, E: TreeHead, N: Nodes, M: Sums>(
 
 // Puts the place in, as `RBTree::attach` does, and tells the edge: above the stale summaries, with one that is as it was and may be wrong.
 // What no place inside the fence leads to stays the same.
-pub(crate) fn attach_marking<F: Fence, A, E: TreeHead, N: Nodes, M: Sums>(
+pub(crate) fn attach_marking<F: Fence, A, E: TreeHead, N: NodeStore, M: Sums>(
     tree: &mut RBTree<A, E>,
     summed: &mut Summed<N, M>,
     parent: Option<Place>,
@@ -184,10 +183,10 @@ pub(crate) fn attach_marking<F: Fence, A, E: TreeHead, N: Nodes, M: Sums>(
     ensures ends { (gap : Cut) → IsBelow parent side gap → IsDistinct (join gap) → TellsEnds (E.kept (head_of tree.old)) (join gap)
         → TellsEnds (E.kept (head_of tree.new)) (insert gap place) }
     ensures linked { KeepsNodes N.node (N.table (links_of summed.old)) (N.table (links_of summed.new)) }
-    ensures quiet { N.Quiet (links_of summed.old) (links_of summed.new) }
+    ensures keeps_links { N.KeepsLinks (links_of summed.old) (links_of summed.new) }
     ensures consistent { (s : List Place) → IsConsistent N.node (N.table (links_of summed.old)) (M.sums (sums_of summed.old)) s
         → IsConsistentBut N.node (N.table (links_of summed.new)) (M.sums (sums_of summed.new)) s result }
-    ensures marks { MarksAlone (M.sums (sums_of summed.old)) (M.sums (sums_of summed.new)) }
+    ensures marks { WritesNoSummary (M.sums (sums_of summed.old)) (M.sums (sums_of summed.new)) }
     ensures inside { IsIn F.inside result }
     ensures beside { IsWrittenIn (M.sums (sums_of summed.old)) F.inside → IsSameBeside (M.sums (sums_of summed.old)) (M.sums (sums_of summed.new)) F.inside }
     ensures join { (M.sums (sums_of summed.new)).join ≡ (M.sums (sums_of summed.old)).join }
@@ -205,7 +204,7 @@ pub(crate) fn attach_marking<F: Fence, A, E: TreeHead, N: Nodes, M: Sums>(
 }
 
 // Takes the member out, as `RBTree::unlink` does. Inside the fence stands the tree, and nothing outside it is written.
-fn unlink_inside<F: Fence, A, E: TreeHead, N: Nodes, M: Sums>(
+fn unlink_inside<F: Fence, A, E: TreeHead, N: NodeStore, M: Sums>(
     tree: &mut RBTree<A, E>,
     marking: &mut Marking<'_, N, M, F>,
     place: Place,
@@ -213,9 +212,9 @@ fn unlink_inside<F: Fence, A, E: TreeHead, N: Nodes, M: Sums>(
     requires closed { IsClosed N.node (N.table (links_in marking.old)) (root_in E.kept tree.old) F.inside }
     requires inside { F.inside place ≡ true }
     ensures taken { TakesAway N.node (N.table (links_in marking.old)) (N.table (links_in marking.new)) (root_in E.kept tree.old) (root_in E.kept tree.new) place }
-    ensures ends { (front back : List Place) → Shows N.node (N.table (links_in marking.old)) (root_in E.kept tree.old) (front ++ place ∷ back)
+    ensures ends { (front back : List Place) → Represents N.node (N.table (links_in marking.old)) (root_in E.kept tree.old) (front ++ place ∷ back)
         → TellsEnds (E.kept (head_of tree.old)) (front ++ place ∷ back) → TellsEnds (E.kept (head_of tree.new)) (front ++ back) }
-    ensures quiet { QuietlyMarks N.Quiet N.node N.table M.sums M.Covers F.inside marking.old marking.new }
+    ensures keeps_links { MarksOnly N.KeepsLinks N.node N.table M.sums M.Covers F.inside marking.old marking.new }
     ensures adapter { adapter_of tree.new ≡ adapter_of tree.old }
 {
     tree.unlink(marking, place);
@@ -223,7 +222,7 @@ fn unlink_inside<F: Fence, A, E: TreeHead, N: Nodes, M: Sums>(
 
 // Takes the member out, as `RBTree::unlink` does, and tells the edge: above the stale summaries, with one that is as it was and may be wrong.
 // What no place inside the fence leads to stays the same.
-pub(crate) fn unlink_marking<F: Fence, A, E: TreeHead, N: Nodes, M: Sums>(
+pub(crate) fn unlink_marking<F: Fence, A, E: TreeHead, N: NodeStore, M: Sums>(
     tree: &mut RBTree<A, E>,
     summed: &mut Summed<N, M>,
     place: Place,
@@ -231,13 +230,13 @@ pub(crate) fn unlink_marking<F: Fence, A, E: TreeHead, N: Nodes, M: Sums>(
     requires closed { IsClosed N.node (N.table (links_of summed.old)) (root_in E.kept tree.old) F.inside }
     requires inside { F.inside place ≡ true }
     ensures taken { TakesAway N.node (N.table (links_of summed.old)) (N.table (links_of summed.new)) (root_in E.kept tree.old) (root_in E.kept tree.new) place }
-    ensures ends { (front back : List Place) → Shows N.node (N.table (links_of summed.old)) (root_in E.kept tree.old) (front ++ place ∷ back)
+    ensures ends { (front back : List Place) → Represents N.node (N.table (links_of summed.old)) (root_in E.kept tree.old) (front ++ place ∷ back)
         → TellsEnds (E.kept (head_of tree.old)) (front ++ place ∷ back) → TellsEnds (E.kept (head_of tree.new)) (front ++ back) }
     ensures linked { KeepsNodes N.node (N.table (links_of summed.old)) (N.table (links_of summed.new)) }
-    ensures quiet { N.Quiet (links_of summed.old) (links_of summed.new) }
+    ensures keeps_links { N.KeepsLinks (links_of summed.old) (links_of summed.new) }
     ensures consistent { (s : List Place) → IsConsistent N.node (N.table (links_of summed.old)) (M.sums (sums_of summed.old)) s
         → IsConsistentBut N.node (N.table (links_of summed.new)) (M.sums (sums_of summed.new)) s result }
-    ensures marks { MarksAlone (M.sums (sums_of summed.old)) (M.sums (sums_of summed.new)) }
+    ensures marks { WritesNoSummary (M.sums (sums_of summed.old)) (M.sums (sums_of summed.new)) }
     ensures inside { IsIn F.inside result }
     ensures beside { IsWrittenIn (M.sums (sums_of summed.old)) F.inside → IsSameBeside (M.sums (sums_of summed.old)) (M.sums (sums_of summed.new)) F.inside }
     ensures join { (M.sums (sums_of summed.new)).join ≡ (M.sums (sums_of summed.old)).join }

@@ -2,22 +2,19 @@
 //!
 //! ```text
 //! let first = first_overlap(&tree, &summed, &summed.links, 5, 8)?; // the first that overlaps [5, 8)
-//! let next = next_overlap(&summed, &summed.links, first, 5, 8); // and the one behind it
+//! let next = next_overlap(&summed, &summed.links, first, 5, 8); // and the one after it
 //! ```
 
 ghost use Rattle.std.specs.Prelude.{◌≡◌, ◌≤◌, Option, None, Some, List, ◌∷◌, ◌++◌, filter, length, map};
 ghost use Rattle.std.specs.Ordering.{nat_cmp};
-ghost use Rattle.ic_unsafe_ref.specs.declared.place.Place.{Place};
+ghost use Rattle.ic_link_ops.specs.Prelude.{Place, first, Table, ArePlaced};
 ghost use Rattle.ic_link_ops.specs.Frames.{Frame, plug, after};
-ghost use Rattle.ic_link_ops.specs.PlacedObjects.{ArePlaced};
-ghost use Rattle.ic_link_ops.specs.RedBlackTree.{IsTree, Shows};
-ghost use Rattle.ic_link_ops.specs.Sequences.{first};
-ghost use Rattle.ic_link_ops.specs.Tables.{Table};
+ghost use Rattle.ic_link_ops.specs.RedBlackTree.{IsTree, Represents};
 ghost use Rattle.ic_link_ops.specs.Trees.{Tree, top, in_order};
 ghost use Rattle.ic_rbtree.specs.Borders.{IsSorted};
 ghost use Rattle.ic_rbtree.specs.Height.{height};
 ghost use Rattle.ic_rbtree.specs.Tree.{root_in};
-ghost use Rattle.ic_augmented.specs.Consistent.{ShowsSummed};
+ghost use Rattle.ic_augmented.specs.Consistent.{RepresentsSummed};
 ghost use Rattle.ic_augmented.specs.Greatest.{greatest, number_at};
 ghost use Rattle.ic_augmented.specs.Intervals.{start_in, overlaps};
 ghost use Rattle.ic_augmented.specs.Subtrees.{IsSubtree};
@@ -27,12 +24,12 @@ ghost use Rattle.ic_augmented.specs.Sums.{IsSummed};
 use crate::greatest::Greatest;
 use crate::ranks::is_at;
 use crate::summed::Summed;
-use ic_rbtree::{Nodes, RBTree, TreeHead};
+use ic_rbtree::{NodeStore, RBTree, TreeHead};
 use ic_unsafe_ref::{Place, Values};
 use std::alloc::Allocator;
 
 // The first interval of the subtree at a place that overlaps `[from, to)`.
-fn first_overlap_below<N: Nodes, O: Values<u64>, A: Allocator>(
+fn first_overlap_below<N: NodeStore, O: Values<u64>, A: Allocator>(
     links: &N,
     ends: &Greatest<A>,
     starts: &O,
@@ -64,21 +61,21 @@ fn first_overlap_below<N: Nodes, O: Values<u64>, A: Allocator>(
     first_overlap_below(links, ends, starts, right, from, to, turns - 1)
 }
 
-/// The first member whose interval overlaps `[from, to)`: it starts before `to`, and ends behind `from`.
+/// The first member whose interval overlaps `[from, to)`: it starts before `to`, and ends after `from`.
 ///
 /// The end of each interval is the number at its place in the summaries, and its start the number that `starts` has for it, by which the tree is
-/// in order. It requires that the links show a
+/// in order. It requires that the links represent a
 /// tree with a start at each member. It finds none where no member overlaps. O(log n).
-pub fn first_overlap<T, E: TreeHead, N: Nodes, O: Values<u64>, A: Allocator>(
+pub fn first_overlap<T, E: TreeHead, N: NodeStore, O: Values<u64>, A: Allocator>(
     tree: &RBTree<T, E>,
     summed: &Summed<N, Greatest<A>>,
     starts: &O,
     from: u64,
     to: u64,
 ) -> Option<Place>
-    requires { (s : List Place) × Shows N.node (N.table (links_of summed.now)) (root_in E.kept tree.now) s × ArePlaced (O.values starts.now) s }
+    requires { (s : List Place) × Represents N.node (N.table (links_of summed.now)) (root_in E.kept tree.now) s × ArePlaced (O.values starts.now) s }
     ensures { (s : List Place)
-        → ShowsSummed N.node (greatest (sums_of summed.now)) (N.table (links_of summed.now)) (root_in E.kept tree.now) s
+        → RepresentsSummed N.node (greatest (sums_of summed.now)) (N.table (links_of summed.now)) (root_in E.kept tree.now) s
         → IsSorted nat_cmp (map (start_in (O.values starts.now)) s)
         → result ≡ first (filter (overlaps (start_in (O.values starts.now)) (number_at (sums_of summed.now)) from to) s) }
 {
@@ -93,8 +90,8 @@ pub fn first_overlap<T, E: TreeHead, N: Nodes, O: Values<u64>, A: Allocator>(
     )
 }
 
-// The first interval behind the subtree at a place that overlaps `[from, to)`.
-fn first_overlap_behind<N: Nodes, O: Values<u64>, A: Allocator>(
+// The first interval after the subtree at a place that overlaps `[from, to)`.
+fn first_overlap_after<N: NodeStore, O: Values<u64>, A: Allocator>(
     links: &N,
     ends: &Greatest<A>,
     starts: &O,
@@ -114,7 +111,7 @@ fn first_overlap_behind<N: Nodes, O: Values<u64>, A: Allocator>(
     let above = links.parent(place)?;
     let right = links.right(above);
     if is_at(right, place) {
-        return first_overlap_behind(links, ends, starts, above, from, to, turns - 1);
+        return first_overlap_after(links, ends, starts, above, from, to, turns - 1);
     }
     if to <= *starts.value(above) {
         return None;
@@ -125,14 +122,14 @@ fn first_overlap_behind<N: Nodes, O: Values<u64>, A: Allocator>(
     if from < ends.total(right) {
         return first_overlap_below(links, ends, starts, right, from, to, 67);
     }
-    first_overlap_behind(links, ends, starts, above, from, to, turns - 1)
+    first_overlap_after(links, ends, starts, above, from, to, turns - 1)
 }
 
-/// The first member behind the one at `place` whose interval overlaps `[from, to)`.
+/// The first member after the one at `place` whose interval overlaps `[from, to)`.
 ///
-/// It requires that the place is that of a member of a tree, whichever, that is in the order of starts and has one at each member. It finds none where no
-/// member behind overlaps. So `first_overlap`, and then this until it finds none, give all that overlap, in order. O(log n).
-pub fn next_overlap<N: Nodes, O: Values<u64>, A: Allocator>(
+/// It requires that the place is that of a member of a tree, whichever, that is in the order of starts and has one at each member. It finds none
+/// where no member after overlaps. So `first_overlap`, and then this until it finds none, give all that overlap, in order. O(log n).
+pub fn next_overlap<N: NodeStore, O: Values<u64>, A: Allocator>(
     summed: &Summed<N, Greatest<A>>,
     starts: &O,
     place: Place,
@@ -140,9 +137,9 @@ pub fn next_overlap<N: Nodes, O: Values<u64>, A: Allocator>(
     to: u64,
 ) -> Option<Place>
     requires { (root : Option Place) × (front back : List Place)
-        × Shows N.node (N.table (links_of summed.now)) root (front ++ place ∷ back) × ArePlaced (O.values starts.now) (front ++ place ∷ back) }
+        × Represents N.node (N.table (links_of summed.now)) root (front ++ place ∷ back) × ArePlaced (O.values starts.now) (front ++ place ∷ back) }
     ensures { (root : Option Place) (front back : List Place)
-        → ShowsSummed N.node (greatest (sums_of summed.now)) (N.table (links_of summed.now)) root (front ++ place ∷ back)
+        → RepresentsSummed N.node (greatest (sums_of summed.now)) (N.table (links_of summed.now)) root (front ++ place ∷ back)
         → IsSorted nat_cmp (map (start_in (O.values starts.now)) (front ++ place ∷ back))
         → result ≡ first (filter (overlaps (start_in (O.values starts.now)) (number_at (sums_of summed.now)) from to) back) }
 {
@@ -151,5 +148,5 @@ pub fn next_overlap<N: Nodes, O: Values<u64>, A: Allocator>(
     if from < summed.sums.total(right) {
         return first_overlap_below(links, &summed.sums, starts, right, from, to, 67);
     }
-    first_overlap_behind(links, &summed.sums, starts, place, from, to, 67)
+    first_overlap_after(links, &summed.sums, starts, place, from, to, 67)
 }

@@ -3,7 +3,7 @@
 //! ```text
 //! let object = pool.place(value)?; // `pool.links` are `Summed`, with room for its link and its summary
 //! set_value(&mut pool.links, object.place(), 5);
-//! tree.insert(&mut pool.links, &pool.objects, object)?; // behind the members whose keys are not greater
+//! tree.insert(&mut pool.links, &pool.objects, object)?; // after the members whose keys are not greater
 //! ```
 
 ghost use Rattle.ic_augmented.specs.Summed.{links_of, sums_of};

@@ -2,17 +2,15 @@
 //!
 //! ```text
 //! nth(&tree, &summed, len(&tree, &summed) / 2) // the median
-//! index_of(&summed, place) // how many stand in front of it
+//! index_of(&summed, place) // how many stand before it
 //! ```
 
 ghost use Rattle.std.specs.Prelude.{◌≡◌, ◌≤◌, Option, Some, None, List, ◌∷◌, ◌++◌, length};
 ghost use Rattle.std.specs.List.{slice_get};
-ghost use Rattle.ic_unsafe_ref.specs.declared.place.Place.{Place};
+ghost use Rattle.ic_link_ops.specs.Prelude.{Place, Table, HasMember};
 ghost use Rattle.ic_link_ops.specs.Frames.{Frame, plug, before};
-ghost use Rattle.ic_link_ops.specs.Positions.{HasMember};
-ghost use Rattle.ic_link_ops.specs.RedBlackTree.{IsTree, Shows};
+ghost use Rattle.ic_link_ops.specs.RedBlackTree.{IsTree, Represents};
 ghost use Rattle.ic_link_ops.specs.Trees.{Tree, top, in_order};
-ghost use Rattle.ic_link_ops.specs.Tables.{Table};
 ghost use Rattle.ic_link_ops.specs.Walk.{is_end};
 ghost use Rattle.ic_rbtree.specs.Height.{height};
 ghost use Rattle.ic_rbtree.specs.Tree.{root_in};
@@ -20,29 +18,29 @@ ghost use Rattle.ic_augmented.specs.Counts.{counts};
 ghost use Rattle.ic_augmented.specs.Sums.{IsSummed};
 ghost use Rattle.ic_augmented.specs.Subtrees.{IsSubtree};
 ghost use Rattle.ic_augmented.specs.Summed.{links_of, sums_of};
-ghost use Rattle.ic_augmented.specs.Consistent.{ShowsSummed};
+ghost use Rattle.ic_augmented.specs.Consistent.{RepresentsSummed};
 
 use crate::counts::Counts;
 use crate::summed::Summed;
-use ic_rbtree::{Nodes, RBTree, TreeHead};
+use ic_rbtree::{NodeStore, RBTree, TreeHead};
 use ic_unsafe_ref::Place;
 use std::alloc::Allocator;
 
 /// How many members the tree has. O(1).
 #[inline]
-pub fn len<T, E: TreeHead, N: Nodes, A: Allocator>(
+pub fn len<T, E: TreeHead, N: NodeStore, A: Allocator>(
     tree: &RBTree<T, E>,
     summed: &Summed<N, Counts<A>>,
 ) -> u64
     ensures { (s : List Place)
-        → ShowsSummed N.node (counts (sums_of summed.now)) (N.table (links_of summed.now)) (root_in E.kept tree.now) s
+        → RepresentsSummed N.node (counts (sums_of summed.now)) (N.table (links_of summed.now)) (root_in E.kept tree.now) s
         → result ≡ length s }
 {
     summed.sums.total(tree.root())
 }
 
 // The member at a position of the subtree at a place.
-fn nth_below<N: Nodes, A: Allocator>(
+fn nth_below<N: NodeStore, A: Allocator>(
     links: &N,
     sums: &Counts<A>,
     place: Option<Place>,
@@ -71,14 +69,14 @@ fn nth_below<N: Nodes, A: Allocator>(
 }
 
 /// The member at a position, counted from 0, `None` from the tree's length on. O(log n).
-pub fn nth<T, E: TreeHead, N: Nodes, A: Allocator>(
+pub fn nth<T, E: TreeHead, N: NodeStore, A: Allocator>(
     tree: &RBTree<T, E>,
     summed: &Summed<N, Counts<A>>,
     position: u64,
 ) -> Option<Place>
-    requires { (s : List Place) × ShowsSummed N.node (counts (sums_of summed.now)) (N.table (links_of summed.now)) (root_in E.kept tree.now) s }
+    requires { (s : List Place) × RepresentsSummed N.node (counts (sums_of summed.now)) (N.table (links_of summed.now)) (root_in E.kept tree.now) s }
     ensures { (s : List Place)
-        → ShowsSummed N.node (counts (sums_of summed.now)) (N.table (links_of summed.now)) (root_in E.kept tree.now) s
+        → RepresentsSummed N.node (counts (sums_of summed.now)) (N.table (links_of summed.now)) (root_in E.kept tree.now) s
         → result ≡ slice_get s position }
 {
     nth_below(&summed.links, &summed.sums, tree.root(), position, 67)
@@ -95,8 +93,8 @@ pub(crate) fn is_at(end: Option<Place>, place: Place) -> bool
     }
 }
 
-// How many members stand in front of the subtree at a place.
-fn count_before<N: Nodes, A: Allocator>(
+// How many members stand before the subtree at a place.
+fn count_before<N: NodeStore, A: Allocator>(
     links: &N,
     sums: &Counts<A>,
     place: Place,
@@ -120,13 +118,13 @@ fn count_before<N: Nodes, A: Allocator>(
     before.saturating_add(beside).saturating_add(1)
 }
 
-/// The position of the member at `place`: how many members stand in front of it.
+/// The position of the member at `place`: how many members stand before it.
 ///
 /// It requires that the place is that of a member of a tree, whichever, and tells its position if the tree is summed. O(log n).
-pub fn index_of<N: Nodes, A: Allocator>(summed: &Summed<N, Counts<A>>, place: Place) -> u64
-    requires { (root : Option Place) × HasMember (Shows N.node (N.table (links_of summed.now)) root) place }
+pub fn index_of<N: NodeStore, A: Allocator>(summed: &Summed<N, Counts<A>>, place: Place) -> u64
+    requires { (root : Option Place) × HasMember (Represents N.node (N.table (links_of summed.now)) root) place }
     ensures { (root : Option Place) (front back : List Place)
-        → ShowsSummed N.node (counts (sums_of summed.now)) (N.table (links_of summed.now)) root (front ++ place ∷ back)
+        → RepresentsSummed N.node (counts (sums_of summed.now)) (N.table (links_of summed.now)) root (front ++ place ∷ back)
         → result ≡ length front }
 {
     let before = count_before(&summed.links, &summed.sums, place, 67);

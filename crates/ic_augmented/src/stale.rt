@@ -7,11 +7,10 @@
 //! ```
 
 ghost use Rattle.std.specs.Prelude.{◌≡◌, ◌<◌, ◌⊎◌, suc, Bool, true, Option, Some, None, List, length};
-ghost use Rattle.ic_unsafe_ref.specs.declared.place.Place.{Place};
+ghost use Rattle.ic_link_ops.specs.Prelude.{Place, Table};
 ghost use Rattle.ic_link_ops.specs.Frames.{Frame, plug};
 ghost use Rattle.ic_link_ops.specs.RedBlackTree.{IsTree};
 ghost use Rattle.ic_link_ops.specs.Trees.{Tree, top};
-ghost use Rattle.ic_link_ops.specs.Tables.{Table};
 ghost use Rattle.ic_link_ops.specs.Times.{times};
 ghost use Rattle.ic_rbtree.specs.Closed.{IsNode};
 ghost use Rattle.ic_augmented.specs.Beside.{IsWrittenIn, IsSameBeside, StaysInside};
@@ -21,12 +20,12 @@ ghost use Rattle.ic_augmented.specs.Sums.{seen, IsSummed};
 
 use crate::ranks::is_at;
 use crate::sums::{RenewSums, Sums};
-use ic_rbtree::Nodes;
+use ic_rbtree::NodeStore;
 use ic_unsafe_ref::Place;
 
 // Makes the summary of a place stale, and all that were made of it: those above, up to one that is stale.
 #[inline]
-pub(crate) fn invalidate_up<N: Nodes, M: Sums>(_links: &N, sums: &mut M, place: Place)
+pub(crate) fn invalidate_up<N: NodeStore, M: Sums>(_links: &N, sums: &mut M, place: Place)
     ensures stale { (M.sums sums.new).fresh place ≡ None }
     ensures covers { (q : Place) → M.Covers sums.old q → M.Covers sums.new q }
     ensures closed { (s : List Place) → IsConsistentBut N.node (N.table _links.now) (M.sums sums.old) s (Some place)
@@ -48,7 +47,7 @@ pub(crate) fn invalidate_up<N: Nodes, M: Sums>(_links: &N, sums: &mut M, place: 
 // Makes the summaries from `edge` up to a place stale, so that no other than that of the place may be wrong. Few writes of a child come
 // here, so their code has a call alone.
 #[inline(never)]
-fn invalidate_up_to<N: Nodes, M: Sums>(_links: &N, sums: &mut M, edge: Place, place: Place)
+fn invalidate_up_to<N: NodeStore, M: Sums>(_links: &N, sums: &mut M, edge: Place, place: Place)
     ensures covers { (q : Place) → M.Covers sums.old q → M.Covers sums.new q }
     ensures edge { KeepsEdge N.node (N.table _links.now) (N.table _links.now) (M.sums sums.old) (M.sums sums.new) (Some edge) (Some place) }
     ensures beside { (inside : Place → Bool) → IsWrittenIn (M.sums sums.old) inside → inside edge ≡ true
@@ -69,7 +68,7 @@ fn invalidate_up_to<N: Nodes, M: Sums>(_links: &N, sums: &mut M, edge: Place, pl
 
 // Makes a place ready for the write of a child: its summary is stale, or the place is the edge, and those from the old edge up to it are stale.
 #[inline]
-pub(crate) fn invalidate_from<N: Nodes, M: Sums>(
+pub(crate) fn invalidate_from<N: NodeStore, M: Sums>(
     links: &N,
     sums: &mut M,
     edge: Option<Place>,
@@ -96,7 +95,7 @@ pub(crate) fn invalidate_from<N: Nodes, M: Sums>(
 // Writes the stale summaries at an end and below it, and tells the one at the end. It goes down where they are stale alone.
 #[inline(always)]
 #[cycle(refresh)]
-pub(crate) fn refresh_below<N: Nodes, M: RenewSums>(
+pub(crate) fn refresh_below<N: NodeStore, M: RenewSums>(
     links: &N,
     sums: &mut M,
     place: Option<Place>,
@@ -119,7 +118,7 @@ pub(crate) fn refresh_below<N: Nodes, M: RenewSums>(
 
 // Writes the summary of a place, and the stale ones below it.
 #[cycle(refresh)]
-fn refresh_at<N: Nodes, M: RenewSums>(
+fn refresh_at<N: NodeStore, M: RenewSums>(
     links: &N,
     sums: &mut M,
     here: Place,
@@ -142,7 +141,7 @@ fn refresh_at<N: Nodes, M: RenewSums>(
 // Writes the summary of a place, after the stale ones below it. The climb has it in its own loop, without a call.
 #[inline(always)]
 #[cycle(refresh)]
-pub(crate) fn renew<N: Nodes, M: RenewSums>(
+pub(crate) fn renew<N: NodeStore, M: RenewSums>(
     links: &N,
     sums: &mut M,
     here: Place,
@@ -164,7 +163,7 @@ pub(crate) fn renew<N: Nodes, M: RenewSums>(
 }
 
 // Writes the summaries of a place and of all above it, and the stale ones below those.
-pub(crate) fn refresh_path<N: Nodes, M: RenewSums>(
+pub(crate) fn refresh_path<N: NodeStore, M: RenewSums>(
     links: &N,
     sums: &mut M,
     place: Place,

@@ -6,10 +6,8 @@
 //! ```
 
 ghost use Rattle.std.specs.Prelude.{◌≡◌, ◌≢◌, ◌<◌, ◌≤◌, ◌↔◌, ⊤, Err, OnOk, OnErr, IsOk, IsTrue, IfSome, max, Option, Some, List};
-ghost use Rattle.ic_unsafe_ref.specs.declared.place.Place.{Place};
-ghost use Rattle.ic_unsafe_ref.specs.Places.{index_of};
+ghost use Rattle.ic_link_ops.specs.Prelude.{Place, index_of, IsAbsent};
 ghost use Rattle.ic_link_ops.specs.declared.errors.CoverError.TheVariants as CoverError;
-ghost use Rattle.ic_link_ops.specs.Sequences.{IsAbsent};
 ghost use Rattle.ic_link_ops.specs.Times.{times_in};
 ghost use Rattle.ic_augmented.specs.Beside.{IsWrittenWithin};
 ghost use Rattle.ic_augmented.specs.Changes.{Rejoins};
@@ -22,7 +20,7 @@ use crate::stale::invalidate_up;
 use crate::summed::Summed;
 use crate::sums::{RenewSums, Sums};
 use ic_link_ops::{CoverError, PlaceWord};
-use ic_rbtree::Nodes;
+use ic_rbtree::NodeStore;
 use ic_unsafe_ref::Place;
 use std::alloc::{AllocError, Allocator, Global};
 
@@ -263,7 +261,7 @@ impl<V: Joins<S>, S: Copy + Drop, A: Allocator> RenewSums for SumTable<V, S, A> 
 ///
 /// It requires that there is room for the place. Each fresh summary stays right, of every tree in the table, and stays fresh outside the tree of
 /// the place, where that tree's summaries were written below its own members, as they are in a tree that is summed. O(log n).
-pub fn set_value<N: Nodes, V: Joins<S>, S: Copy + Drop, A: Allocator>(
+pub fn set_value<N: NodeStore, V: Joins<S>, S: Copy + Drop, A: Allocator>(
     summed: &mut Summed<N, SumTable<V, S, A>>,
     place: Place,
     value: V,

@@ -25,7 +25,7 @@ impl<L: RBTreeOps, M: Sums> LinkOps for Summed<L, M> {
     ghost use Rattle.std.specs.Prelude.{◌≡◌, [], ◌++◌};
     ghost use Rattle.ic_augmented.specs.MarkLaws.{marks_still, marks_on};
     ghost use Rattle.ic_augmented.specs.StepLaws.{right_still, right_on};
-    ghost use Rattle.ic_augmented.specs.SummedSteps.{DoesSummed};
+    ghost use Rattle.ic_augmented.specs.SummedSteps.{TraceSummed};
     ghost use Rattle.std.proofs.Common.{refl, ap, ◌∙◌};
 
     type Entry = L::Entry;
@@ -36,7 +36,7 @@ impl<L: RBTreeOps, M: Sums> LinkOps for Summed<L, M> {
 
     ghost CanName = { L.CanName };
 
-    ghost Does = { DoesSummed L.Does L.node L.table M.sums M.Covers };
+    ghost Trace = { TraceSummed L.Trace L.node L.table M.sums M.Covers };
 
     ghost Refused = { λ old new place. L.Refused (links_of old) (links_of new) place × (sums_of new ≡ sums_of old) };
 

@@ -1,17 +1,14 @@
--- What a position keeps of the place behind it: how it comes to be right, and what it tells.
+-- What a position keeps of the place after it: how it comes to be right, and what it tells.
 use Rattle.std.proofs.Common.{◌≡◌, ◌∙◌, sym, ap, refl, subst, Bool, true, Option, Some, None, List, [], ◌∷◌, ◌++◌, append_assoc, drop}
 use Rattle.std.specs.Option.{option_or}
-use Rattle.ic_unsafe_ref.specs.declared.place.Place.{Place}
-use Rattle.ic_link_ops.specs.Sequences.{Cut, join, at_front, first, last, IsAfter, IsBefore}
-use Rattle.ic_link_ops.specs.Tables.{Table}
-use Rattle.ic_link_ops.specs.Positions.{site, Stands}
+use Rattle.ic_link_ops.specs.Prelude.{Place, Cut, join, at_front, first, last, IsAfter, IsBefore, Table, site, IsValidCursor}
 use Rattle.ic_link_ops.proofs.Chains.{chain_one}
-use Rattle.ic_link_ops.proofs.ShownLists.{shows_middle, shows_frame, free_absent}
+use Rattle.ic_link_ops.proofs.RepresentedLists.{represents_middle, represents_frame, free_absent}
 use Rattle.ic_link_ops.proofs.SequenceLemmas.{same_gap, first_is, last_of_push, none_not}
-use Rattle.ic_link_ops.specs.Chains.{ListHead, empty_list, ShowsChain}
+use Rattle.ic_link_ops.specs.Chains.{ListHead, empty_list, RepresentsChain}
 use Rattle.ic_link_ops.proofs.CollectionLaws.{IsKind}
 use Rattle.ic_chain.specs.Walk.{WalkEnds}
-use Rattle.ic_chain.specs.Standing.{StandsAt}
+use Rattle.ic_chain.specs.Standing.{IsValidAt}
 
 -- the first of two parts
 pub first_of_both : (s t : List Place) → option_or (first s) (first t) ≡ first (s ++ t)
@@ -28,82 +25,82 @@ last_kept kept kept_last closed law {tail} {last} is =
 module _ {E W : Type 0} {between : E → Option Place → Option Place → Type 0} {kept : Option Place → W} {step : E → Option Place → Option Place}
     (leads : (e : E) (b a : Option Place) → between e b a → step e b ≡ a) where
   -- ONE SEQUENCE IS SHOWN for a list, not two
-  pub one_shown : {t : Table E} {list : ListHead W} {s r : List Place} → ShowsChain between kept t list s → ShowsChain between kept t list r → s ≡ r
-  one_shown {t} {list} {s} {r} h k =
+  pub one_represented : {t : Table E} {list : ListHead W} {s r : List Place} → RepresentsChain between kept t list s → RepresentsChain between kept t list r → s ≡ r
+  one_represented {t} {list} {s} {r} h k =
       chain_one between (λ e a b c f g. sym (leads e a b f) ∙ leads e a c g) t.entry None s r (sym h.head ∙ k.head) h.chain k.chain
 
-  -- what an entry tells of the place behind its own
-  pub next_is : {t : Table E} {list : ListHead W} (front back : List Place) {p : Place} {prev next : Option Place} → ShowsChain between kept t list (front ++ p ∷ back)
+  -- what an entry tells of the place after its own
+  pub next_is : {t : Table E} {list : ListHead W} (front back : List Place) {p : Place} {prev next : Option Place} → RepresentsChain between kept t list (front ++ p ∷ back)
       → prev ≡ last front → next ≡ step (t.entry p) prev → next ≡ first back
-  next_is {t} front back {p} shown is_prev is = is ∙ ap (step (t.entry p)) is_prev ∙ leads _ _ _ (shows_middle front back shown)
+  next_is {t} front back {p} shown is_prev is = is ∙ ap (step (t.entry p)) is_prev ∙ leads _ _ _ (represents_middle front back shown)
 
-  -- what stands behind a position, on a member that is told apart
-  pub behind_on : {t : Table E} {list : ListHead W} {current behind : Option Place} → ((gap : Cut) → ShowsChain between kept t list (join gap) → IsAfter gap current → IsBefore gap behind)
-      → (front back : List Place) (p : Place) → ShowsChain between kept t list (front ++ p ∷ back) → current ≡ Some p → behind ≡ first back
-  behind_on says front back p shown on =
+  -- what stands after a position, on a member that is told apart
+  pub after_on : {t : Table E} {list : ListHead W} {current behind : Option Place} → ((gap : Cut) → RepresentsChain between kept t list (join gap) → IsAfter gap current → IsBefore gap behind)
+      → (front back : List Place) (p : Place) → RepresentsChain between kept t list (front ++ p ∷ back) → current ≡ Some p → behind ≡ first back
+  after_on says front back p shown on =
       says (record { front = front ++ p ∷ []; back = back }) (rw (append_assoc front (p ∷ []) back) shown) (on ∙ sym (last_of_push front p))
 
   module _ {L P : Type 0} {table : L → Table E} {member : P → Option Place} {CachesNext : P → Option Place → Type 0} where
     -- WHAT A POSITION KEEPS, at whatever gap after it
-    pub cached_behind : {links : L} {list : ListHead W} {at : P} → StandsAt (ShowsChain between kept) table member CachesNext links list at → (gap : Cut)
-        → ShowsChain between kept (table links) list (join gap) → IsAfter gap (member at) → (q : Place) → member at ≡ Some q → CachesNext at (first gap.back)
-    cached_behind {at = at'} k gap shown after q on =
-        let same = (same_gap k.gap gap k.shown.distinct (one_shown k.shown shown) (sym k.after ∙ after)).1 in
+    pub cached_after : {links : L} {list : ListHead W} {at : P} → IsValidAt (RepresentsChain between kept) table member CachesNext links list at → (gap : Cut)
+        → RepresentsChain between kept (table links) list (join gap) → IsAfter gap (member at) → (q : Place) → member at ≡ Some q → CachesNext at (first gap.back)
+    cached_after {at = at'} k gap shown after q on =
+        let same = (same_gap k.gap gap k.shown.distinct (one_represented k.shown shown) (sym k.after ∙ after)).1 in
         subst (λ (s : List Place). CachesNext at' (first s)) same (k.caches q on)
 
     -- and on a member that is told apart
-    pub cached_on : {links : L} {list : ListHead W} {at : P} → StandsAt (ShowsChain between kept) table member CachesNext links list at → (front back : List Place) (q : Place)
-        → ShowsChain between kept (table links) list (front ++ q ∷ back) → member at ≡ Some q → CachesNext at (first back)
+    pub cached_on : {links : L} {list : ListHead W} {at : P} → IsValidAt (RepresentsChain between kept) table member CachesNext links list at → (front back : List Place) (q : Place)
+        → RepresentsChain between kept (table links) list (front ++ q ∷ back) → member at ≡ Some q → CachesNext at (first back)
     cached_on k front back q shown on =
-        cached_behind k (record { front = front ++ q ∷ []; back = back }) (rw (append_assoc front (q ∷ []) back) shown) (on ∙ sym (last_of_push front q)) q on
+        cached_after k (record { front = front ++ q ∷ []; back = back }) (rw (append_assoc front (q ∷ []) back) shown) (on ∙ sym (last_of_push front q)) q on
 
   -- THE FIVE FACTS of a list of any kind. `law`: what stands between two others is linked
-  pub chain_lists : {linked : E → Bool} → ((e : E) (b a : Option Place) → between e b a → linked e ≡ true) → IsKind (ShowsChain between kept) linked (empty_list kept)
+  pub chain_lists : {linked : E → Bool} → ((e : E) (b a : Option Place) → between e b a → linked e ≡ true) → IsKind (RepresentsChain between kept) linked (empty_list kept)
   chain_lists law = record {
-    frame = λ old new list s touched shown apart same. shows_frame touched shown apart same;
+    frame = λ old new list s touched shown apart same. represents_frame touched shown apart same;
     free = λ t list s p shown off. free_absent law shown off;
     distinct = λ t list s shown. shown.distinct;
     nothing = λ t. record { distinct = tt; chain = tt; head = refl; tail = refl };
-    one = λ t list s u shown other. one_shown shown other;
+    one = λ t list s u shown other. one_represented shown other;
   }
 
-module _ {L E H P : Type 0} {Shows : Table E → H → List Place → Type 0} {table : L → Table E} {member : P → Option Place} {CachesNext : P → Option Place → Type 0} where
+module _ {L E H P : Type 0} {Represents : Table E → H → List Place → Type 0} {table : L → Table E} {member : P → Option Place} {CachesNext : P → Option Place → Type 0} where
   -- the position is one of the list's
-  pub stands : {links : L} {list : H} {at : P} → StandsAt Shows table member CachesNext links list at → Stands Shows table (site links list (member at))
+  pub stands : {links : L} {list : H} {at : P} → IsValidAt Represents table member CachesNext links list at → IsValidCursor Represents table (site links list (member at))
   stands k = record { gap = k.gap; shown = k.shown; after = k.after }
 
   -- A POSITION STANDS at the gap after it, with what it keeps
-  pub stands_here : {links : L} {list : H} {at : P} {next : Option Place} (gap : Cut) → Shows (table links) list (join gap) → IsAfter gap (member at)
-      → CachesNext at next → next ≡ first gap.back → StandsAt Shows table member CachesNext links list at
+  pub stands_here : {links : L} {list : H} {at : P} {next : Option Place} (gap : Cut) → Represents (table links) list (join gap) → IsAfter gap (member at)
+      → CachesNext at next → next ≡ first gap.back → IsValidAt Represents table member CachesNext links list at
   stands_here {at = at'} gap shown after caches next = record { gap = gap; shown = shown; after = after; caches = λ q on. subst (CachesNext at') next caches }
 
   -- at null, whatever it keeps
-  pub stands_at_null : {links : L} {list : H} {at : P} (s : List Place) → Shows (table links) list s → member at ≡ None → StandsAt Shows table member CachesNext links list at
+  pub stands_at_null : {links : L} {list : H} {at : P} (s : List Place) → Represents (table links) list s → member at ≡ None → IsValidAt Represents table member CachesNext links list at
   stands_at_null s shown null = record { gap = at_front s; shown = shown; after = null; caches = λ q on. absurd (none_not q (sym null ∙ on)) }
 
   -- on a member
-  pub stands_on_member : {links : L} {list : H} {at : P} {next : Option Place} (front back : List Place) (p : Place) → Shows (table links) list (front ++ p ∷ back)
-      → member at ≡ Some p → CachesNext at next → next ≡ first back → StandsAt Shows table member CachesNext links list at
+  pub stands_on_member : {links : L} {list : H} {at : P} {next : Option Place} (front back : List Place) (p : Place) → Represents (table links) list (front ++ p ∷ back)
+      → member at ≡ Some p → CachesNext at next → next ≡ first back → IsValidAt Represents table member CachesNext links list at
   stands_on_member front back p shown on caches next =
       stands_here (record { front = front ++ p ∷ []; back = back }) (rw (append_assoc front (p ∷ []) back) shown) (on ∙ sym (last_of_push front p)) caches next
 
   -- where nothing was done
-  pub stands_still : {old new : L} {list list' : H} {at : P} → StandsAt Shows table member CachesNext old list at → table new ≡ table old → list' ≡ list
-      → StandsAt Shows table member CachesNext new list' at
+  pub stands_still : {old new : L} {list list' : H} {at : P} → IsValidAt Represents table member CachesNext old list at → table new ≡ table old → list' ≡ list
+      → IsValidAt Represents table member CachesNext new list' at
   stands_still k same head = record { gap = k.gap; shown = rw (same, head) k.shown; after = k.after; caches = k.caches }
 
--- AN EDIT IN FRONT OF THE POSITION leaves it as it is
+-- AN EDIT BEFORE THE POSITION leaves it as it is
 module _ {E W L P : Type 0} {between : E → Option Place → Option Place → Type 0} {kept : Option Place → W} {step : E → Option Place → Option Place}
     (leads : (e : E) (b a : Option Place) → between e b a → step e b ≡ a) {table : L → Table E} {member : P → Option Place} {CachesNext : P → Option Place → Type 0}
-    {old new : L} {list list' : ListHead W} {at : P} (k : StandsAt (ShowsChain between kept) table member CachesNext old list at) (gap : Cut)
-    (shown : ShowsChain between kept (table old) list (join gap)) (before : IsBefore gap (member at)) (front : List Place)
-    (now : ShowsChain between kept (table new) list' (front ++ gap.back)) where
-  on_either : (current : Option Place) → member at ≡ current → StandsAt (ShowsChain between kept) table member CachesNext new list' at
+    {old new : L} {list list' : ListHead W} {at : P} (k : IsValidAt (RepresentsChain between kept) table member CachesNext old list at) (gap : Cut)
+    (shown : RepresentsChain between kept (table old) list (join gap)) (before : IsBefore gap (member at)) (front : List Place)
+    (now : RepresentsChain between kept (table new) list' (front ++ gap.back)) where
+  on_either : (current : Option Place) → member at ≡ current → IsValidAt (RepresentsChain between kept) table member CachesNext new list' at
   on_either None null = stands_at_null (front ++ gap.back) now null
   on_either (Some p) on =
       let back = drop 1 gap.back in
       let is = first_is gap.back (sym on ∙ before) in
       stands_on_member front back p (rw is at now) on (cached_on leads k gap.front back p (rw is at shown) on) refl
 
-  pub stays : StandsAt (ShowsChain between kept) table member CachesNext new list' at
+  pub stays : IsValidAt (RepresentsChain between kept) table member CachesNext new list' at
   stays = on_either (member at) refl

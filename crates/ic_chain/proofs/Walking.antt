@@ -4,49 +4,45 @@ use Rattle.std.specs.Option.{option_copied}
 use Rattle.std.specs.List.{cons_option}
 use Rattle.std.specs.Iterator.{MakesProgress, item_count}
 use Rattle.std.proofs.lemmas.List.Elements.{filter_map-append}
-use Rattle.ic_unsafe_ref.specs.declared.place.Place.{Place}
-use Rattle.ic_unsafe_ref.specs.Objects.{Objects, object_at}
-use Rattle.ic_link_ops.specs.Sequences.{first, last}
-use Rattle.ic_link_ops.specs.Tables.{Table, IsCovered}
-use Rattle.ic_link_ops.specs.Chains.{ListHead, IsStretch, ShowsChain}
-use Rattle.ic_link_ops.specs.Turns.{TurnsBehind, TurnsBefore}
+use Rattle.ic_link_ops.specs.Prelude.{Place, Objects, object_at, first, last, Table, IsCovered, ArePlaced, values_at}
+use Rattle.ic_link_ops.specs.Chains.{ListHead, IsStretch, RepresentsChain}
+use Rattle.ic_link_ops.specs.Turns.{TurnsAfter, TurnsBefore}
 use Rattle.ic_link_ops.specs.Walk.{walked, is_end, GivesFirst, GivesLast}
-use Rattle.ic_link_ops.specs.PlacedObjects.{ArePlaced, values_at}
 use Rattle.ic_link_ops.proofs.SequenceLemmas.{none_not, some_same, last_some}
 use Rattle.ic_link_ops.proofs.PlacedEnds.{all_but_last}
 use Rattle.ic_link_ops.proofs.Walks.{is_end_yes, is_end_no, yields_placed, makes_progress, yields_placed_back, makes_progress_back, stretch_empty, stretch_empty_back, stretch_none, stretch_of, stretch_one, stretch_more, stretch_less, stretch_walked, stretch_through}
 use Rattle.ic_chain.specs.declared.iter.Iter.{Iter}
-use Rattle.ic_chain.specs.Walk.{WalkEnds, IsTold}
+use Rattle.ic_chain.specs.Walk.{WalkEnds, KnowsLast}
 use Rattle.ic_chain.specs.Iter.{objects_left, IsLeft, CanWalk}
 
-last_behind : (p : Place) {q : Place} (r : List Place) → Some q ≡ first r → last (p ∷ r) ≡ last r
-last_behind p {q} [] e = absurd (none_not q (sym e))
-last_behind p (x ∷ r) e = refl
+last_after : (p : Place) {q : Place} (r : List Place) → Some q ≡ first r → last (p ∷ r) ≡ last r
+last_after p {q} [] e = absurd (none_not q (sym e))
+last_after p (x ∷ r) e = refl
 
 -- WHAT IS TOLD of a last member: a place is it,
-pub told_some : (keeps : Bool) (behind : Option Place) {p : Place} {last : Option Place} → IsTold keeps (Some p) behind last → Some p ≡ last
+pub told_some : (keeps : Bool) (behind : Option Place) {p : Place} {last : Option Place} → KnowsLast keeps (Some p) behind last → Some p ≡ last
 told_some keeps behind (inl e) = e
 told_some true behind (inr e) = e
 told_some false behind {p} (inr e) = absurd (none_not p (sym e.0))
 
--- and where none is told of a list that has one, the kind keeps none, and nothing is to stand behind
-pub told_none : (keeps : Bool) (behind : Option Place) (x : Place) (t : List Place) → IsTold keeps None behind (last (x ∷ t)) → (keeps ≡ false) × (behind ≡ None)
+-- and where none is told of a list that has one, the kind keeps none, and nothing is to stand after
+pub told_none : (keeps : Bool) (behind : Option Place) (x : Place) (t : List Place) → KnowsLast keeps None behind (last (x ∷ t)) → (keeps ≡ false) × (behind ≡ None)
 told_none keeps behind x t (inl e) = absurd (last_some x t (sym e))
 told_none true behind x t (inr e) = absurd (last_some x t (sym e))
 told_none false behind x t (inr e) = (refl, e.1)
 
--- then nothing is turned: neither in front of what would stand there, nor behind the last member
+-- then nothing is turned: neither before what would stand there, nor after the last member
 pub turned_nowhere : {E : Type 0} {between : E → Option Place → Option Place → Type 0} {old new : Place → E} {at from to to' : Option Place} → at ≡ None
     → TurnsBefore between old new at from to → TurnsBefore between old new at from to'
 turned_nowhere none turns = record { turned = λ q b e h. absurd (none_not q (sym none ∙ e)); others = turns.others }
 
-pub turned_to_none : {E : Type 0} {between : E → Option Place → Option Place → Type 0} {t : Place → E} {at to : Option Place} → to ≡ None → TurnsBehind between t t at None to
+pub turned_to_none : {E : Type 0} {between : E → Option Place → Option Place → Type 0} {t : Place → E} {at to : Option Place} → to ≡ None → TurnsAfter between t t at None to
 turned_to_none none = record { turned = λ q a e h. rw none h; others = λ q apart. refl }
 
--- A PART OF A CHAIN behind which nothing stands. `leads`: the law that an entry leads on
+-- A PART OF A CHAIN after which nothing stands. `leads`: the law that an entry leads on
 module _ {E : Type 0} {between : E → Option Place → Option Place → Type 0} {step : E → Option Place → Option Place}
     (leads : (e : E) (b a : Option Place) → between e b a → step e b ≡ a) {t : Place → E} {b : Option Place} {p : Place} where
-  -- it goes on behind its first member,
+  -- it goes on after its first member,
   pub rest_more : {w : List Place} → IsStretch between t b (Some p) (last w) None w
       → (r : List Place) × (w ≡ p ∷ r) × IsStretch between t (Some p) (step (t p) b) (last r) None r
   rest_more {w = []} k = absurd (none_not p (sym k.starts))
@@ -63,7 +59,7 @@ module _ {E : Type 0} {between : E → Option Place → Option Place → Type 0}
   rest_goes_on {q} k e =
       let more = rest_more k in
       let rest : IsStretch between t (Some p) (Some q) (last more.0) None more.0 = rw e at more.2 in
-      (more.0, more.1, rest, ap last more.1 ∙ last_behind p more.0 rest.starts)
+      (more.0, more.1, rest, ap last more.1 ∙ last_after p more.0 rest.starts)
 
   -- and ends there, where nothing does
   pub rest_ends : {w : List Place} → IsStretch between t b (Some p) (last w) None w → step (t p) b ≡ None → Some p ≡ last w
@@ -94,7 +90,7 @@ module _ {E : Type 0} {between : E → Option Place → Option Place → Type 0}
   comes_to_end true end p k e ends = (stretch_one (rw (is_end_yes end p ends) at (at_end refl k e)), refl)
   comes_to_end false end p k e ends = let never : false ≡ true = rw e.0 at ends in absurd (cc)
 
-  -- else it goes on behind that,
+  -- else it goes on after that,
   pub goes_on : (step : E → Option Place → Option Place) → ((e : E) (b a : Option Place) → between e b a → step e b ≡ a) → (keeps : Bool) (end : Option Place) (p : Place)
       {w : List Place} → IsStretch between t b (Some p) (last w) a w → WalkEnds keeps end a (last w) → is_end end p ≡ false
       → (r : List Place) × (w ≡ p ∷ r) × IsStretch between t (Some p) (step (t p) b) (last r) a r × WalkEnds keeps end a (last r)
@@ -111,13 +107,13 @@ walks_over step leads t covered true end k e = stretch_walked step leads t cover
 walks_over step leads t covered false end k e = rw e.0 (stretch_through step leads t covered (rw e.1 at k))
 
 -- THE MEMBERS OF A LIST, as the entries lead through them
-pub members_shown : {E W : Type 0} {between : E → Option Place → Option Place → Type 0} {kept : Option Place → W} (step : E → Option Place → Option Place)
+pub members_represented : {E W : Type 0} {between : E → Option Place → Option Place → Type 0} {kept : Option Place → W} (step : E → Option Place → Option Place)
     → ((e : E) (b a : Option Place) → between e b a → step e b ≡ a) → (t : Table E) → ((q : Place) (b a : Option Place) → between (t.entry q) b a → IsCovered t q)
-    → {list : ListHead W} {s : List Place} → ShowsChain between kept t list s → walked step t None list.head None ≡ s
-members_shown step leads t covered shown = stretch_through step leads t covered (stretch_of shown)
+    → {list : ListHead W} {s : List Place} → RepresentsChain between kept t list s → walked step t None list.head None ≡ s
+members_represented step leads t covered shown = stretch_through step leads t covered (stretch_of shown)
 
 module _ {K T L O E : Type 0} (keeps : Bool) (between : E → Option Place → Option Place → Type 0) (table : L → Table E) (values : O → Objects T) where
-  -- the walk gave out the member at p, and goes on behind it
+  -- the walk gave out the member at p, and goes on after it
   pub record Steps (old new : Iter K T L O) (p : Place) : Type 0 where
     pub members : List Place
     pub walk : IsLeft keeps between table values new members
@@ -180,7 +176,7 @@ module _ {K T L O E : Type 0} (keeps : Bool) (between : E → Option Place → O
           objects = refl;
         }
 
-    -- and from the back, by the neighbor on the other side of what is behind
+    -- and from the back, by the neighbor on the other side of what is after
     pub steps_back_more : (back : E → Option Place → Option Place) → ((e : E) (b a : Option Place) → between e b a → back e a ≡ b) → keeps ≡ true → (t : Iter K T L O) (p : Place) (prev : Option Place)
         → CanWalk keeps between table values t → t.tail ≡ Some p → is_end t.head p ≡ false
         → prev ≡ back ((table t.links.now).entry p) t.behind → StepsBack t (record t { tail = prev; behind = Some p }) p

@@ -1,7 +1,6 @@
 -- What clauses see of a walk that takes the members off.
 use Rattle.std.specs.Prelude.{Option, None, List}
-use Rattle.ic_unsafe_ref.specs.declared.place.Place.{Place}
-use Rattle.ic_link_ops.specs.Tables.{Table}
+use Rattle.ic_link_ops.specs.Prelude.{Place, Table}
 use Rattle.ic_link_ops.specs.Taking.{Taking}
 use Rattle.ic_link_ops.specs.Walk.{walked}
 use Rattle.ic_link_ops.specs.Chains.{ListHead}

@@ -1,12 +1,8 @@
 -- What clauses see of a walk over a list's objects.
 use Rattle.std.specs.Prelude.{Bool, Option, List}
-use Rattle.ic_unsafe_ref.specs.declared.place.Place.{Place}
-use Rattle.ic_unsafe_ref.specs.Objects.{Objects}
-use Rattle.ic_link_ops.specs.Sequences.{last}
-use Rattle.ic_link_ops.specs.Tables.{Table}
+use Rattle.ic_link_ops.specs.Prelude.{Place, Objects, last, Table, ArePlaced, values_at}
 use Rattle.ic_link_ops.specs.Chains.{IsStretch}
 use Rattle.ic_link_ops.specs.Walk.{walked}
-use Rattle.ic_link_ops.specs.PlacedObjects.{ArePlaced, values_at}
 use Rattle.ic_chain.specs.Walk.{WalkEnds}
 use Rattle.ic_chain.specs.declared.iter.Iter.{Iter}
 

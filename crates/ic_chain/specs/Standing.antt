@@ -1,29 +1,27 @@
 -- Where a cursor of a list of any kind stands, and what its position keeps.
 use Rattle.std.specs.Prelude.{◌≡◌, Option, Some, List, ◌∷◌, ◌++◌}
-use Rattle.ic_unsafe_ref.specs.declared.place.Place.{Place}
-use Rattle.ic_link_ops.specs.Sequences.{Cut, join, first, last, IsAfter}
-use Rattle.ic_link_ops.specs.Tables.{Table}
+use Rattle.ic_link_ops.specs.Prelude.{Place, Cut, join, first, last, IsAfter, Table}
 
--- p is a member of what is shown, and `prev` stands in front of it, none at the front
-pub record HasMemberBehind (shows : List Place → Type 0) (p : Place) (prev : Option Place) : Type 0 where
+-- p is a member of what is represented, and `prev` stands before it, none at the front
+pub record HasMemberAfter (shows : List Place → Type 0) (p : Place) (prev : Option Place) : Type 0 where
   pub front : List Place
   pub back : List Place
   pub shown : shows (front ++ p ∷ back)
   pub neighbor : prev ≡ last front
 
--- p is a member of what is shown, and `next` stands behind it, none at the back
+-- p is a member of what is represented, and `next` stands after it, none at the back
 pub record HasMemberBefore (shows : List Place → Type 0) (p : Place) (next : Option Place) : Type 0 where
   pub front : List Place
   pub back : List Place
   pub shown : shows (front ++ p ∷ back)
   pub neighbor : next ≡ first back
 
--- `Shows`: which sequence a table shows for a list. `member at`: the member that the position is on, none at null. `CachesNext at q`:
--- what is kept in the position may stand for q behind it
-module _ {L E H P : Type 0} (Shows : Table E → H → List Place → Type 0) (table : L → Table E) (member : P → Option Place) (CachesNext : P → Option Place → Type 0) where
-  -- THE POSITION STANDS: it is one of what the table shows for the list, and on a member it keeps what stands behind
-  pub record StandsAt (links : L) (list : H) (at : P) : Type 0 where
+-- `Represents`: which sequence a table represents for a list. `member at`: the member that the position is on, none at null. `CachesNext at q`:
+-- what is kept in the position may stand for q after it
+module _ {L E H P : Type 0} (Represents : Table E → H → List Place → Type 0) (table : L → Table E) (member : P → Option Place) (CachesNext : P → Option Place → Type 0) where
+  -- THE POSITION STANDS: it is one of what the table represents for the list, and on a member it keeps what stands after
+  pub record IsValidAt (links : L) (list : H) (at : P) : Type 0 where
     pub gap : Cut
-    pub shown : Shows (table links) list (join gap)
+    pub shown : Represents (table links) list (join gap)
     pub after : IsAfter gap (member at)
     pub caches : (q : Place) → member at ≡ Some q → CachesNext at (first gap.back)

@@ -7,6 +7,6 @@ abbrev pub WalkEnds : (keeps_last : Bool) (end behind last : Option Place) → T
 WalkEnds true end behind last = end ≡ last
 WalkEnds false end behind last = (end ≡ None) × (behind ≡ None)
 
--- the last member of a list, behind which `behind` is to stand, is told; or none, where the kind keeps none and nothing is to stand there
-abbrev pub IsTold : (keeps_last : Bool) (told behind last : Option Place) → Type 0
-IsTold keeps_last told behind last = (told ≡ last) ⊎ WalkEnds keeps_last told behind last
+-- the last member of a list, after which `behind` is to stand, is told; or none, where the kind keeps none and nothing is to stand there
+abbrev pub KnowsLast : (keeps_last : Bool) (kept_last behind last : Option Place) → Type 0
+KnowsLast keeps_last kept_last behind last = (kept_last ≡ last) ⊎ WalkEnds keeps_last kept_last behind last

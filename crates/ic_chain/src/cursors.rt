@@ -14,11 +14,9 @@
 //! ```
 
 ghost use Rattle.std.specs.Prelude.{◌≡◌, List, Option, Some, None};
-ghost use Rattle.ic_unsafe_ref.specs.declared.place.Place.{Place};
-ghost use Rattle.ic_link_ops.specs.Sequences.{Cut, join, first, last, IsAfter, IsBefore};
-ghost use Rattle.ic_link_ops.specs.Chains.{ShowsChain, ShowsSomeChain};
-ghost use Rattle.ic_link_ops.specs.Positions.{HasMember};
-ghost use Rattle.ic_chain.specs.Standing.{StandsAt, HasMemberBehind, HasMemberBefore};
+ghost use Rattle.ic_link_ops.specs.Prelude.{Place, Cut, join, first, last, IsAfter, IsBefore, HasMember};
+ghost use Rattle.ic_link_ops.specs.Chains.{RepresentsChain, RepresentsSomeChain};
+ghost use Rattle.ic_chain.specs.Standing.{IsValidAt, HasMemberAfter, HasMemberBefore};
 
 use crate::Chain;
 use crate::kind::{DoubleEnded, ForwardLinks, ListKind, NamesNext, Reversible};
@@ -39,7 +37,7 @@ fn place_of<T>(object: Option<UnsafeRef<T>>) -> Option<Place>
 }
 
 impl<K: ListKind, T> Chain<K, T> {
-    ghost use Rattle.ic_cursors.specs.Cursor.{list_of, links_of, position, IsStanding};
+    ghost use Rattle.ic_cursors.specs.Cursor.{list_of, links_of, position, IsValid};
 
     /// A cursor at null.
     #[inline]
@@ -49,8 +47,8 @@ impl<K: ListKind, T> Chain<K, T> {
         ensures list { list_of result ≡ self.now }
         ensures links { links_of result ≡ links.now }
         ensures null { position K.Position.member result ≡ None }
-        ensures kept { ShowsSomeChain K.Between K.kept (L.table links.now) self.now
-            → IsStanding (StandsAt (ShowsChain K.Between K.kept) L.table K.Position.member K.Position.CachesNext) result }
+        ensures kept { RepresentsSomeChain K.Between K.kept (L.table links.now) self.now
+            → IsValid (IsValidAt (RepresentsChain K.Between K.kept) L.table K.Position.member K.Position.CachesNext) result }
     {
         let at: K::Position = ListPosition::null();
         Cursor::new(self, links, at)
@@ -61,12 +59,12 @@ impl<K: ListKind, T> Chain<K, T> {
     pub fn front<'a, L: LinkOps>(&'a self, links: &'a L) -> Cursor<'a, Chain<K, T>, L>
     where
         K: ForwardLinks<L>,
-        requires shown { K.ReadsNext → ShowsSomeChain K.Between K.kept (L.table links.now) self.now }
+        requires shown { K.ReadsNext → RepresentsSomeChain K.Between K.kept (L.table links.now) self.now }
         ensures list { list_of result ≡ self.now }
         ensures links { links_of result ≡ links.now }
-        ensures position { (s : List Place) → ShowsChain K.Between K.kept (L.table links.now) self.now s → position K.Position.member result ≡ first s }
-        ensures kept { ShowsSomeChain K.Between K.kept (L.table links.now) self.now
-            → IsStanding (StandsAt (ShowsChain K.Between K.kept) L.table K.Position.member K.Position.CachesNext) result }
+        ensures position { (s : List Place) → RepresentsChain K.Between K.kept (L.table links.now) self.now s → position K.Position.member result ≡ first s }
+        ensures kept { RepresentsSomeChain K.Between K.kept (L.table links.now) self.now
+            → IsValid (IsValidAt (RepresentsChain K.Between K.kept) L.table K.Position.member K.Position.CachesNext) result }
     {
         let at = self.position_at(links, None, self.first());
         Cursor::new(self, links, at)
@@ -74,7 +72,7 @@ impl<K: ListKind, T> Chain<K, T> {
 }
 
 impl<K: DoubleEnded, T> Chain<K, T> {
-    ghost use Rattle.ic_cursors.specs.Cursor.{list_of, links_of, position, IsStanding};
+    ghost use Rattle.ic_cursors.specs.Cursor.{list_of, links_of, position, IsValid};
 
     /// A cursor on the last member, null in an empty list.
     #[inline]
@@ -83,9 +81,9 @@ impl<K: DoubleEnded, T> Chain<K, T> {
         K: ForwardLinks<L>,
         ensures list { list_of result ≡ self.now }
         ensures links { links_of result ≡ links.now }
-        ensures position { (s : List Place) → ShowsChain K.Between K.kept (L.table links.now) self.now s → position K.Position.member result ≡ last s }
-        ensures kept { ShowsSomeChain K.Between K.kept (L.table links.now) self.now
-            → IsStanding (StandsAt (ShowsChain K.Between K.kept) L.table K.Position.member K.Position.CachesNext) result }
+        ensures position { (s : List Place) → RepresentsChain K.Between K.kept (L.table links.now) self.now s → position K.Position.member result ≡ last s }
+        ensures kept { RepresentsSomeChain K.Between K.kept (L.table links.now) self.now
+            → IsValid (IsValidAt (RepresentsChain K.Between K.kept) L.table K.Position.member K.Position.CachesNext) result }
     {
         let at: K::Position = ListPosition::of(self.last(), None);
         Cursor::new(self, links, at)
@@ -93,7 +91,7 @@ impl<K: DoubleEnded, T> Chain<K, T> {
 }
 
 impl<K: NamesNext, T> Chain<K, T> {
-    ghost use Rattle.ic_cursors.specs.Cursor.{list_of, links_of, position, IsStanding};
+    ghost use Rattle.ic_cursors.specs.Cursor.{list_of, links_of, position, IsValid};
 
     /// A cursor on the object, which has to be a member. O(1): it reads no entry.
     #[inline]
@@ -104,11 +102,11 @@ impl<K: NamesNext, T> Chain<K, T> {
     ) -> Cursor<'a, Chain<K, T>, L>
     where
         K: ForwardLinks<L>,
-        requires member { HasMember (ShowsChain K.Between K.kept (L.table links.now) self.now) object }
+        requires member { HasMember (RepresentsChain K.Between K.kept (L.table links.now) self.now) object }
         ensures list { list_of result ≡ self.now }
         ensures links { links_of result ≡ links.now }
         ensures position { position K.Position.member result ≡ Some object }
-        ensures kept { IsStanding (StandsAt (ShowsChain K.Between K.kept) L.table K.Position.member K.Position.CachesNext) result }
+        ensures kept { IsValid (IsValidAt (RepresentsChain K.Between K.kept) L.table K.Position.member K.Position.CachesNext) result }
     {
         let at: K::Position = ListPosition::of(Some(object.place()), None);
         Cursor::new(self, links, at)
@@ -116,9 +114,9 @@ impl<K: NamesNext, T> Chain<K, T> {
 }
 
 impl<K: Reversible, T> Chain<K, T> {
-    ghost use Rattle.ic_cursors.specs.Cursor.{list_of, links_of, position, IsStanding};
+    ghost use Rattle.ic_cursors.specs.Cursor.{list_of, links_of, position, IsValid};
 
-    /// A cursor on the object. It requires that the object is a member, and that `prev` is the one in front of it, `None` at
+    /// A cursor on the object. It requires that the object is a member, and that `prev` is the one before it, `None` at
     /// the front. O(1): one reading of an entry.
     #[inline]
     pub fn cursor_from_ptr_and_prev<'a, L: LinkOps>(
@@ -129,17 +127,17 @@ impl<K: Reversible, T> Chain<K, T> {
     ) -> Cursor<'a, Chain<K, T>, L>
     where
         K: ForwardLinks<L>,
-        requires member { HasMemberBehind (ShowsChain K.Between K.kept (L.table links.now) self.now) object prev }
+        requires member { HasMemberAfter (RepresentsChain K.Between K.kept (L.table links.now) self.now) object prev }
         ensures list { list_of result ≡ self.now }
         ensures links { links_of result ≡ links.now }
         ensures position { position K.Position.member result ≡ Some object }
-        ensures kept { IsStanding (StandsAt (ShowsChain K.Between K.kept) L.table K.Position.member K.Position.CachesNext) result }
+        ensures kept { IsValid (IsValidAt (RepresentsChain K.Between K.kept) L.table K.Position.member K.Position.CachesNext) result }
     {
         let at: K::Position = K::position_at(links, object.place(), place_of(prev));
         Cursor::new(self, links, at)
     }
 
-    /// A cursor on the object. It requires that the object is a member, and that `next` is the one behind it, `None` at the
+    /// A cursor on the object. It requires that the object is a member, and that `next` is the one after it, `None` at the
     /// back. O(1): it reads no entry.
     #[inline]
     pub fn cursor_from_ptr_and_next<'a, L: LinkOps>(
@@ -150,11 +148,11 @@ impl<K: Reversible, T> Chain<K, T> {
     ) -> Cursor<'a, Chain<K, T>, L>
     where
         K: ForwardLinks<L>,
-        requires member { HasMemberBefore (ShowsChain K.Between K.kept (L.table links.now) self.now) object next }
+        requires member { HasMemberBefore (RepresentsChain K.Between K.kept (L.table links.now) self.now) object next }
         ensures list { list_of result ≡ self.now }
         ensures links { links_of result ≡ links.now }
         ensures position { position K.Position.member result ≡ Some object }
-        ensures kept { IsStanding (StandsAt (ShowsChain K.Between K.kept) L.table K.Position.member K.Position.CachesNext) result }
+        ensures kept { IsValid (IsValidAt (RepresentsChain K.Between K.kept) L.table K.Position.member K.Position.CachesNext) result }
     {
         let at: K::Position = ListPosition::of(Some(object.place()), place_of(next));
         Cursor::new(self, links, at)
@@ -162,7 +160,7 @@ impl<K: Reversible, T> Chain<K, T> {
 }
 
 impl<K: ListKind, T> Chain<K, T> {
-    ghost use Rattle.ic_cursors.specs.CursorMut.{position, IsBorrowed, IsStanding};
+    ghost use Rattle.ic_cursors.specs.CursorMut.{position, IsBorrowed, IsValid};
 
     /// A cursor at null that edits.
     #[inline]
@@ -174,8 +172,8 @@ impl<K: ListKind, T> Chain<K, T> {
         K: ForwardLinks<L>,
         ensures borrows { IsBorrowed self.entry links.entry result }
         ensures null { position K.Position.member result ≡ None }
-        ensures kept { ShowsSomeChain K.Between K.kept (L.table links.old) self.old
-            → IsStanding (StandsAt (ShowsChain K.Between K.kept) L.table K.Position.member K.Position.CachesNext) result }
+        ensures kept { RepresentsSomeChain K.Between K.kept (L.table links.old) self.old
+            → IsValid (IsValidAt (RepresentsChain K.Between K.kept) L.table K.Position.member K.Position.CachesNext) result }
     {
         let at: K::Position = ListPosition::null();
         CursorMut::new(self, links, at)
@@ -189,11 +187,11 @@ impl<K: ListKind, T> Chain<K, T> {
     ) -> CursorMut<'a, Chain<K, T>, L>
     where
         K: ForwardLinks<L>,
-        requires shown { K.ReadsNext → ShowsSomeChain K.Between K.kept (L.table links.old) self.old }
+        requires shown { K.ReadsNext → RepresentsSomeChain K.Between K.kept (L.table links.old) self.old }
         ensures borrows { IsBorrowed self.entry links.entry result }
-        ensures position { (s : List Place) → ShowsChain K.Between K.kept (L.table links.old) self.old s → position K.Position.member result ≡ first s }
-        ensures kept { ShowsSomeChain K.Between K.kept (L.table links.old) self.old
-            → IsStanding (StandsAt (ShowsChain K.Between K.kept) L.table K.Position.member K.Position.CachesNext) result }
+        ensures position { (s : List Place) → RepresentsChain K.Between K.kept (L.table links.old) self.old s → position K.Position.member result ≡ first s }
+        ensures kept { RepresentsSomeChain K.Between K.kept (L.table links.old) self.old
+            → IsValid (IsValidAt (RepresentsChain K.Between K.kept) L.table K.Position.member K.Position.CachesNext) result }
     {
         let at = self.position_at(&*links, None, self.first());
         CursorMut::new(self, links, at)
@@ -201,7 +199,7 @@ impl<K: ListKind, T> Chain<K, T> {
 }
 
 impl<K: DoubleEnded, T> Chain<K, T> {
-    ghost use Rattle.ic_cursors.specs.CursorMut.{position, IsBorrowed, IsStanding};
+    ghost use Rattle.ic_cursors.specs.CursorMut.{position, IsBorrowed, IsValid};
 
     /// A cursor that edits, on the last member, null in an empty list.
     #[inline]
@@ -209,9 +207,9 @@ impl<K: DoubleEnded, T> Chain<K, T> {
     where
         K: ForwardLinks<L>,
         ensures borrows { IsBorrowed self.entry links.entry result }
-        ensures position { (s : List Place) → ShowsChain K.Between K.kept (L.table links.old) self.old s → position K.Position.member result ≡ last s }
-        ensures kept { ShowsSomeChain K.Between K.kept (L.table links.old) self.old
-            → IsStanding (StandsAt (ShowsChain K.Between K.kept) L.table K.Position.member K.Position.CachesNext) result }
+        ensures position { (s : List Place) → RepresentsChain K.Between K.kept (L.table links.old) self.old s → position K.Position.member result ≡ last s }
+        ensures kept { RepresentsSomeChain K.Between K.kept (L.table links.old) self.old
+            → IsValid (IsValidAt (RepresentsChain K.Between K.kept) L.table K.Position.member K.Position.CachesNext) result }
     {
         let at: K::Position = ListPosition::of(self.last(), None);
         CursorMut::new(self, links, at)
@@ -219,7 +217,7 @@ impl<K: DoubleEnded, T> Chain<K, T> {
 }
 
 impl<K: NamesNext, T> Chain<K, T> {
-    ghost use Rattle.ic_cursors.specs.CursorMut.{position, IsBorrowed, IsStanding};
+    ghost use Rattle.ic_cursors.specs.CursorMut.{position, IsBorrowed, IsValid};
 
     /// A cursor that edits, on the object, which has to be a member. O(1): it reads no entry.
     #[inline]
@@ -230,10 +228,10 @@ impl<K: NamesNext, T> Chain<K, T> {
     ) -> CursorMut<'a, Chain<K, T>, L>
     where
         K: ForwardLinks<L>,
-        requires member { HasMember (ShowsChain K.Between K.kept (L.table links.old) self.old) object }
+        requires member { HasMember (RepresentsChain K.Between K.kept (L.table links.old) self.old) object }
         ensures borrows { IsBorrowed self.entry links.entry result }
         ensures position { position K.Position.member result ≡ Some object }
-        ensures kept { IsStanding (StandsAt (ShowsChain K.Between K.kept) L.table K.Position.member K.Position.CachesNext) result }
+        ensures kept { IsValid (IsValidAt (RepresentsChain K.Between K.kept) L.table K.Position.member K.Position.CachesNext) result }
     {
         let at: K::Position = ListPosition::of(Some(object.place()), None);
         CursorMut::new(self, links, at)
@@ -241,9 +239,9 @@ impl<K: NamesNext, T> Chain<K, T> {
 }
 
 impl<K: Reversible, T> Chain<K, T> {
-    ghost use Rattle.ic_cursors.specs.CursorMut.{position, IsBorrowed, IsStanding};
+    ghost use Rattle.ic_cursors.specs.CursorMut.{position, IsBorrowed, IsValid};
 
-    /// A cursor that edits, on the object. It requires that the object is a member, and that `prev` is the one in front of it, `None` at
+    /// A cursor that edits, on the object. It requires that the object is a member, and that `prev` is the one before it, `None` at
     /// the front. O(1): one reading of an entry.
     #[inline]
     pub fn cursor_mut_from_ptr_and_prev<'a, L: LinkOps>(
@@ -254,16 +252,16 @@ impl<K: Reversible, T> Chain<K, T> {
     ) -> CursorMut<'a, Chain<K, T>, L>
     where
         K: ForwardLinks<L>,
-        requires member { HasMemberBehind (ShowsChain K.Between K.kept (L.table links.old) self.old) object prev }
+        requires member { HasMemberAfter (RepresentsChain K.Between K.kept (L.table links.old) self.old) object prev }
         ensures borrows { IsBorrowed self.entry links.entry result }
         ensures position { position K.Position.member result ≡ Some object }
-        ensures kept { IsStanding (StandsAt (ShowsChain K.Between K.kept) L.table K.Position.member K.Position.CachesNext) result }
+        ensures kept { IsValid (IsValidAt (RepresentsChain K.Between K.kept) L.table K.Position.member K.Position.CachesNext) result }
     {
         let at: K::Position = K::position_at(&*links, object.place(), place_of(prev));
         CursorMut::new(self, links, at)
     }
 
-    /// A cursor that edits, on the object. It requires that the object is a member, and that `next` is the one behind it, `None` at the
+    /// A cursor that edits, on the object. It requires that the object is a member, and that `next` is the one after it, `None` at the
     /// back. O(1): it reads no entry.
     #[inline]
     pub fn cursor_mut_from_ptr_and_next<'a, L: LinkOps>(
@@ -274,10 +272,10 @@ impl<K: Reversible, T> Chain<K, T> {
     ) -> CursorMut<'a, Chain<K, T>, L>
     where
         K: ForwardLinks<L>,
-        requires member { HasMemberBefore (ShowsChain K.Between K.kept (L.table links.old) self.old) object next }
+        requires member { HasMemberBefore (RepresentsChain K.Between K.kept (L.table links.old) self.old) object next }
         ensures borrows { IsBorrowed self.entry links.entry result }
         ensures position { position K.Position.member result ≡ Some object }
-        ensures kept { IsStanding (StandsAt (ShowsChain K.Between K.kept) L.table K.Position.member K.Position.CachesNext) result }
+        ensures kept { IsValid (IsValidAt (RepresentsChain K.Between K.kept) L.table K.Position.member K.Position.CachesNext) result }
     {
         let at: K::Position = ListPosition::of(Some(object.place()), place_of(next));
         CursorMut::new(self, links, at)
@@ -285,7 +283,7 @@ impl<K: Reversible, T> Chain<K, T> {
 }
 
 impl<K: ListKind, T> Chain<K, T> {
-    ghost use Rattle.ic_cursors.specs.CursorOwning.{list_of, place_of, position, IsStanding};
+    ghost use Rattle.ic_cursors.specs.CursorOwning.{list_of, place_of, position, IsValid};
 
     /// A cursor at null that keeps the list. It reads no table.
     #[inline]
@@ -303,11 +301,11 @@ impl<K: ListKind, T> Chain<K, T> {
     pub fn front_owning<L: LinkOps>(self, links: &L) -> CursorOwning<Chain<K, T>>
     where
         K: ForwardLinks<L>,
-        requires shown { K.ReadsNext → ShowsSomeChain K.Between K.kept (L.table links.now) self }
+        requires shown { K.ReadsNext → RepresentsSomeChain K.Between K.kept (L.table links.now) self }
         ensures list { list_of result ≡ self }
-        ensures position { (s : List Place) → ShowsChain K.Between K.kept (L.table links.now) self s → position K.Position.member result ≡ first s }
-        ensures kept { ShowsSomeChain K.Between K.kept (L.table links.now) self
-            → IsStanding (StandsAt (ShowsChain K.Between K.kept) L.table K.Position.member K.Position.CachesNext) links.now result }
+        ensures position { (s : List Place) → RepresentsChain K.Between K.kept (L.table links.now) self s → position K.Position.member result ≡ first s }
+        ensures kept { RepresentsSomeChain K.Between K.kept (L.table links.now) self
+            → IsValid (IsValidAt (RepresentsChain K.Between K.kept) L.table K.Position.member K.Position.CachesNext) links.now result }
     {
         let at = self.position_at(links, None, self.first());
         CursorOwning::new(self, at)
@@ -315,7 +313,7 @@ impl<K: ListKind, T> Chain<K, T> {
 }
 
 impl<K: DoubleEnded, T> Chain<K, T> {
-    ghost use Rattle.ic_cursors.specs.CursorOwning.{list_of, place_of, position, IsStanding};
+    ghost use Rattle.ic_cursors.specs.CursorOwning.{list_of, place_of, position, IsValid};
 
     /// A cursor that keeps the list, on the last member, null in an empty list.
     #[inline]
@@ -323,9 +321,9 @@ impl<K: DoubleEnded, T> Chain<K, T> {
     where
         K: ForwardLinks<L>,
         ensures list { list_of result ≡ self }
-        ensures position { (s : List Place) → ShowsChain K.Between K.kept (L.table links.now) self s → position K.Position.member result ≡ last s }
-        ensures kept { ShowsSomeChain K.Between K.kept (L.table links.now) self
-            → IsStanding (StandsAt (ShowsChain K.Between K.kept) L.table K.Position.member K.Position.CachesNext) links.now result }
+        ensures position { (s : List Place) → RepresentsChain K.Between K.kept (L.table links.now) self s → position K.Position.member result ≡ last s }
+        ensures kept { RepresentsSomeChain K.Between K.kept (L.table links.now) self
+            → IsValid (IsValidAt (RepresentsChain K.Between K.kept) L.table K.Position.member K.Position.CachesNext) links.now result }
     {
         let _ = links;
         let at: K::Position = ListPosition::of(self.last(), None);
@@ -334,7 +332,7 @@ impl<K: DoubleEnded, T> Chain<K, T> {
 }
 
 impl<K: NamesNext, T> Chain<K, T> {
-    ghost use Rattle.ic_cursors.specs.CursorOwning.{list_of, place_of, position, IsStanding};
+    ghost use Rattle.ic_cursors.specs.CursorOwning.{list_of, place_of, position, IsValid};
 
     /// A cursor that keeps the list, on the object, which has to be a member. O(1): it reads no entry.
     #[inline]
@@ -345,10 +343,10 @@ impl<K: NamesNext, T> Chain<K, T> {
     ) -> CursorOwning<Chain<K, T>>
     where
         K: ForwardLinks<L>,
-        requires member { HasMember (ShowsChain K.Between K.kept (L.table links.now) self) object }
+        requires member { HasMember (RepresentsChain K.Between K.kept (L.table links.now) self) object }
         ensures list { list_of result ≡ self }
         ensures position { position K.Position.member result ≡ Some object }
-        ensures kept { IsStanding (StandsAt (ShowsChain K.Between K.kept) L.table K.Position.member K.Position.CachesNext) links.now result }
+        ensures kept { IsValid (IsValidAt (RepresentsChain K.Between K.kept) L.table K.Position.member K.Position.CachesNext) links.now result }
     {
         let _ = links;
         let at: K::Position = ListPosition::of(Some(object.place()), None);
@@ -357,9 +355,9 @@ impl<K: NamesNext, T> Chain<K, T> {
 }
 
 impl<K: Reversible, T> Chain<K, T> {
-    ghost use Rattle.ic_cursors.specs.CursorOwning.{list_of, place_of, position, IsStanding};
+    ghost use Rattle.ic_cursors.specs.CursorOwning.{list_of, place_of, position, IsValid};
 
-    /// A cursor that keeps the list, on the object. It requires that the object is a member, and that `prev` is the one in front of it, `None` at
+    /// A cursor that keeps the list, on the object. It requires that the object is a member, and that `prev` is the one before it, `None` at
     /// the front. O(1): one reading of an entry.
     #[inline]
     pub fn cursor_owning_from_ptr_and_prev<L: LinkOps>(
@@ -370,16 +368,16 @@ impl<K: Reversible, T> Chain<K, T> {
     ) -> CursorOwning<Chain<K, T>>
     where
         K: ForwardLinks<L>,
-        requires member { HasMemberBehind (ShowsChain K.Between K.kept (L.table links.now) self) object prev }
+        requires member { HasMemberAfter (RepresentsChain K.Between K.kept (L.table links.now) self) object prev }
         ensures list { list_of result ≡ self }
         ensures position { position K.Position.member result ≡ Some object }
-        ensures kept { IsStanding (StandsAt (ShowsChain K.Between K.kept) L.table K.Position.member K.Position.CachesNext) links.now result }
+        ensures kept { IsValid (IsValidAt (RepresentsChain K.Between K.kept) L.table K.Position.member K.Position.CachesNext) links.now result }
     {
         let at: K::Position = K::position_at(links, object.place(), place_of(prev));
         CursorOwning::new(self, at)
     }
 
-    /// A cursor that keeps the list, on the object. It requires that the object is a member, and that `next` is the one behind it, `None` at the
+    /// A cursor that keeps the list, on the object. It requires that the object is a member, and that `next` is the one after it, `None` at the
     /// back. O(1): it reads no entry.
     #[inline]
     pub fn cursor_owning_from_ptr_and_next<L: LinkOps>(
@@ -390,10 +388,10 @@ impl<K: Reversible, T> Chain<K, T> {
     ) -> CursorOwning<Chain<K, T>>
     where
         K: ForwardLinks<L>,
-        requires member { HasMemberBefore (ShowsChain K.Between K.kept (L.table links.now) self) object next }
+        requires member { HasMemberBefore (RepresentsChain K.Between K.kept (L.table links.now) self) object next }
         ensures list { list_of result ≡ self }
         ensures position { position K.Position.member result ≡ Some object }
-        ensures kept { IsStanding (StandsAt (ShowsChain K.Between K.kept) L.table K.Position.member K.Position.CachesNext) links.now result }
+        ensures kept { IsValid (IsValidAt (RepresentsChain K.Between K.kept) L.table K.Position.member K.Position.CachesNext) links.now result }
     {
         let _ = links;
         let at: K::Position = ListPosition::of(Some(object.place()), place_of(next));

@@ -1,12 +1,12 @@
 //! What a list of any kind gives the cursors: moves and edits at a position.
 //!
-//! "After" is the gap behind the position's member, or the first gap at null; "before" is the gap in front of it, or
-//! the last gap at null. An edit behind the position leaves it with the place that stands there then. What each does, the traits say.
+//! "After" is the gap after the position's member, or the first gap at null; "before" is the gap before it, or
+//! the last gap at null. An edit after the position leaves it with the place that stands there then. What each does, the traits say.
 
 ghost use Rattle.std.specs.Prelude.{◌≡◌, List, ⊤};
 ghost use Rattle.ic_link_ops.specs.Sequences.{Cut, join, IsAfter, IsBefore};
-ghost use Rattle.ic_link_ops.specs.Chains.{ShowsChain};
-ghost use Rattle.ic_chain.specs.Standing.{StandsAt};
+ghost use Rattle.ic_link_ops.specs.Chains.{RepresentsChain};
+ghost use Rattle.ic_chain.specs.Standing.{IsValidAt};
 
 use crate::Chain;
 use crate::kind::{BidirectionalLinks, DoubleEnded, ForwardLinks, ListKind, SingleEnded};
@@ -40,13 +40,13 @@ impl<K: ListKind, T> Collection for Chain<K, T> {
 // The neighbors of a position, for edits. A cursor's step asks for the end of a list out of line, since it comes to null once a round; an
 // edit is made at null as often as anywhere.
 impl<K: ListKind, T> Chain<K, T> {
-    // What stands behind the position: at null the first member.
+    // What stands after the position: at null the first member.
     #[inline]
     fn behind<L: LinkOps>(&self, links: &L, at: &K::Position) -> Option<Place>
     where
         K: ForwardLinks<L>,
-        requires { StandsAt (ShowsChain K.Between K.kept) L.table K.Position.member K.Position.CachesNext links.now self.now at.now }
-        ensures { (gap : Cut) → ShowsChain K.Between K.kept (L.table links.now) self.now (join gap) → IsAfter gap (K.Position.member at.now) → IsBefore gap result }
+        requires { IsValidAt (RepresentsChain K.Between K.kept) L.table K.Position.member K.Position.CachesNext links.now self.now at.now }
+        ensures { (gap : Cut) → RepresentsChain K.Between K.kept (L.table links.now) self.now (join gap) → IsAfter gap (K.Position.member at.now) → IsBefore gap result }
     {
         match at.get() {
             None => self.first(),
@@ -54,7 +54,7 @@ impl<K: ListKind, T> Chain<K, T> {
         }
     }
 
-    /// The position on the member `current`, `None` for null, in front of which `prev` stands, as a cursor of the list keeps it.
+    /// The position on the member `current`, `None` for null, before which `prev` stands, as a cursor of the list keeps it.
     ///
     /// It requires that they are neighbors, if the kind reads the member's entry. O(1): at most one reading.
     #[inline]
@@ -66,11 +66,11 @@ impl<K: ListKind, T> Chain<K, T> {
     ) -> K::Position
     where
         K: ForwardLinks<L>,
-        requires shown { K.ReadsNext → (gap : Cut) × ShowsChain K.Between K.kept (L.table links.now) self.now (join gap)
+        requires shown { K.ReadsNext → (gap : Cut) × RepresentsChain K.Between K.kept (L.table links.now) self.now (join gap)
             × IsAfter gap prev × IsBefore gap current }
         ensures on { K.Position.member result ≡ current }
-        ensures kept { (gap : Cut) → ShowsChain K.Between K.kept (L.table links.now) self.now (join gap) → IsAfter gap prev → IsBefore gap current
-            → StandsAt (ShowsChain K.Between K.kept) L.table K.Position.member K.Position.CachesNext links.now self.now result }
+        ensures kept { (gap : Cut) → RepresentsChain K.Between K.kept (L.table links.now) self.now (join gap) → IsAfter gap prev → IsBefore gap current
+            → IsValidAt (RepresentsChain K.Between K.kept) L.table K.Position.member K.Position.CachesNext links.now self.now result }
     {
         match current {
             None => ListPosition::null(),
@@ -80,13 +80,13 @@ impl<K: ListKind, T> Chain<K, T> {
 }
 
 impl<K: DoubleEnded, T> Chain<K, T> {
-    // What stands in front of the position: at null the last member.
+    // What stands before the position: at null the last member.
     #[inline]
     fn before<L: LinkOps>(&self, links: &L, at: &K::Position) -> Option<Place>
     where
         K: BidirectionalLinks<L>,
-        requires { StandsAt (ShowsChain K.Between K.kept) L.table K.Position.member K.Position.CachesNext links.now self.now at.now }
-        ensures { (gap : Cut) → ShowsChain K.Between K.kept (L.table links.now) self.now (join gap) → IsBefore gap (K.Position.member at.now) → IsAfter gap result }
+        requires { IsValidAt (RepresentsChain K.Between K.kept) L.table K.Position.member K.Position.CachesNext links.now self.now at.now }
+        ensures { (gap : Cut) → RepresentsChain K.Between K.kept (L.table links.now) self.now (join gap) → IsBefore gap (K.Position.member at.now) → IsAfter gap result }
     {
         match at.get() {
             None => self.last(),
@@ -99,9 +99,9 @@ impl<K: DoubleEnded, T> Chain<K, T> {
 }
 
 impl<T, L: LinkOps, K: ForwardLinks<L>> CursorOps<L> for Chain<K, T> {
-    ghost Shows = { ShowsChain K.Between K.kept };
+    ghost Represents = { RepresentsChain K.Between K.kept };
 
-    ghost StandsAt = { StandsAt (ShowsChain K.Between K.kept) L.table K.Position.member K.Position.CachesNext };
+    ghost IsValidAt = { IsValidAt (RepresentsChain K.Between K.kept) L.table K.Position.member K.Position.CachesNext };
 
     #[inline]
     fn next_of(&self, links: &L, at: &K::Position) -> K::Position {

@@ -8,11 +8,9 @@
 
 ghost use Rattle.std.specs.Prelude.{◌≡◌, List};
 ghost use Rattle.std.specs.Iterator.{item_count};
-ghost use Rattle.ic_unsafe_ref.specs.declared.place.Place.{Place};
-ghost use Rattle.ic_link_ops.specs.Tables.{KeepsBeside};
-ghost use Rattle.ic_link_ops.specs.LinkSteps.{releases_each};
+ghost use Rattle.ic_link_ops.specs.Prelude.{Place, ChangesOnlyIn, releases_each};
 ghost use Rattle.ic_link_ops.specs.Taking.{Leaves, CanTake, TakesFirst, TakesLast};
-ghost use Rattle.ic_link_ops.specs.Chains.{ShowsChain, ShowsSomeChain};
+ghost use Rattle.ic_link_ops.specs.Chains.{RepresentsChain, RepresentsSomeChain};
 
 use crate::Chain;
 use crate::kind::{BidirectionalLinks, DoubleEnded, ForwardLinks, ListKind};
@@ -42,9 +40,9 @@ impl<'a, T, L: LinkOps, K: ForwardLinks<L>> Iterator for IntoIter<'a, K, T, L> {
 
     ghost use Rattle.ic_chain.specs.IntoIter.{rest_of, members_left};
 
-    ghost can_next = { λ t. CanTake (ShowsChain K.Between K.kept) L.table (rest_of t) };
+    ghost can_next = { λ t. CanTake (RepresentsChain K.Between K.kept) L.table (rest_of t) };
 
-    ghost next_gives = { λ s r t. TakesFirst (ShowsChain K.Between K.kept) L.table L.Does (rest_of s) r (rest_of t) };
+    ghost next_gives = { λ s r t. TakesFirst (RepresentsChain K.Between K.kept) L.table L.Trace (rest_of s) r (rest_of t) };
 
     ghost remaining = { item_count (members_left K.step L.table) };
 
@@ -59,9 +57,9 @@ impl<'a, T, L: LinkOps, K: DoubleEnded + BidirectionalLinks<L>> DoubleEndedItera
     for IntoIter<'a, K, T, L> {
     ghost use Rattle.ic_chain.specs.IntoIter.{rest_of};
 
-    ghost can_next_back = { λ t. CanTake (ShowsChain K.Between K.kept) L.table (rest_of t) };
+    ghost can_next_back = { λ t. CanTake (RepresentsChain K.Between K.kept) L.table (rest_of t) };
 
-    ghost next_back_gives = { λ s r t. TakesLast (ShowsChain K.Between K.kept) L.table L.Does (rest_of s) r (rest_of t) };
+    ghost next_back_gives = { λ s r t. TakesLast (RepresentsChain K.Between K.kept) L.table L.Trace (rest_of s) r (rest_of t) };
 
     /// Takes the next object from the back off the list. O(1).
     #[inline]
@@ -83,11 +81,11 @@ impl<'a, T, L: LinkOps, K: ForwardLinks<L>> IntoIter<'a, K, T, L> {
 
     /// Unlinks the members that were not given out. One step for each of them, and no memory.
     pub fn finish(self)
-        requires can_take { CanTake (ShowsChain K.Between K.kept) L.table (rest_of self) }
-        ensures released { (w : List Place) → Leaves (ShowsChain K.Between K.kept) L.table (rest_of self.entry) w
-            → L.Does self.entry.links.now self.exit.1.0.now (releases_each w) }
-        ensures frame { (w : List Place) → Leaves (ShowsChain K.Between K.kept) L.table (rest_of self.entry) w
-            → KeepsBeside (L.table self.entry.links.now) (L.table self.exit.1.0.now) w }
+        requires can_take { CanTake (RepresentsChain K.Between K.kept) L.table (rest_of self) }
+        ensures released { (w : List Place) → Leaves (RepresentsChain K.Between K.kept) L.table (rest_of self.entry) w
+            → L.Trace self.entry.links.now self.exit.1.0.now (releases_each w) }
+        ensures frame { (w : List Place) → Leaves (RepresentsChain K.Between K.kept) L.table (rest_of self.entry) w
+            → ChangesOnlyIn (L.table self.entry.links.now) (L.table self.exit.1.0.now) w }
     {
         let IntoIter { list, links } = self;
         list.dispose(links);
@@ -99,7 +97,7 @@ impl<K: ListKind, T> Chain<K, T> {
     pub fn into_iter<'a, L: LinkOps>(self, links: &'a mut L) -> IntoIter<'a, K, T, L>
     where
         K: ForwardLinks<L>,
-        requires shown { ShowsSomeChain K.Between K.kept (L.table links.old) self }
+        requires shown { RepresentsSomeChain K.Between K.kept (L.table links.old) self }
         ensures list { result.list ≡ self }
         ensures links { result.links.now ≡ links.entry.now }
         ensures same_links { result.links.ghost_name ≡ links.entry.ghost_name }

@@ -8,14 +8,13 @@
 //! ```
 
 ghost use Rattle.std.specs.Prelude.{◌≡◌, List, Option, Some, ⊤};
-ghost use Rattle.ic_unsafe_ref.specs.declared.place.Place.{Place};
+ghost use Rattle.ic_link_ops.specs.Prelude.{Place, RepresentsPlaced, values_at};
 ghost use Rattle.ic_link_ops.specs.Walk.{is_end, GivesFirst, GivesLast};
-ghost use Rattle.ic_link_ops.specs.PlacedObjects.{ShowsPlaced, values_at};
-ghost use Rattle.ic_link_ops.specs.Chains.{ShowsChain};
+ghost use Rattle.ic_link_ops.specs.Chains.{RepresentsChain};
 
 use crate::Chain;
 use crate::kind::{BidirectionalLinks, DoubleEnded, ForwardLinks, ListKind};
-use ic_cursors::Listing;
+use ic_cursors::DebugWalk;
 use ic_link_ops::LinkOps;
 use ic_unsafe_ref::{Objects, Place, Values};
 use std::alloc::AllocError;
@@ -147,8 +146,8 @@ impl<K: ListKind, T> Chain<K, T> {
     ) -> Iter<'a, K, T, L, O>
     where
         K: ForwardLinks<L>,
-        requires placed { ShowsPlaced (ShowsChain K.Between K.kept (L.table links.now) self.now) (O.values objects.now) }
-        ensures walks { (s : List Place) → ShowsChain K.Between K.kept (L.table links.now) self.now s
+        requires placed { RepresentsPlaced (RepresentsChain K.Between K.kept (L.table links.now) self.now) (O.values objects.now) }
+        ensures walks { (s : List Place) → RepresentsChain K.Between K.kept (L.table links.now) self.now s
             → objects_left K.step L.table O.values result ≡ values_at (O.values objects.now) s }
         ensures can_walk { CanWalk K.keeps_last K.Between L.table O.values result }
     {
@@ -169,13 +168,13 @@ impl<K: ListKind, T> Chain<K, T> {
         &self,
         links: &'a L,
         objects: &'a O,
-    ) -> Listing<Iter<'a, K, T, L, O>>
+    ) -> DebugWalk<Iter<'a, K, T, L, O>>
     where
         K: ForwardLinks<L>,
-        requires placed { ShowsPlaced (ShowsChain K.Between K.kept (L.table links.now) self.now) (O.values objects.now) }
-        ensures lists { (s : List Place) → ShowsChain K.Between K.kept (L.table links.now) self.now s
+        requires placed { RepresentsPlaced (RepresentsChain K.Between K.kept (L.table links.now) self.now) (O.values objects.now) }
+        ensures lists { (s : List Place) → RepresentsChain K.Between K.kept (L.table links.now) self.now s
             → objects_left K.step L.table O.values result ≡ values_at (O.values objects.now) s }
     {
-        Listing::new(self.iter(links, objects))
+        DebugWalk::new(self.iter(links, objects))
     }
 }

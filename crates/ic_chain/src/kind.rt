@@ -11,10 +11,8 @@
 
 ghost use Rattle.std.specs.Prelude.{◌≡◌, ◌≢◌, Option, Bool, true, false, Some, None, [], ◌∷◌};
 ghost use Rattle.std.specs.Bool.{OnTrue, OnFalse};
-ghost use Rattle.ic_unsafe_ref.specs.declared.place.Place.{Place};
-ghost use Rattle.ic_link_ops.specs.Tables.{IsCovered, IsLinked, IsNameable, ChangesOnly};
-ghost use Rattle.ic_link_ops.specs.LinkSteps.{acquires};
-ghost use Rattle.ic_link_ops.specs.Turns.{TurnsBehind, TurnsBefore};
+ghost use Rattle.ic_link_ops.specs.Prelude.{Place, IsCovered, IsLinked, IsNameable, ChangesOnly, acquires};
+ghost use Rattle.ic_link_ops.specs.Turns.{TurnsAfter, TurnsBefore};
 ghost use Rattle.ic_chain.specs.Walk.{WalkEnds};
 
 use crate::position::ListPosition;
@@ -67,13 +65,13 @@ pub trait SingleEnded: ListKind {
     ghost keeps_one: { Self.keeps_last ≡ false };
 }
 
-/// A kind whose entries tell what stands behind by themselves, so that positions keep nothing of it.
+/// A kind whose entries tell what stands after by themselves, so that positions keep nothing of it.
 pub trait NamesNext: ListKind {
     // The law.
     ghost caches_nothing: { (at : Self.Position) (next : Option Place) → Self.Position.CachesNext at next };
 }
 
-/// A kind whose entries name no neighbor as the one in front, so that the two ends of a list alone say which way it goes.
+/// A kind whose entries name no neighbor as the one before, so that the two ends of a list alone say which way it goes.
 pub trait Reversible: DoubleEnded {}
 
 /// How lists of a kind read and write the links of a table, on the way from the first member to the last.
@@ -81,41 +79,41 @@ pub trait ForwardLinks<L: LinkOps>: ListKind {
     // The entry says that its place is linked, between these two, none beyond an end.
     ghost Between: { L.Entry → Option Place → Option Place → Type 0 };
 
-    // What stands behind the place of an entry, as the entry tells who knows what stands in front.
+    // What stands after the place of an entry, as the entry tells who knows what stands before.
     ghost step: { L.Entry → Option Place → Option Place };
 
-    // Entries say what stands in front of their places; and a position on a member is made by reading its entry.
+    // Entries say what stands before their places; and a position on a member is made by reading its entry.
     ghost NamesPrev: { Type 0 };
 
     ghost ReadsNext: { Type 0 };
 
-    /// The place behind `place`, if `prev` stands in front of it. One reading.
+    /// The place after `place`, if `prev` stands before it. One reading.
     fn next(links: &L, place: Place, prev: Option<Place>) -> Option<Place>
         requires linked { IsLinked L.linked (L.table links.now) place }
         ensures { result ≡ step ((L.table links.now).entry place) prev };
 
-    /// The place behind `place`, which the position is on. At most one reading.
+    /// The place after `place`, which the position is on. At most one reading.
     fn next_at(links: &L, place: Place, at: &Self::Position) -> Option<Place>
         requires linked { IsLinked L.linked (L.table links.now) place }
         requires on { Self.Position.member at.now ≡ Some place }
         ensures { (prev next : Option Place) → Between ((L.table links.now).entry place) prev next → Self.Position.CachesNext at.now next → result ≡ next };
 
-    /// The position on `place`, if `prev` stands in front of it. At most one reading.
+    /// The position on `place`, if `prev` stands before it. At most one reading.
     fn position_at(links: &L, place: Place, prev: Option<Place>) -> Self::Position
         requires linked { ReadsNext → IsLinked L.linked (L.table links.now) place }
         ensures on { Self.Position.member result ≡ Some place }
         ensures caches { (next : Option Place) → Between ((L.table links.now).entry place) prev next → Self.Position.CachesNext result next };
 
-    /// Puts `to` behind `place`, where `from` stood. One write.
+    /// Puts `to` after `place`, where `from` stood. One write.
     fn set_next(links: &mut L, place: Place, from: Option<Place>, to: Option<Place>)
         requires linked { IsLinked L.linked (L.table links.old) place }
         requires from { IsNameable L.CanName from }
         requires to { IsNameable L.CanName to }
-        ensures turns { TurnsBehind Between (L.table links.old).entry (L.table links.new).entry (Some place) from to }
+        ensures turns { TurnsAfter Between (L.table links.old).entry (L.table links.new).entry (Some place) from to }
         ensures frame { ChangesOnly (L.table links.old) (L.table links.new) place }
-        ensures no_step { L.Does links.old links.new [] };
+        ensures trace_stays { L.Trace links.old links.new [] };
 
-    /// Puts `to` in front of `place`, where `from` stood. One write, and none where entries name no place in front.
+    /// Puts `to` before `place`, where `from` stood. One write, and none where entries name no place before.
     fn set_prev(links: &mut L, place: Place, from: Option<Place>, to: Option<Place>)
         requires linked { NamesPrev → IsLinked L.linked (L.table links.old) place }
         requires from { IsNameable L.CanName from }
@@ -123,7 +121,7 @@ pub trait ForwardLinks<L: LinkOps>: ListKind {
         ensures turns { TurnsBefore Between (L.table links.old).entry (L.table links.new).entry (Some place) from to }
         ensures frame { ChangesOnly (L.table links.old) (L.table links.new) place }
         ensures others { (q : Place) → (NamesPrev → q ≢ place) → (L.table links.new).entry q ≡ (L.table links.old).entry q }
-        ensures no_step { L.Does links.old links.new [] };
+        ensures trace_stays { L.Trace links.old links.new [] };
 
     /// Puts a linked place between two others.
     fn set_neighbors(links: &mut L, place: Place, prev: Option<Place>, next: Option<Place>)
@@ -132,14 +130,14 @@ pub trait ForwardLinks<L: LinkOps>: ListKind {
         requires next { IsNameable L.CanName next }
         ensures set { Between ((L.table links.new).entry place) prev next }
         ensures frame { ChangesOnly (L.table links.old) (L.table links.new) place }
-        ensures no_step { L.Does links.old links.new [] };
+        ensures trace_stays { L.Trace links.old links.new [] };
 
     /// Links `place` between two others, unless it is refused, and says whether it did.
     fn link_between(links: &mut L, place: Place, prev: Option<Place>, next: Option<Place>) -> bool
         requires covered { IsCovered (L.table links.old) place }
         requires prev { IsNameable L.CanName prev }
         requires next { IsNameable L.CanName next }
-        ensures acquired { OnTrue result (L.Does links.old links.new (acquires place ∷ [])) }
+        ensures acquired { OnTrue result (L.Trace links.old links.new (acquires place ∷ [])) }
         ensures set { OnTrue result (Between ((L.table links.new).entry place) prev next) }
         ensures refused { OnFalse result (L.Refused links.old links.new place) }
         ensures frame { ChangesOnly (L.table links.old) (L.table links.new) place };
@@ -152,10 +150,10 @@ pub trait ForwardLinks<L: LinkOps>: ListKind {
 
 /// How they are read on the way back, too.
 pub trait BidirectionalLinks<L: LinkOps>: ForwardLinks<L> {
-    // What stands in front of the place of an entry, as the entry tells who knows what stands behind.
+    // What stands before the place of an entry, as the entry tells who knows what stands after.
     ghost step_back: { L.Entry → Option Place → Option Place };
 
-    /// The place in front of `place`, if `next` stands behind it. One reading.
+    /// The place before `place`, if `next` stands after it. One reading.
     fn prev(links: &L, place: Place, next: Option<Place>) -> Option<Place>
         requires linked { IsLinked L.linked (L.table links.now) place }
         ensures { result ≡ step_back ((L.table links.now).entry place) next };
@@ -166,6 +164,6 @@ pub trait BidirectionalLinks<L: LinkOps>: ForwardLinks<L> {
 
 /// Links whose entries tell each neighbor by themselves.
 pub trait NamesBoth<L: LinkOps>: BidirectionalLinks<L> {
-    // The law: what stands in front is told, whatever stands behind.
+    // The law: what stands before is told, whatever stands after.
     ghost tells_before: { (e : L.Entry) (a a' : Option Place) → Self.step_back e a ≡ Self.step_back e a' };
 }

@@ -8,14 +8,11 @@
 //! caller makes these: a proof has the law where the caller names it. The other laws make their calls.
 //!
 //! What holds of collections of every kind stands with the tables, as lemmas for proofs (`CollectionLaws` of `ic_link_ops`): every
-//! table shows nothing for a new collection, no table shows two sequences for one, and an edit leaves all others.
+//! table represents nothing for a new collection, no table represents two sequences for one, and an edit leaves all others.
 
 ghost use Rattle.std.specs.Prelude.{◌≡◌, List, [], ◌∷◌, None, IsTrue};
-ghost use Rattle.ic_unsafe_ref.specs.declared.place.Place.{Place};
-ghost use Rattle.ic_link_ops.specs.Sequences.{insert, remove, at_front, at_back, first, last, but_last};
-ghost use Rattle.ic_link_ops.specs.Tables.{IsCovered, KeepsBeside};
-ghost use Rattle.ic_link_ops.specs.LinkSteps.{acquires};
-ghost use Rattle.ic_link_ops.specs.Chains.{ShowsChain, ShowsSomeChain};
+ghost use Rattle.ic_link_ops.specs.Prelude.{Place, insert, remove, at_front, at_back, first, last, but_last, IsCovered, ChangesOnlyIn, acquires};
+ghost use Rattle.ic_link_ops.specs.Chains.{RepresentsChain, RepresentsSomeChain};
 ghost use Rattle.ic_cursors.specs.Cursor as reads;
 ghost use Rattle.ic_chain.specs.Laws.{SplitsApart, SplitThenSplice, PushThenPop};
 
@@ -32,15 +29,15 @@ use ic_unsafe_ref::{Place, UnsafeRef};
 pub fn null_there_and_back<C: Bidirectional<L>, L: LinkOps>(
     cursor: &mut Cursor<'_, C, L>,
 ) -> (Option<Place>, Option<Place>)
-    requires stands { reads.IsStanding C.StandsAt cursor.old }
+    requires stands { reads.IsValid C.IsValidAt cursor.old }
     requires null { reads.position C.Position.member cursor.old ≡ None }
-    ensures there { (s : List Place) → C.Shows (L.table (reads.links_of cursor.old)) (C.head_of (reads.list_of cursor.old)) s
+    ensures there { (s : List Place) → C.Represents (L.table (reads.links_of cursor.old)) (C.head_of (reads.list_of cursor.old)) s
         → result.0 ≡ first s }
-    ensures back { (s : List Place) → C.Shows (L.table (reads.links_of cursor.old)) (C.head_of (reads.list_of cursor.old)) s
+    ensures back { (s : List Place) → C.Represents (L.table (reads.links_of cursor.old)) (C.head_of (reads.list_of cursor.old)) s
         → result.1 ≡ last s }
-    ensures again { (s : List Place) → C.Shows (L.table (reads.links_of cursor.old)) (C.head_of (reads.list_of cursor.old)) s
+    ensures again { (s : List Place) → C.Represents (L.table (reads.links_of cursor.old)) (C.head_of (reads.list_of cursor.old)) s
         → reads.position C.Position.member cursor.new ≡ None }
-    ensures kept { reads.IsStanding C.StandsAt cursor.new }
+    ensures kept { reads.IsValid C.IsValidAt cursor.new }
     ensures list { reads.list_of cursor.new ≡ reads.list_of cursor.old }
     ensures links { reads.links_of cursor.new ≡ reads.links_of cursor.old }
 {
@@ -53,23 +50,23 @@ pub fn null_there_and_back<C: Bidirectional<L>, L: LinkOps>(
     (front, back)
 }
 
-/// The law of a split and a splice: what is handed out behind a position and spliced in there again leaves the list as it was.
+/// The law of a split and a splice: what is handed out after a position and spliced in there again leaves the list as it was.
 ///
 /// It holds over any table.
 ///
-/// It speaks of what `split_after` and `splice_after` say, and makes no call. The two parts of the split are shown and share no
+/// It speaks of what `split_after` and `splice_after` say, and makes no call. The two parts of the split are represented and share no
 /// member, so that the one may be spliced into the other (`apart`). Of such a splice the clause `kept` of `splice_after` says that what the
 /// cursor keeps is right.
 pub fn split_then_splice<K: ForwardLinks<L>, L: LinkOps>()
-    ensures apart { SplitsApart (ShowsChain K.Between K.kept) L.table L.Does }
-    ensures as_it_was { SplitThenSplice (ShowsChain K.Between K.kept) L.table L.Does }
+    ensures apart { SplitsApart (RepresentsChain K.Between K.kept) L.table L.Trace }
+    ensures as_it_was { SplitThenSplice (RepresentsChain K.Between K.kept) L.table L.Trace }
 {}
 
 /// Puts one object at the front of two lists of two fields, of whatever kinds, and returns true, since both take it.
 ///
 /// A link in one field is none in the other. O(1).
 ///
-/// It requires that both tables cover the object's place, that neither refuses it, and that each shows a sequence. A plain table refuses only
+/// It requires that both tables cover the object's place, that neither refuses it, and that each represents a sequence. A plain table refuses only
 /// what is linked in it.
 pub fn fields_are_apart<K: ForwardLinks<L>, J: ForwardLinks<M>, T, L: LinkOps, M: LinkOps>(
     first: &mut Chain<K, T>,
@@ -80,21 +77,21 @@ pub fn fields_are_apart<K: ForwardLinks<L>, J: ForwardLinks<M>, T, L: LinkOps, M
 ) -> bool
     requires first_covered { IsCovered (L.table first_links.old) object }
     requires first_accepts { (links : L) → L.Refused first_links.old links object → ⊥ }
-    requires first_shown { ShowsSomeChain K.Between K.kept (L.table first_links.old) first.old }
+    requires first_represented { RepresentsSomeChain K.Between K.kept (L.table first_links.old) first.old }
     requires second_covered { IsCovered (M.table second_links.old) object }
     requires second_accepts { (links : M) → M.Refused second_links.old links object → ⊥ }
-    requires second_shown { ShowsSomeChain J.Between J.kept (M.table second_links.old) second.old }
+    requires second_represented { RepresentsSomeChain J.Between J.kept (M.table second_links.old) second.old }
     ensures answer { IsTrue result }
-    ensures first { (s : List Place) → ShowsChain K.Between K.kept (L.table first_links.old) first.old s
-        → ShowsChain K.Between K.kept (L.table first_links.new) first.new (insert (at_front s) object) }
-    ensures first_linked { L.Does first_links.old first_links.new (acquires object ∷ []) }
-    ensures first_frame { (s : List Place) → ShowsChain K.Between K.kept (L.table first_links.old) first.old s
-        → KeepsBeside (L.table first_links.old) (L.table first_links.new) (object ∷ s) }
-    ensures second { (s : List Place) → ShowsChain J.Between J.kept (M.table second_links.old) second.old s
-        → ShowsChain J.Between J.kept (M.table second_links.new) second.new (insert (at_front s) object) }
-    ensures second_linked { M.Does second_links.old second_links.new (acquires object ∷ []) }
-    ensures second_frame { (s : List Place) → ShowsChain J.Between J.kept (M.table second_links.old) second.old s
-        → KeepsBeside (M.table second_links.old) (M.table second_links.new) (object ∷ s) }
+    ensures first { (s : List Place) → RepresentsChain K.Between K.kept (L.table first_links.old) first.old s
+        → RepresentsChain K.Between K.kept (L.table first_links.new) first.new (insert (at_front s) object) }
+    ensures first_linked { L.Trace first_links.old first_links.new (acquires object ∷ []) }
+    ensures first_frame { (s : List Place) → RepresentsChain K.Between K.kept (L.table first_links.old) first.old s
+        → ChangesOnlyIn (L.table first_links.old) (L.table first_links.new) (object ∷ s) }
+    ensures second { (s : List Place) → RepresentsChain J.Between J.kept (M.table second_links.old) second.old s
+        → RepresentsChain J.Between J.kept (M.table second_links.new) second.new (insert (at_front s) object) }
+    ensures second_linked { M.Trace second_links.old second_links.new (acquires object ∷ []) }
+    ensures second_frame { (s : List Place) → RepresentsChain J.Between J.kept (M.table second_links.old) second.old s
+        → ChangesOnlyIn (M.table second_links.old) (M.table second_links.new) (object ∷ s) }
 {
     let in_first = first
         .push_front(first_links, UnsafeRef::new(object))
@@ -110,10 +107,10 @@ pub fn fields_are_apart<K: ForwardLinks<L>, J: ForwardLinks<M>, T, L: LinkOps, M
 /// The list and the linked places are as they were, and so is every other list, over any table. It speaks of what the two calls say, and
 /// makes none.
 pub fn push_then_pop_front<K: ForwardLinks<L>, L: LinkOps>()
-    ensures { PushThenPop (ShowsChain K.Between K.kept) L.table L.Does L.linked at_front first (λ s. remove (at_front s)) }
+    ensures { PushThenPop (RepresentsChain K.Between K.kept) L.table L.Trace L.linked at_front first (λ s. remove (at_front s)) }
 {}
 
 /// The law of a push and a pop at the back: what `push_back` accepted is what `pop_back` returns, and all is as it was.
 pub fn push_then_pop<K: DoubleEnded + BidirectionalLinks<L>, L: LinkOps>()
-    ensures { PushThenPop (ShowsChain K.Between K.kept) L.table L.Does L.linked at_back last but_last }
+    ensures { PushThenPop (RepresentsChain K.Between K.kept) L.table L.Trace L.linked at_back last but_last }
 {}

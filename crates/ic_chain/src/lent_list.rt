@@ -10,12 +10,8 @@
 //! ```
 
 ghost use Rattle.std.specs.Prelude.{◌≡◌, ◌++◌, ◌∷◌, List, [], OnOk, OnErr, IfErr, IfSome, IfNone};
-ghost use Rattle.ic_unsafe_ref.specs.declared.place.Place.{Place};
-ghost use Rattle.ic_link_ops.specs.Sequences.{first, last, at_front, at_back, insert, remove, but_last};
-ghost use Rattle.ic_link_ops.specs.Tables.{IsCovered, KeepsBeside};
-ghost use Rattle.ic_link_ops.specs.LinkSteps.{acquires, releases};
-ghost use Rattle.ic_link_ops.specs.Positions.{HasMember};
-ghost use Rattle.ic_link_ops.specs.Chains.{ShowsChain, ShowsSomeChain};
+ghost use Rattle.ic_link_ops.specs.Prelude.{Place, first, last, at_front, at_back, insert, remove, but_last, IsCovered, ChangesOnlyIn, HasMember, acquires, releases};
+ghost use Rattle.ic_link_ops.specs.Chains.{RepresentsChain, RepresentsSomeChain};
 
 use crate::Chain;
 use crate::kind::{BidirectionalLinks, DoubleEnded, ForwardLinks, ListKind, NamesBoth};
@@ -24,7 +20,7 @@ use ic_unsafe_ref::UnsafeRef;
 
 /// A list and the table of its links, for as long as both are borrowed.
 ///
-/// In a loop over it no call reads again where the list begins, as each call over a list behind a reference does. Over a view of the
+/// In a loop over it no call reads again where the list begins, as each call over a list after a reference does. Over a view of the
 /// links ([`LentTable`](ic_link_ops::LentTable)) no call reads again where these are kept, either. When it goes out of scope, the list has
 /// what it showed last. A function that takes it by `&mut` makes all other calls on its fields: `lent.list.cursor_mut(lent.links)`.
 pub struct LentList<'a, K: ListKind, T, L> {
@@ -54,7 +50,7 @@ impl<K: ListKind, T, L> Drop for LentList<'_, K, T, L> {
 impl<K: ListKind, T> Chain<K, T> {
     /// Borrows the list together with the table of its links. O(1).
     ///
-    /// The list has what it shows once it is dropped, or at [`LentList::finish`]. Until then it is empty.
+    /// The list has what it represents once it is dropped, or at [`LentList::finish`]. Until then it is empty.
     #[inline]
     pub fn lend<'a, L>(&'a mut self, links: &'a mut L) -> LentList<'a, K, T, L>
         ensures list { result.list ≡ self.old }
@@ -87,13 +83,13 @@ impl<T, L: LinkOps, K: ForwardLinks<L>> LentList<'_, K, T, L> {
     #[inline]
     pub fn push_front(&mut self, object: UnsafeRef<T>) -> Result<(), AlreadyLinked<T>>
         requires covered { IsCovered (L.table self.old.links.now) object }
-        requires shown { ShowsSomeChain K.Between K.kept (L.table self.old.links.now) self.old.list }
-        ensures inserted { (s : List Place) → ShowsChain K.Between K.kept (L.table self.old.links.now) self.old.list s
-            → OnOk result (ShowsChain K.Between K.kept (L.table self.new.links.now) self.new.list (insert (at_front s) object)) }
-        ensures acquired { OnOk result (L.Does self.old.links.now self.new.links.now (acquires object ∷ [])) }
+        requires shown { RepresentsSomeChain K.Between K.kept (L.table self.old.links.now) self.old.list }
+        ensures inserted { (s : List Place) → RepresentsChain K.Between K.kept (L.table self.old.links.now) self.old.list s
+            → OnOk result (RepresentsChain K.Between K.kept (L.table self.new.links.now) self.new.list (insert (at_front s) object)) }
+        ensures acquired { OnOk result (L.Trace self.old.links.now self.new.links.now (acquires object ∷ [])) }
         ensures refused { OnErr result (L.Refused self.old.links.now self.new.links.now object) }
         ensures unchanged { IfErr result (λ refused. (refused.0 ≡ object) × (self.new.list ≡ self.old.list)) }
-        ensures frame { (s : List Place) → ShowsChain K.Between K.kept (L.table self.old.links.now) self.old.list s → KeepsBeside (L.table self.old.links.now) (L.table self.new.links.now) (object ∷ s) }
+        ensures frame { (s : List Place) → RepresentsChain K.Between K.kept (L.table self.old.links.now) self.old.list s → ChangesOnlyIn (L.table self.old.links.now) (L.table self.new.links.now) (object ∷ s) }
         ensures same { SameLoans self.old self.new }
     {
         self.list.push_front(self.links, object)
@@ -102,12 +98,12 @@ impl<T, L: LinkOps, K: ForwardLinks<L>> LentList<'_, K, T, L> {
     /// Takes the object at the front off the list, as [`Chain::pop_front`] does.
     #[inline]
     pub fn pop_front(&mut self) -> Option<UnsafeRef<T>>
-        requires shown { ShowsSomeChain K.Between K.kept (L.table self.old.links.now) self.old.list }
-        ensures answer { (s : List Place) → ShowsChain K.Between K.kept (L.table self.old.links.now) self.old.list s → result ≡ first s }
-        ensures removed { (s : List Place) → ShowsChain K.Between K.kept (L.table self.old.links.now) self.old.list s → ShowsChain K.Between K.kept (L.table self.new.links.now) self.new.list (remove (at_front s)) }
-        ensures released { IfSome result (λ object. L.Does self.old.links.now self.new.links.now (releases object ∷ [])) }
+        requires shown { RepresentsSomeChain K.Between K.kept (L.table self.old.links.now) self.old.list }
+        ensures answer { (s : List Place) → RepresentsChain K.Between K.kept (L.table self.old.links.now) self.old.list s → result ≡ first s }
+        ensures removed { (s : List Place) → RepresentsChain K.Between K.kept (L.table self.old.links.now) self.old.list s → RepresentsChain K.Between K.kept (L.table self.new.links.now) self.new.list (remove (at_front s)) }
+        ensures released { IfSome result (λ object. L.Trace self.old.links.now self.new.links.now (releases object ∷ [])) }
         ensures empty { IfNone result ((self.new.list ≡ self.old.list) × (self.new.links.now ≡ self.old.links.now)) }
-        ensures frame { (s : List Place) → ShowsChain K.Between K.kept (L.table self.old.links.now) self.old.list s → KeepsBeside (L.table self.old.links.now) (L.table self.new.links.now) s }
+        ensures frame { (s : List Place) → RepresentsChain K.Between K.kept (L.table self.old.links.now) self.old.list s → ChangesOnlyIn (L.table self.old.links.now) (L.table self.new.links.now) s }
         ensures same { SameLoans self.old self.new }
     {
         self.list.pop_front(self.links)
@@ -121,13 +117,13 @@ impl<T, L: LinkOps, K: DoubleEnded + ForwardLinks<L>> LentList<'_, K, T, L> {
     #[inline]
     pub fn push_back(&mut self, object: UnsafeRef<T>) -> Result<(), AlreadyLinked<T>>
         requires covered { IsCovered (L.table self.old.links.now) object }
-        requires shown { ShowsSomeChain K.Between K.kept (L.table self.old.links.now) self.old.list }
-        ensures inserted { (s : List Place) → ShowsChain K.Between K.kept (L.table self.old.links.now) self.old.list s
-            → OnOk result (ShowsChain K.Between K.kept (L.table self.new.links.now) self.new.list (insert (at_back s) object)) }
-        ensures acquired { OnOk result (L.Does self.old.links.now self.new.links.now (acquires object ∷ [])) }
+        requires shown { RepresentsSomeChain K.Between K.kept (L.table self.old.links.now) self.old.list }
+        ensures inserted { (s : List Place) → RepresentsChain K.Between K.kept (L.table self.old.links.now) self.old.list s
+            → OnOk result (RepresentsChain K.Between K.kept (L.table self.new.links.now) self.new.list (insert (at_back s) object)) }
+        ensures acquired { OnOk result (L.Trace self.old.links.now self.new.links.now (acquires object ∷ [])) }
         ensures refused { OnErr result (L.Refused self.old.links.now self.new.links.now object) }
         ensures unchanged { IfErr result (λ refused. (refused.0 ≡ object) × (self.new.list ≡ self.old.list)) }
-        ensures frame { (s : List Place) → ShowsChain K.Between K.kept (L.table self.old.links.now) self.old.list s → KeepsBeside (L.table self.old.links.now) (L.table self.new.links.now) (object ∷ s) }
+        ensures frame { (s : List Place) → RepresentsChain K.Between K.kept (L.table self.old.links.now) self.old.list s → ChangesOnlyIn (L.table self.old.links.now) (L.table self.new.links.now) (object ∷ s) }
         ensures same { SameLoans self.old self.new }
     {
         self.list.push_back(self.links, object)
@@ -140,12 +136,12 @@ impl<T, L: LinkOps, K: DoubleEnded + BidirectionalLinks<L>> LentList<'_, K, T, L
     /// Takes the object at the back off the list, as [`Chain::pop_back`] does.
     #[inline]
     pub fn pop_back(&mut self) -> Option<UnsafeRef<T>>
-        requires shown { ShowsSomeChain K.Between K.kept (L.table self.old.links.now) self.old.list }
-        ensures answer { (s : List Place) → ShowsChain K.Between K.kept (L.table self.old.links.now) self.old.list s → result ≡ last s }
-        ensures removed { (s : List Place) → ShowsChain K.Between K.kept (L.table self.old.links.now) self.old.list s → ShowsChain K.Between K.kept (L.table self.new.links.now) self.new.list (but_last s) }
-        ensures released { IfSome result (λ object. L.Does self.old.links.now self.new.links.now (releases object ∷ [])) }
+        requires shown { RepresentsSomeChain K.Between K.kept (L.table self.old.links.now) self.old.list }
+        ensures answer { (s : List Place) → RepresentsChain K.Between K.kept (L.table self.old.links.now) self.old.list s → result ≡ last s }
+        ensures removed { (s : List Place) → RepresentsChain K.Between K.kept (L.table self.old.links.now) self.old.list s → RepresentsChain K.Between K.kept (L.table self.new.links.now) self.new.list (but_last s) }
+        ensures released { IfSome result (λ object. L.Trace self.old.links.now self.new.links.now (releases object ∷ [])) }
         ensures empty { IfNone result ((self.new.list ≡ self.old.list) × (self.new.links.now ≡ self.old.links.now)) }
-        ensures frame { (s : List Place) → ShowsChain K.Between K.kept (L.table self.old.links.now) self.old.list s → KeepsBeside (L.table self.old.links.now) (L.table self.new.links.now) s }
+        ensures frame { (s : List Place) → RepresentsChain K.Between K.kept (L.table self.old.links.now) self.old.list s → ChangesOnlyIn (L.table self.old.links.now) (L.table self.new.links.now) s }
         ensures same { SameLoans self.old self.new }
     {
         self.list.pop_back(self.links)
@@ -158,37 +154,37 @@ impl<T, L: LinkOps, K: DoubleEnded + NamesBoth<L>> LentList<'_, K, T, L> {
     /// Takes the object, which has to be a member, off the list, as [`Chain::remove`] does.
     #[inline]
     pub fn remove(&mut self, object: &UnsafeRef<T>)
-        requires member { HasMember (ShowsChain K.Between K.kept (L.table self.old.links.now) self.old.list) object.now }
-        ensures removed { (front back : List Place) → ShowsChain K.Between K.kept (L.table self.old.links.now) self.old.list (front ++ object.now ∷ back)
-            → ShowsChain K.Between K.kept (L.table self.new.links.now) self.new.list (front ++ back) }
-        ensures released { L.Does self.old.links.now self.new.links.now (releases object.now ∷ []) }
-        ensures frame { (s : List Place) → ShowsChain K.Between K.kept (L.table self.old.links.now) self.old.list s → KeepsBeside (L.table self.old.links.now) (L.table self.new.links.now) s }
+        requires member { HasMember (RepresentsChain K.Between K.kept (L.table self.old.links.now) self.old.list) object.now }
+        ensures removed { (front back : List Place) → RepresentsChain K.Between K.kept (L.table self.old.links.now) self.old.list (front ++ object.now ∷ back)
+            → RepresentsChain K.Between K.kept (L.table self.new.links.now) self.new.list (front ++ back) }
+        ensures released { L.Trace self.old.links.now self.new.links.now (releases object.now ∷ []) }
+        ensures frame { (s : List Place) → RepresentsChain K.Between K.kept (L.table self.old.links.now) self.old.list s → ChangesOnlyIn (L.table self.old.links.now) (L.table self.new.links.now) s }
         ensures same { SameLoans self.old self.new }
     {
         self.list.remove(self.links, object);
     }
 
-    /// Puts the object, which has to be a member, behind all others, as [`Chain::move_to_back`] does.
+    /// Puts the object, which has to be a member, after all others, as [`Chain::move_to_back`] does.
     #[inline]
     pub fn move_to_back(&mut self, object: &UnsafeRef<T>)
-        requires member { HasMember (ShowsChain K.Between K.kept (L.table self.old.links.now) self.old.list) object.now }
-        ensures moved { (front back : List Place) → ShowsChain K.Between K.kept (L.table self.old.links.now) self.old.list (front ++ object.now ∷ back)
-            → ShowsChain K.Between K.kept (L.table self.new.links.now) self.new.list ((front ++ back) ++ object.now ∷ []) }
-        ensures no_step { L.Does self.old.links.now self.new.links.now [] }
-        ensures frame { (s : List Place) → ShowsChain K.Between K.kept (L.table self.old.links.now) self.old.list s → KeepsBeside (L.table self.old.links.now) (L.table self.new.links.now) s }
+        requires member { HasMember (RepresentsChain K.Between K.kept (L.table self.old.links.now) self.old.list) object.now }
+        ensures moved { (front back : List Place) → RepresentsChain K.Between K.kept (L.table self.old.links.now) self.old.list (front ++ object.now ∷ back)
+            → RepresentsChain K.Between K.kept (L.table self.new.links.now) self.new.list ((front ++ back) ++ object.now ∷ []) }
+        ensures trace_stays { L.Trace self.old.links.now self.new.links.now [] }
+        ensures frame { (s : List Place) → RepresentsChain K.Between K.kept (L.table self.old.links.now) self.old.list s → ChangesOnlyIn (L.table self.old.links.now) (L.table self.new.links.now) s }
         ensures same { SameLoans self.old self.new }
     {
         self.list.move_to_back(self.links, object);
     }
 
-    /// Puts the object, which has to be a member, in front of all others, as [`Chain::move_to_front`] does.
+    /// Puts the object, which has to be a member, before all others, as [`Chain::move_to_front`] does.
     #[inline]
     pub fn move_to_front(&mut self, object: &UnsafeRef<T>)
-        requires member { HasMember (ShowsChain K.Between K.kept (L.table self.old.links.now) self.old.list) object.now }
-        ensures moved { (front back : List Place) → ShowsChain K.Between K.kept (L.table self.old.links.now) self.old.list (front ++ object.now ∷ back)
-            → ShowsChain K.Between K.kept (L.table self.new.links.now) self.new.list (object.now ∷ (front ++ back)) }
-        ensures no_step { L.Does self.old.links.now self.new.links.now [] }
-        ensures frame { (s : List Place) → ShowsChain K.Between K.kept (L.table self.old.links.now) self.old.list s → KeepsBeside (L.table self.old.links.now) (L.table self.new.links.now) s }
+        requires member { HasMember (RepresentsChain K.Between K.kept (L.table self.old.links.now) self.old.list) object.now }
+        ensures moved { (front back : List Place) → RepresentsChain K.Between K.kept (L.table self.old.links.now) self.old.list (front ++ object.now ∷ back)
+            → RepresentsChain K.Between K.kept (L.table self.new.links.now) self.new.list (object.now ∷ (front ++ back)) }
+        ensures trace_stays { L.Trace self.old.links.now self.new.links.now [] }
+        ensures frame { (s : List Place) → RepresentsChain K.Between K.kept (L.table self.old.links.now) self.old.list s → ChangesOnlyIn (L.table self.old.links.now) (L.table self.new.links.now) s }
         ensures same { SameLoans self.old self.new }
     {
         self.list.move_to_front(self.links, object);

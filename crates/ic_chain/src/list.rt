@@ -6,15 +6,12 @@
 //! ```
 
 ghost use Rattle.std.specs.Prelude.{◌≡◌, ◌≢◌, ◌↔◌, ◌++◌, ◌∷◌, List, [], Option, Some, None, IsTrue, OnOk, OnErr, IfErr, IfSome, IfNone};
-ghost use Rattle.ic_unsafe_ref.specs.declared.place.Place.{Place};
-ghost use Rattle.ic_link_ops.specs.Sequences.{Cut, join, first, last, IsAbsent, IsDisjoint, IsAfter, IsBefore, at_front, at_back, insert, remove, but_last};
+ghost use Rattle.ic_link_ops.specs.Prelude.{Place, Cut, join, first, last, IsAbsent, IsDisjoint, IsAfter, IsBefore, at_front, at_back, insert, remove, but_last, IsCovered, IsLinked, IsNameable, ChangesOnlyIn, acquires, releases};
 ghost use Rattle.std.specs.Bool.{OnTrue, OnFalse};
-ghost use Rattle.ic_link_ops.specs.Tables.{IsCovered, IsLinked, IsNameable, KeepsBeside};
-ghost use Rattle.ic_link_ops.specs.LinkSteps.{acquires, releases};
 ghost use Rattle.ic_link_ops.specs.Edits.{Inserts, Splices, Splits};
-ghost use Rattle.ic_link_ops.specs.Chains.{list_head, empty_list, ShowsChain, ShowsSomeChain, TurnsEnds};
+ghost use Rattle.ic_link_ops.specs.Chains.{list_head, empty_list, RepresentsChain, RepresentsSomeChain, TurnsEnds};
 ghost use Rattle.ic_chain.specs.SplitEnds.{SplitsEnds};
-ghost use Rattle.ic_chain.specs.Walk.{IsTold};
+ghost use Rattle.ic_chain.specs.Walk.{KnowsLast};
 
 use crate::kind::{BidirectionalLinks, DoubleEnded, ForwardLinks, ListKind, SingleEnded};
 use crate::neighbors::{last_from, set_next_or_head, set_prev_or_tail};
@@ -25,7 +22,7 @@ use std::mem;
 
 /// A list of objects, of whatever kind: it keeps its first member, and what its kind keeps of the last one.
 ///
-/// A clause sees these. Which sequence the list has is what the table shows for them.
+/// A clause sees these. Which sequence the list has is what the table represents for them.
 pub struct Chain<K: ListKind, T> {
     head: PlaceWord,
     tail: K::Tail,
@@ -62,7 +59,7 @@ impl<K: ListKind, T> Default for Chain<K, T> {
 }
 
 impl<K: ListKind, T> Chain<K, T> {
-    /// An empty list: every table shows the empty sequence for it.
+    /// An empty list: every table represents the empty sequence for it.
     pub fn new() -> Chain<K, T>
         ensures { result ≡ empty_list K.kept }
     {
@@ -71,7 +68,7 @@ impl<K: ListKind, T> Chain<K, T> {
 
     /// The list with these ends, for who keeps the ends of his lists himself. O(1).
     ///
-    /// It requires nothing of them: which sequence the list has, if any, is what a table shows for it. [`Chain::first`] reads the first again,
+    /// It requires nothing of them: which sequence the list has, if any, is what a table represents for it. [`Chain::first`] reads the first again,
     /// and [`Chain::last`] the last, if the kind keeps it.
     #[inline]
     pub fn from_ends(first: Option<Place>, last: Option<Place>) -> Chain<K, T>
@@ -123,7 +120,7 @@ impl<K: ListKind, T> Chain<K, T> {
 impl<K: SingleEnded, T> Chain<K, T> {
     /// The list with this first place, for who keeps the first place of his lists himself. O(1).
     ///
-    /// It requires nothing of it: which sequence the list has, if any, is what a table shows for it. [`Chain::first`] reads it again.
+    /// It requires nothing of it: which sequence the list has, if any, is what a table represents for it. [`Chain::first`] reads it again.
     #[inline]
     pub fn from_front(first: Option<Place>) -> Chain<K, T>
         ensures { result ≡ list_head first (K.kept None) }
@@ -145,15 +142,15 @@ impl<K: ListKind, T> Chain<K, T> {
     where
         K: ForwardLinks<L>,
         requires covered { IsCovered (L.table links.old) object }
-        requires shown { ShowsSomeChain K.Between K.kept (L.table links.old) self.old }
+        requires shown { RepresentsSomeChain K.Between K.kept (L.table links.old) self.old }
 
-        ensures inserted { (s : List Place) → ShowsChain K.Between K.kept (L.table links.old) self.old s
-            → OnOk result (ShowsChain K.Between K.kept (L.table links.new) self.new (insert (at_front s) object)) }
-        ensures acquired { OnOk result (L.Does links.old links.new (acquires object ∷ [])) }
+        ensures inserted { (s : List Place) → RepresentsChain K.Between K.kept (L.table links.old) self.old s
+            → OnOk result (RepresentsChain K.Between K.kept (L.table links.new) self.new (insert (at_front s) object)) }
+        ensures acquired { OnOk result (L.Trace links.old links.new (acquires object ∷ [])) }
         ensures refused { OnErr result (L.Refused links.old links.new object) }
         ensures unchanged { IfErr result (λ refused. (refused.0 ≡ object) × (self.new ≡ self.old)) }
-        ensures frame { (s : List Place) → ShowsChain K.Between K.kept (L.table links.old) self.old s
-            → KeepsBeside (L.table links.old) (L.table links.new) (object ∷ s) }
+        ensures frame { (s : List Place) → RepresentsChain K.Between K.kept (L.table links.old) self.old s
+            → ChangesOnlyIn (L.table links.old) (L.table links.new) (object ∷ s) }
     {
         let head = self.first();
         if !self.insert_between(links, None, object.place(), head) {
@@ -167,15 +164,15 @@ impl<K: ListKind, T> Chain<K, T> {
     pub fn pop_front<L: LinkOps>(&mut self, links: &mut L) -> Option<UnsafeRef<T>>
     where
         K: ForwardLinks<L>,
-        requires shown { ShowsSomeChain K.Between K.kept (L.table links.old) self.old }
+        requires shown { RepresentsSomeChain K.Between K.kept (L.table links.old) self.old }
 
-        ensures answer { (s : List Place) → ShowsChain K.Between K.kept (L.table links.old) self.old s → result ≡ first s }
-        ensures removed { (s : List Place) → ShowsChain K.Between K.kept (L.table links.old) self.old s
-            → ShowsChain K.Between K.kept (L.table links.new) self.new (remove (at_front s)) }
-        ensures released { IfSome result (λ object. L.Does links.old links.new (releases object ∷ [])) }
+        ensures answer { (s : List Place) → RepresentsChain K.Between K.kept (L.table links.old) self.old s → result ≡ first s }
+        ensures removed { (s : List Place) → RepresentsChain K.Between K.kept (L.table links.old) self.old s
+            → RepresentsChain K.Between K.kept (L.table links.new) self.new (remove (at_front s)) }
+        ensures released { IfSome result (λ object. L.Trace links.old links.new (releases object ∷ [])) }
         ensures empty { IfNone result ((self.new ≡ self.old) × (links.new ≡ links.old)) }
-        ensures frame { (s : List Place) → ShowsChain K.Between K.kept (L.table links.old) self.old s
-            → KeepsBeside (L.table links.old) (L.table links.new) s }
+        ensures frame { (s : List Place) → RepresentsChain K.Between K.kept (L.table links.old) self.old s
+            → ChangesOnlyIn (L.table links.old) (L.table links.new) s }
     {
         let front = self.first()?;
         let behind = K::next(&*links, front, None);
@@ -183,13 +180,13 @@ impl<K: ListKind, T> Chain<K, T> {
         Some(UnsafeRef::new(front))
     }
 
-    // The last member, behind which `behind` is to stand: as it is kept, or found by a walk, unless nothing is to stand there.
+    // The last member, after which `behind` is to stand: as it is kept, or found by a walk, unless nothing is to stand there.
     #[inline]
     pub(crate) fn last_before<L: LinkOps>(&self, links: &L, behind: Option<Place>) -> Option<Place>
     where
         K: ForwardLinks<L>,
-        requires { ShowsSomeChain K.Between K.kept (L.table links.now) self.now }
-        ensures { (s : List Place) → ShowsChain K.Between K.kept (L.table links.now) self.now s → IsTold K.keeps_last result behind (last s) }
+        requires { RepresentsSomeChain K.Between K.kept (L.table links.now) self.now }
+        ensures { (s : List Place) → RepresentsChain K.Between K.kept (L.table links.now) self.now s → KnowsLast K.keeps_last result behind (last s) }
     {
         if K::keeps_last() {
             return self.kept_last();
@@ -211,17 +208,17 @@ impl<K: ListKind, T> Chain<K, T> {
     where
         K: ForwardLinks<L>,
         requires covered { IsCovered (L.table links.old) object }
-        requires shown { (front back : List Place) × ShowsChain K.Between K.kept (L.table links.old) self.old (front ++ out ∷ back)
+        requires shown { (front back : List Place) × RepresentsChain K.Between K.kept (L.table links.old) self.old (front ++ out ∷ back)
             × (before ≡ last front) × (behind ≡ first back) }
-        ensures replaced { (front back : List Place) → ShowsChain K.Between K.kept (L.table links.old) self.old (front ++ out ∷ back)
+        ensures replaced { (front back : List Place) → RepresentsChain K.Between K.kept (L.table links.old) self.old (front ++ out ∷ back)
             → before ≡ last front → behind ≡ first back
-            → OnTrue result (ShowsChain K.Between K.kept (L.table links.new) self.new (front ++ object ∷ back)) }
-        ensures exchanged { OnTrue result (L.Does links.old links.new (acquires object ∷ releases out ∷ [])) }
+            → OnTrue result (RepresentsChain K.Between K.kept (L.table links.new) self.new (front ++ object ∷ back)) }
+        ensures exchanged { OnTrue result (L.Trace links.old links.new (acquires object ∷ releases out ∷ [])) }
         ensures refused { OnFalse result (L.Refused links.old links.new object) }
         ensures unchanged { OnFalse result (self.new ≡ self.old) }
-        ensures frame { (front back : List Place) → ShowsChain K.Between K.kept (L.table links.old) self.old (front ++ out ∷ back)
+        ensures frame { (front back : List Place) → RepresentsChain K.Between K.kept (L.table links.old) self.old (front ++ out ∷ back)
             → before ≡ last front → behind ≡ first back
-            → OnTrue result (KeepsBeside (L.table links.old) (L.table links.new) (object ∷ front ++ out ∷ back)) }
+            → OnTrue result (ChangesOnlyIn (L.table links.old) (L.table links.new) (object ∷ front ++ out ∷ back)) }
     {
         if !links.acquire_link(object) {
             return false;
@@ -242,15 +239,15 @@ impl<K: ListKind, T> Chain<K, T> {
     )
     where
         K: ForwardLinks<L>,
-        requires shown { (front back : List Place) × ShowsChain K.Between K.kept (L.table links.old) self.old (front ++ place ∷ back)
+        requires shown { (front back : List Place) × RepresentsChain K.Between K.kept (L.table links.old) self.old (front ++ place ∷ back)
             × (before ≡ last front) × (behind ≡ first back) }
-        ensures removed { (front back : List Place) → ShowsChain K.Between K.kept (L.table links.old) self.old (front ++ place ∷ back)
+        ensures removed { (front back : List Place) → RepresentsChain K.Between K.kept (L.table links.old) self.old (front ++ place ∷ back)
             → before ≡ last front → behind ≡ first back
-            → ShowsChain K.Between K.kept (L.table links.new) self.new (front ++ back) }
-        ensures released { L.Does links.old links.new (releases place ∷ []) }
-        ensures frame { (front back : List Place) → ShowsChain K.Between K.kept (L.table links.old) self.old (front ++ place ∷ back)
+            → RepresentsChain K.Between K.kept (L.table links.new) self.new (front ++ back) }
+        ensures released { L.Trace links.old links.new (releases place ∷ []) }
+        ensures frame { (front back : List Place) → RepresentsChain K.Between K.kept (L.table links.old) self.old (front ++ place ∷ back)
             → before ≡ last front → behind ≡ first back
-            → KeepsBeside (L.table links.old) (L.table links.new) (front ++ place ∷ back) }
+            → ChangesOnlyIn (L.table links.old) (L.table links.new) (front ++ place ∷ back) }
     {
         self.bypass(links, before, place, behind);
         links.release_link(place);
@@ -271,17 +268,17 @@ impl<K: ListKind, T> Chain<K, T> {
     where
         K: ForwardLinks<L>,
         requires covered { IsCovered (L.table links.old) place }
-        requires shown { (gap : Cut) × ShowsChain K.Between K.kept (L.table links.old) self.old (join gap)
+        requires shown { (gap : Cut) × RepresentsChain K.Between K.kept (L.table links.old) self.old (join gap)
             × IsAfter gap before × IsBefore gap behind }
-        ensures inserted { (gap : Cut) → ShowsChain K.Between K.kept (L.table links.old) self.old (join gap)
-            → IsAfter gap before → IsBefore gap behind → OnTrue result (Inserts (ShowsChain K.Between K.kept)
+        ensures inserted { (gap : Cut) → RepresentsChain K.Between K.kept (L.table links.old) self.old (join gap)
+            → IsAfter gap before → IsBefore gap behind → OnTrue result (Inserts (RepresentsChain K.Between K.kept)
             (L.table links.old) (L.table links.new) self.new gap place) }
-        ensures acquired { OnTrue result (L.Does links.old links.new (acquires place ∷ [])) }
+        ensures acquired { OnTrue result (L.Trace links.old links.new (acquires place ∷ [])) }
         ensures refused { OnFalse result (L.Refused links.old links.new place) }
         ensures unchanged { OnFalse result (self.new ≡ self.old) }
-        ensures frame { (gap : Cut) → ShowsChain K.Between K.kept (L.table links.old) self.old (join gap)
+        ensures frame { (gap : Cut) → RepresentsChain K.Between K.kept (L.table links.old) self.old (join gap)
             → IsAfter gap before → IsBefore gap behind
-            → KeepsBeside (L.table links.old) (L.table links.new) (place ∷ join gap) }
+            → ChangesOnlyIn (L.table links.old) (L.table links.new) (place ∷ join gap) }
     {
         if !K::link_between(links, place, before, behind) {
             return false;
@@ -325,15 +322,15 @@ impl<K: DoubleEnded, T> Chain<K, T> {
     where
         K: ForwardLinks<L>,
         requires covered { IsCovered (L.table links.old) object }
-        requires shown { ShowsSomeChain K.Between K.kept (L.table links.old) self.old }
+        requires shown { RepresentsSomeChain K.Between K.kept (L.table links.old) self.old }
 
-        ensures inserted { (s : List Place) → ShowsChain K.Between K.kept (L.table links.old) self.old s
-            → OnOk result (ShowsChain K.Between K.kept (L.table links.new) self.new (insert (at_back s) object)) }
-        ensures acquired { OnOk result (L.Does links.old links.new (acquires object ∷ [])) }
+        ensures inserted { (s : List Place) → RepresentsChain K.Between K.kept (L.table links.old) self.old s
+            → OnOk result (RepresentsChain K.Between K.kept (L.table links.new) self.new (insert (at_back s) object)) }
+        ensures acquired { OnOk result (L.Trace links.old links.new (acquires object ∷ [])) }
         ensures refused { OnErr result (L.Refused links.old links.new object) }
         ensures unchanged { IfErr result (λ refused. (refused.0 ≡ object) × (self.new ≡ self.old)) }
-        ensures frame { (s : List Place) → ShowsChain K.Between K.kept (L.table links.old) self.old s
-            → KeepsBeside (L.table links.old) (L.table links.new) (object ∷ s) }
+        ensures frame { (s : List Place) → RepresentsChain K.Between K.kept (L.table links.old) self.old s
+            → ChangesOnlyIn (L.table links.old) (L.table links.new) (object ∷ s) }
     {
         let tail = self.last();
         if !self.insert_between(links, tail, object.place(), None) {
@@ -347,15 +344,15 @@ impl<K: DoubleEnded, T> Chain<K, T> {
     pub fn pop_back<L: LinkOps>(&mut self, links: &mut L) -> Option<UnsafeRef<T>>
     where
         K: BidirectionalLinks<L>,
-        requires shown { ShowsSomeChain K.Between K.kept (L.table links.old) self.old }
+        requires shown { RepresentsSomeChain K.Between K.kept (L.table links.old) self.old }
 
-        ensures answer { (s : List Place) → ShowsChain K.Between K.kept (L.table links.old) self.old s → result ≡ last s }
-        ensures removed { (s : List Place) → ShowsChain K.Between K.kept (L.table links.old) self.old s
-            → ShowsChain K.Between K.kept (L.table links.new) self.new (but_last s) }
-        ensures released { IfSome result (λ object. L.Does links.old links.new (releases object ∷ [])) }
+        ensures answer { (s : List Place) → RepresentsChain K.Between K.kept (L.table links.old) self.old s → result ≡ last s }
+        ensures removed { (s : List Place) → RepresentsChain K.Between K.kept (L.table links.old) self.old s
+            → RepresentsChain K.Between K.kept (L.table links.new) self.new (but_last s) }
+        ensures released { IfSome result (λ object. L.Trace links.old links.new (releases object ∷ [])) }
         ensures empty { IfNone result ((self.new ≡ self.old) × (links.new ≡ links.old)) }
-        ensures frame { (s : List Place) → ShowsChain K.Between K.kept (L.table links.old) self.old s
-            → KeepsBeside (L.table links.old) (L.table links.new) s }
+        ensures frame { (s : List Place) → RepresentsChain K.Between K.kept (L.table links.old) self.old s
+            → ChangesOnlyIn (L.table links.old) (L.table links.new) s }
     {
         let back = self.last()?;
         let before = K::prev(&*links, back, None);
@@ -365,7 +362,7 @@ impl<K: DoubleEnded, T> Chain<K, T> {
 }
 
 // The layer under the calls above, for who keeps lists in words of his own and tests them himself: none of these requires that
-// the table shows a sequence.
+// the table represents a sequence.
 impl<K: ListKind, T> Chain<K, T> {
     /// Puts a place that is linked already between two neighbors. O(1).
     ///
@@ -384,11 +381,11 @@ impl<K: ListKind, T> Chain<K, T> {
         requires before { (q : Place) → before ≡ Some q → IsLinked L.linked (L.table links.old) q }
         requires behind { K.NamesPrev → (q : Place) → behind ≡ Some q → IsLinked L.linked (L.table links.old) q }
         requires next { IsNameable L.CanName behind }
-        ensures shows { (front back : List Place) → ShowsChain K.Between K.kept (L.table links.old) self.old (front ++ back)
+        ensures shows { (front back : List Place) → RepresentsChain K.Between K.kept (L.table links.old) self.old (front ++ back)
             → before ≡ last front → behind ≡ first back → IsAbsent place (front ++ back)
-            → ShowsChain K.Between K.kept (L.table links.new) self.new (front ++ place ∷ back) }
+            → RepresentsChain K.Between K.kept (L.table links.new) self.new (front ++ place ∷ back) }
         ensures ends { TurnsEnds K.kept self.old self.new before behind (Some place) (Some place) }
-        ensures no_step { L.Does links.old links.new [] }
+        ensures trace_stays { L.Trace links.old links.new [] }
         ensures extent { (L.table links.new).extent ≡ (L.table links.old).extent }
         ensures others { (q : Place) → before ≢ Some q → q ≢ place → (K.NamesPrev → behind ≢ Some q)
             → (L.table links.new).entry q ≡ (L.table links.old).entry q }
@@ -417,11 +414,11 @@ impl<K: ListKind, T> Chain<K, T> {
         requires behind { K.NamesPrev → (q : Place) → behind ≡ Some q → IsLinked L.linked (L.table links.old) q }
         requires next { IsNameable L.CanName behind }
         requires out { IsNameable L.CanName (Some out) }
-        ensures shows { (front back : List Place) → ShowsChain K.Between K.kept (L.table links.old) self.old (front ++ out ∷ back)
+        ensures shows { (front back : List Place) → RepresentsChain K.Between K.kept (L.table links.old) self.old (front ++ out ∷ back)
             → before ≡ last front → behind ≡ first back → IsAbsent place (front ++ out ∷ back)
-            → ShowsChain K.Between K.kept (L.table links.new) self.new (front ++ place ∷ back) }
+            → RepresentsChain K.Between K.kept (L.table links.new) self.new (front ++ place ∷ back) }
         ensures ends { TurnsEnds K.kept self.old self.new before behind (Some place) (Some place) }
-        ensures no_step { L.Does links.old links.new [] }
+        ensures trace_stays { L.Trace links.old links.new [] }
         ensures extent { (L.table links.new).extent ≡ (L.table links.old).extent }
         ensures others { (q : Place) → before ≢ Some q → q ≢ place → (K.NamesPrev → behind ≢ Some q)
             → (L.table links.new).entry q ≡ (L.table links.old).entry q }
@@ -449,11 +446,11 @@ impl<K: ListKind, T> Chain<K, T> {
         requires behind { K.NamesPrev → (q : Place) → behind ≡ Some q → IsLinked L.linked (L.table links.old) q }
         requires next { IsNameable L.CanName behind }
         requires out { IsNameable L.CanName (Some out) }
-        ensures shows { (front back : List Place) → ShowsChain K.Between K.kept (L.table links.old) self.old (front ++ out ∷ back)
+        ensures shows { (front back : List Place) → RepresentsChain K.Between K.kept (L.table links.old) self.old (front ++ out ∷ back)
             → before ≡ last front → behind ≡ first back
-            → ShowsChain K.Between K.kept (L.table links.new) self.new (front ++ back) }
+            → RepresentsChain K.Between K.kept (L.table links.new) self.new (front ++ back) }
         ensures ends { TurnsEnds K.kept self.old self.new before behind behind before }
-        ensures no_step { L.Does links.old links.new [] }
+        ensures trace_stays { L.Trace links.old links.new [] }
         ensures extent { (L.table links.new).extent ≡ (L.table links.old).extent }
         ensures others { (q : Place) → before ≢ Some q → (K.NamesPrev → behind ≢ Some q)
             → (L.table links.new).entry q ≡ (L.table links.old).entry q }
@@ -465,7 +462,7 @@ impl<K: ListKind, T> Chain<K, T> {
     /// Puts all of the given list, whose last member is `end`, between two neighbors. O(1). An empty list changes nothing.
     ///
     /// It requires only that the places which it writes are linked: both neighbors and both ends of the given list, where they are places. Where
-    /// the kind keeps no last member and nothing stands behind, `end` can be `None`.
+    /// the kind keeps no last member and nothing stands after, `end` can be `None`.
     #[inline]
     pub fn splice_between<L: LinkOps>(
         &mut self,
@@ -483,13 +480,13 @@ impl<K: ListKind, T> Chain<K, T> {
         requires given { IsNameable L.CanName given.head }
         requires first { K.NamesPrev → (q : Place) → given.head ≡ Some q → IsLinked L.linked (L.table links.old) q }
         requires end { (q : Place) → end ≡ Some q → IsLinked L.linked (L.table links.old) q }
-        ensures spliced { (gap : Cut) (t : List Place) → ShowsChain K.Between K.kept (L.table links.old) self.old (join gap)
-            → IsAfter gap before → IsBefore gap behind → ShowsChain K.Between K.kept (L.table links.old) given t
-            → IsTold K.keeps_last end behind (last t) → IsDisjoint t (join gap) → Splices (ShowsChain K.Between K.kept)
+        ensures spliced { (gap : Cut) (t : List Place) → RepresentsChain K.Between K.kept (L.table links.old) self.old (join gap)
+            → IsAfter gap before → IsBefore gap behind → RepresentsChain K.Between K.kept (L.table links.old) given t
+            → KnowsLast K.keeps_last end behind (last t) → IsDisjoint t (join gap) → Splices (RepresentsChain K.Between K.kept)
             (L.table links.old) (L.table links.new) self.new gap t }
         ensures nothing { given.head ≡ None → (self.new ≡ self.old) × (links.new ≡ links.old) }
         ensures ends { (first : Place) → given.head ≡ Some first → TurnsEnds K.kept self.old self.new before behind (Some first) end }
-        ensures no_step { L.Does links.old links.new [] }
+        ensures trace_stays { L.Trace links.old links.new [] }
         ensures extent { (L.table links.new).extent ≡ (L.table links.old).extent }
         ensures others { (q : Place) → before ≢ Some q → (K.NamesPrev → behind ≢ Some q) → (K.NamesPrev → given.head ≢ Some q)
             → end ≢ Some q → (L.table links.new).entry q ≡ (L.table links.old).entry q }
@@ -506,7 +503,7 @@ impl<K: ListKind, T> Chain<K, T> {
         }
     }
 
-    /// Cuts the list between two neighbors: it keeps what is in front of the cut, and the rest is handed out. O(1).
+    /// Cuts the list between two neighbors: it keeps what is before the cut, and the rest is handed out. O(1).
     ///
     /// It requires only that both are linked, where they are places.
     #[inline]
@@ -521,11 +518,11 @@ impl<K: ListKind, T> Chain<K, T> {
         requires before { (q : Place) → before ≡ Some q → IsLinked L.linked (L.table links.old) q }
         requires behind { K.NamesPrev → (q : Place) → behind ≡ Some q → IsLinked L.linked (L.table links.old) q }
         requires next { IsNameable L.CanName behind }
-        ensures split { (gap : Cut) → ShowsChain K.Between K.kept (L.table links.old) self.old (join gap)
-            → IsAfter gap before → IsBefore gap behind → Splits (ShowsChain K.Between K.kept)
+        ensures split { (gap : Cut) → RepresentsChain K.Between K.kept (L.table links.old) self.old (join gap)
+            → IsAfter gap before → IsBefore gap behind → Splits (RepresentsChain K.Between K.kept)
             (L.table links.old) (L.table links.new) self.new result gap.front gap.back }
         ensures ends { SplitsEnds K.kept self.old self.new result before behind }
-        ensures no_step { L.Does links.old links.new [] }
+        ensures trace_stays { L.Trace links.old links.new [] }
         ensures extent { (L.table links.new).extent ≡ (L.table links.old).extent }
         ensures others { (q : Place) → before ≢ Some q → (K.NamesPrev → behind ≢ Some q)
             → (L.table links.new).entry q ≡ (L.table links.old).entry q }

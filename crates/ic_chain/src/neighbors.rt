@@ -1,17 +1,15 @@
 //! What writes a neighbor, or an end of the list where there is none; and what finds the last member.
 
 ghost use Rattle.std.specs.Prelude.{◌≡◌, ◌≢◌, Option, Some, None, List, []};
-ghost use Rattle.ic_unsafe_ref.specs.declared.place.Place.{Place};
-ghost use Rattle.ic_link_ops.specs.Sequences.{last};
-ghost use Rattle.ic_link_ops.specs.Tables.{IsLinked, IsNameable};
+ghost use Rattle.ic_link_ops.specs.Prelude.{Place, last, IsLinked, IsNameable};
 ghost use Rattle.ic_link_ops.specs.Chains.{end_of, TurnsTail, IsStretch};
-ghost use Rattle.ic_link_ops.specs.Turns.{TurnsBehind, TurnsBefore};
+ghost use Rattle.ic_link_ops.specs.Turns.{TurnsAfter, TurnsBefore};
 
 use crate::kind::ForwardLinks;
 use ic_link_ops::{LinkOps, PlaceWord};
 use ic_unsafe_ref::Place;
 
-/// Behind `place` stands `next` now, where `from` stood. Where there is no such place, `next` is the list's head.
+/// After `place` stands `next` now, where `from` stood. Where there is no such place, `next` is the list's head.
 #[inline]
 pub(crate) fn set_next_or_head<K: ForwardLinks<L>, L: LinkOps>(
     links: &mut L,
@@ -23,9 +21,9 @@ pub(crate) fn set_next_or_head<K: ForwardLinks<L>, L: LinkOps>(
     requires linked { (q : Place) → place ≡ Some q → IsLinked L.linked (L.table links.old) q }
     requires from { IsNameable L.CanName from }
     requires to { IsNameable L.CanName next }
-    ensures turns { TurnsBehind K.Between (L.table links.old).entry (L.table links.new).entry place from next }
+    ensures turns { TurnsAfter K.Between (L.table links.old).entry (L.table links.new).entry place from next }
     ensures extent { (L.table links.new).extent ≡ (L.table links.old).extent }
-    ensures no_step { L.Does links.old links.new [] }
+    ensures trace_stays { L.Trace links.old links.new [] }
     ensures head { head.new ≡ end_of place next head.old }
 {
     match place {
@@ -34,7 +32,7 @@ pub(crate) fn set_next_or_head<K: ForwardLinks<L>, L: LinkOps>(
     }
 }
 
-/// In front of `place` stands `prev` now, where `from` stood. Where there is no such place, `prev` is the list's last member.
+/// Before `place` stands `prev` now, where `from` stood. Where there is no such place, `prev` is the list's last member.
 #[inline]
 pub(crate) fn set_prev_or_tail<K: ForwardLinks<L>, L: LinkOps>(
     links: &mut L,
@@ -49,7 +47,7 @@ pub(crate) fn set_prev_or_tail<K: ForwardLinks<L>, L: LinkOps>(
     ensures turns { TurnsBefore K.Between (L.table links.old).entry (L.table links.new).entry place from prev }
     ensures others { (q : Place) → (K.NamesPrev → place ≢ Some q) → (L.table links.new).entry q ≡ (L.table links.old).entry q }
     ensures extent { (L.table links.new).extent ≡ (L.table links.old).extent }
-    ensures no_step { L.Does links.old links.new [] }
+    ensures trace_stays { L.Trace links.old links.new [] }
     ensures tail { TurnsTail K.kept tail.old tail.new place prev }
 {
     match place {

@@ -1,11 +1,8 @@
 //! Calls of some kinds alone, and lists that are made of kept words.
 
 ghost use Rattle.std.specs.Prelude.{◌≡◌, ◌++◌, ◌∷◌, List, []};
-ghost use Rattle.ic_unsafe_ref.specs.declared.place.Place.{Place};
-ghost use Rattle.ic_link_ops.specs.Tables.{IsLinked, KeepsBeside};
-ghost use Rattle.ic_link_ops.specs.LinkSteps.{releases};
-ghost use Rattle.ic_link_ops.specs.Positions.{HasMember};
-ghost use Rattle.ic_link_ops.specs.Chains.{list_head, ShowsChain};
+ghost use Rattle.ic_link_ops.specs.Prelude.{Place, IsLinked, ChangesOnlyIn, HasMember, releases};
+ghost use Rattle.ic_link_ops.specs.Chains.{list_head, RepresentsChain};
 
 use crate::Chain;
 use crate::kind::{DoubleEnded, ListKind, NamesBoth, Reversible};
@@ -20,12 +17,12 @@ impl<K: ListKind, T> Chain<K, T> {
     pub fn remove<L: LinkOps>(&mut self, links: &mut L, object: &UnsafeRef<T>)
     where
         K: NamesBoth<L>,
-        requires member { HasMember (ShowsChain K.Between K.kept (L.table links.old) self.old) object.now }
-        ensures removed { (front back : List Place) → ShowsChain K.Between K.kept (L.table links.old) self.old (front ++ object.now ∷ back)
-            → ShowsChain K.Between K.kept (L.table links.new) self.new (front ++ back) }
-        ensures released { L.Does links.old links.new (releases object.now ∷ []) }
-        ensures frame { (s : List Place) → ShowsChain K.Between K.kept (L.table links.old) self.old s
-            → KeepsBeside (L.table links.old) (L.table links.new) s }
+        requires member { HasMember (RepresentsChain K.Between K.kept (L.table links.old) self.old) object.now }
+        ensures removed { (front back : List Place) → RepresentsChain K.Between K.kept (L.table links.old) self.old (front ++ object.now ∷ back)
+            → RepresentsChain K.Between K.kept (L.table links.new) self.new (front ++ back) }
+        ensures released { L.Trace links.old links.new (releases object.now ∷ []) }
+        ensures frame { (s : List Place) → RepresentsChain K.Between K.kept (L.table links.old) self.old s
+            → ChangesOnlyIn (L.table links.old) (L.table links.new) s }
     {
         let place = object.place();
         let before = K::prev(&*links, place, None);
@@ -35,19 +32,19 @@ impl<K: ListKind, T> Chain<K, T> {
 }
 
 impl<K: DoubleEnded, T> Chain<K, T> {
-    /// Puts the object, which has to be a member, behind all others. O(1), and it takes no memory.
+    /// Puts the object, which has to be a member, after all others. O(1), and it takes no memory.
     ///
     /// The others keep their order. The object stays linked, so that no table can refuse it, and no other thread sees it unlinked.
     #[inline]
     pub fn move_to_back<L: LinkOps>(&mut self, links: &mut L, object: &UnsafeRef<T>)
     where
         K: NamesBoth<L>,
-        requires member { HasMember (ShowsChain K.Between K.kept (L.table links.old) self.old) object.now }
-        ensures moved { (front back : List Place) → ShowsChain K.Between K.kept (L.table links.old) self.old (front ++ object.now ∷ back)
-            → ShowsChain K.Between K.kept (L.table links.new) self.new ((front ++ back) ++ object.now ∷ []) }
-        ensures no_step { L.Does links.old links.new [] }
-        ensures frame { (s : List Place) → ShowsChain K.Between K.kept (L.table links.old) self.old s
-            → KeepsBeside (L.table links.old) (L.table links.new) s }
+        requires member { HasMember (RepresentsChain K.Between K.kept (L.table links.old) self.old) object.now }
+        ensures moved { (front back : List Place) → RepresentsChain K.Between K.kept (L.table links.old) self.old (front ++ object.now ∷ back)
+            → RepresentsChain K.Between K.kept (L.table links.new) self.new ((front ++ back) ++ object.now ∷ []) }
+        ensures trace_stays { L.Trace links.old links.new [] }
+        ensures frame { (s : List Place) → RepresentsChain K.Between K.kept (L.table links.old) self.old s
+            → ChangesOnlyIn (L.table links.old) (L.table links.new) s }
     {
         let place = object.place();
         self.detach(links, place);
@@ -55,19 +52,19 @@ impl<K: DoubleEnded, T> Chain<K, T> {
         self.insert_linked(links, last, place, None);
     }
 
-    /// Puts the object, which has to be a member, in front of all others. O(1), and it takes no memory.
+    /// Puts the object, which has to be a member, before all others. O(1), and it takes no memory.
     ///
     /// The others keep their order, and the object stays linked, as by [`Chain::move_to_back`].
     #[inline]
     pub fn move_to_front<L: LinkOps>(&mut self, links: &mut L, object: &UnsafeRef<T>)
     where
         K: NamesBoth<L>,
-        requires member { HasMember (ShowsChain K.Between K.kept (L.table links.old) self.old) object.now }
-        ensures moved { (front back : List Place) → ShowsChain K.Between K.kept (L.table links.old) self.old (front ++ object.now ∷ back)
-            → ShowsChain K.Between K.kept (L.table links.new) self.new (object.now ∷ (front ++ back)) }
-        ensures no_step { L.Does links.old links.new [] }
-        ensures frame { (s : List Place) → ShowsChain K.Between K.kept (L.table links.old) self.old s
-            → KeepsBeside (L.table links.old) (L.table links.new) s }
+        requires member { HasMember (RepresentsChain K.Between K.kept (L.table links.old) self.old) object.now }
+        ensures moved { (front back : List Place) → RepresentsChain K.Between K.kept (L.table links.old) self.old (front ++ object.now ∷ back)
+            → RepresentsChain K.Between K.kept (L.table links.new) self.new (object.now ∷ (front ++ back)) }
+        ensures trace_stays { L.Trace links.old links.new [] }
+        ensures frame { (s : List Place) → RepresentsChain K.Between K.kept (L.table links.old) self.old s
+            → ChangesOnlyIn (L.table links.old) (L.table links.new) s }
     {
         let place = object.place();
         self.detach(links, place);
@@ -80,13 +77,13 @@ impl<K: DoubleEnded, T> Chain<K, T> {
     fn detach<L: LinkOps>(&mut self, links: &mut L, place: Place)
     where
         K: NamesBoth<L>,
-        requires member { HasMember (ShowsChain K.Between K.kept (L.table links.old) self.old) place }
-        ensures removed { (front back : List Place) → ShowsChain K.Between K.kept (L.table links.old) self.old (front ++ place ∷ back)
-            → ShowsChain K.Between K.kept (L.table links.new) self.new (front ++ back) }
+        requires member { HasMember (RepresentsChain K.Between K.kept (L.table links.old) self.old) place }
+        ensures removed { (front back : List Place) → RepresentsChain K.Between K.kept (L.table links.old) self.old (front ++ place ∷ back)
+            → RepresentsChain K.Between K.kept (L.table links.new) self.new (front ++ back) }
         ensures held { IsLinked L.linked (L.table links.new) place }
-        ensures no_step { L.Does links.old links.new [] }
-        ensures frame { (s : List Place) → ShowsChain K.Between K.kept (L.table links.old) self.old s
-            → KeepsBeside (L.table links.old) (L.table links.new) s }
+        ensures trace_stays { L.Trace links.old links.new [] }
+        ensures frame { (s : List Place) → RepresentsChain K.Between K.kept (L.table links.old) self.old s
+            → ChangesOnlyIn (L.table links.old) (L.table links.new) s }
     {
         let before = K::prev(&*links, place, None);
         let behind = K::next(&*links, place, before);

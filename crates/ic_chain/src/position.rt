@@ -12,9 +12,9 @@ use ic_cursors::Position;
 use ic_link_ops::PlaceWord;
 use ic_unsafe_ref::Place;
 
-/// A position, and what is kept in it of the place behind it.
+/// A position, and what is kept in it of the place after it.
 pub trait ListPosition: Position {
-    // What is kept may stand for this place behind it.
+    // What is kept may stand for this place after it.
     ghost CachesNext: { Self → Option Place → Type 0 };
 
     // Null.
@@ -25,13 +25,13 @@ pub trait ListPosition: Position {
         ensures null { result ≡ null }
         ensures on { Self.member result ≡ None };
 
-    /// On this place, `None` for null, with that place behind it.
+    /// On this place, `None` for null, with that place after it.
     fn of(current: Option<Place>, next: Option<Place>) -> Self
         ensures on { Self.member result ≡ current }
         ensures caches { CachesNext result next };
 }
 
-// The place alone, of which the entry tells what stands behind.
+// The place alone, of which the entry tells what stands after.
 impl ListPosition for PlaceWord {
     ghost CachesNext = { λ at next. ⊤ };
 

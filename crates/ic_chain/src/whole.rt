@@ -6,11 +6,8 @@
 //! ```
 
 ghost use Rattle.std.specs.Prelude.{◌≡◌, ◌↔◌, List, IsTrue};
-ghost use Rattle.ic_unsafe_ref.specs.declared.place.Place.{Place};
-ghost use Rattle.ic_link_ops.specs.Sequences.{IsMember};
-ghost use Rattle.ic_link_ops.specs.Tables.{KeepsBeside};
-ghost use Rattle.ic_link_ops.specs.LinkSteps.{releases_each};
-ghost use Rattle.ic_link_ops.specs.Chains.{ShowsChain, ShowsSomeChain, empty_list};
+ghost use Rattle.ic_link_ops.specs.Prelude.{Place, IsMember, ChangesOnlyIn, releases_each};
+ghost use Rattle.ic_link_ops.specs.Chains.{RepresentsChain, RepresentsSomeChain, empty_list};
 
 use crate::Chain;
 use crate::kind::{ForwardLinks, ListKind};
@@ -23,8 +20,8 @@ impl<K: ListKind, T> Chain<K, T> {
     pub fn contains<L: LinkOps>(&self, links: &L, place: Place) -> bool
     where
         K: ForwardLinks<L>,
-        requires shown { ShowsSomeChain K.Between K.kept (L.table links.now) self.now }
-        ensures { (s : List Place) → ShowsChain K.Between K.kept (L.table links.now) self.now s → IsTrue result ↔ IsMember place s }
+        requires shown { RepresentsSomeChain K.Between K.kept (L.table links.now) self.now }
+        ensures { (s : List Place) → RepresentsChain K.Between K.kept (L.table links.now) self.now s → IsTrue result ↔ IsMember place s }
     {
         let mut current = self.first();
         let mut prev = None;
@@ -44,13 +41,13 @@ impl<K: ListKind, T> Chain<K, T> {
     pub fn clear<L: LinkOps>(&mut self, links: &mut L)
     where
         K: ForwardLinks<L>,
-        requires shown { ShowsSomeChain K.Between K.kept (L.table links.old) self.old }
+        requires shown { RepresentsSomeChain K.Between K.kept (L.table links.old) self.old }
 
         ensures empty { self.new ≡ empty_list K.kept }
-        ensures released { (s : List Place) → ShowsChain K.Between K.kept (L.table links.old) self.old s
-            → L.Does links.old links.new (releases_each s) }
-        ensures frame { (s : List Place) → ShowsChain K.Between K.kept (L.table links.old) self.old s
-            → KeepsBeside (L.table links.old) (L.table links.new) s }
+        ensures released { (s : List Place) → RepresentsChain K.Between K.kept (L.table links.old) self.old s
+            → L.Trace links.old links.new (releases_each s) }
+        ensures frame { (s : List Place) → RepresentsChain K.Between K.kept (L.table links.old) self.old s
+            → ChangesOnlyIn (L.table links.old) (L.table links.new) s }
     {
         let mut current = self.first();
         let mut prev = None;
@@ -66,12 +63,12 @@ impl<K: ListKind, T> Chain<K, T> {
     pub fn dispose<L: LinkOps>(self, links: &mut L)
     where
         K: ForwardLinks<L>,
-        requires shown { ShowsSomeChain K.Between K.kept (L.table links.old) self }
+        requires shown { RepresentsSomeChain K.Between K.kept (L.table links.old) self }
 
-        ensures released { (s : List Place) → ShowsChain K.Between K.kept (L.table links.old) self s
-            → L.Does links.old links.new (releases_each s) }
-        ensures frame { (s : List Place) → ShowsChain K.Between K.kept (L.table links.old) self s
-            → KeepsBeside (L.table links.old) (L.table links.new) s }
+        ensures released { (s : List Place) → RepresentsChain K.Between K.kept (L.table links.old) self s
+            → L.Trace links.old links.new (releases_each s) }
+        ensures frame { (s : List Place) → RepresentsChain K.Between K.kept (L.table links.old) self s
+            → ChangesOnlyIn (L.table links.old) (L.table links.new) s }
     {
         let mut list = self;
         list.clear(links);

@@ -1,9 +1,7 @@
--- A walk through words that nobody vouches for: what it has passed is the front of any sequence that is shown, and all of it at the end.
+-- A walk through words that nobody vouches for: what it has passed is the front of any sequence that is represented, and all of it at the end.
 use Rattle.std.proofs.Common.{◌≡◌, ℕ, ◌+◌, ◌<◌, ◌⊎◌, inl, inr, Option, Some, None, List, [], ◌∷◌, ◌++◌, drop, length, length-append, refl, sym, ◌∙◌, ap, subst, arith, append_assoc, append-nil}
-use Rattle.ic_unsafe_ref.specs.declared.place.Place.{Place}
+use Rattle.ic_link_ops.specs.Prelude.{Place, IsAbsent, IsMember, IsDistinct, first_or, last_or, first, last, Table, IsCovered}
 use Rattle.ic_unsafe_ref.proofs.PlaceLemmas.{same_or_not}
-use Rattle.ic_link_ops.specs.Sequences.{IsAbsent, IsMember, IsDistinct, first_or, last_or, first, last}
-use Rattle.ic_link_ops.specs.Tables.{Table, IsCovered}
 use Rattle.ic_link_ops.specs.Chains.{IsChain}
 use Rattle.ic_link_ops.proofs.SequenceLemmas.{first_or-append, last_or-append, first_is, nothing_first, some_same, none_not, member_split}
 use Rattle.ic_link_ops.proofs.Chains.{chain_cut, chain_glue}
@@ -18,7 +16,7 @@ absent_or q (x ∷ s) = elim (same_or_not q x) [
 ]
 
 module _ {E : Type 0} (between : E → Option Place → Option Place → Type 0) where
-  -- the walk has passed `count` members and has come to `current`. Every sequence that is shown begins with what it has passed
+  -- the walk has passed `count` members and has come to `current`. Every sequence that is represented begins with what it has passed
   pub record Checks (t : Table E) (head before current : Option Place) (count : ℕ) : Type 0 where
     pub done : List Place
     pub chain : IsChain between t.entry None done current
@@ -27,7 +25,7 @@ module _ {E : Type 0} (between : E → Option Place → Option Place → Type 0)
     pub counted : count ≡ length done
     pub leads : (s : List Place) → IsChain between t.entry None s None → head ≡ first s → (rest : List Place) × (s ≡ done ++ rest) × (current ≡ first rest)
 
--- `law`: an entry tells what stands behind who knows what stands in front
+-- `law`: an entry tells what stands after who knows what stands before
 module _ {E : Type 0} {between : E → Option Place → Option Place → Type 0} (step : E → Option Place → Option Place) (law : (e : E) (b a : Option Place) → between e b a → step e b ≡ a) where
   module _ {t : Table E} {head before current : Option Place} {count : ℕ} where
     -- at first nothing is passed
@@ -41,7 +39,7 @@ module _ {E : Type 0} {between : E → Option Place → Option Place → Type 0}
       leads = λ s chain starts. (s, refl, sym e ∙ starts);
     }
 
-  -- HOW THE MEMBER STANDS in any sequence that is shown
+  -- HOW THE MEMBER STANDS in any sequence that is represented
   pub checks_stands : {t : Table E} {head before current : Option Place} {p : Place} {count : ℕ} (k : Checks between t head before current count) → current ≡ Some p
       → (s : List Place) → IsChain between t.entry None s None → head ≡ first s
       → (rest : List Place) × (s ≡ k.done ++ p ∷ rest) × between (t.entry p) before (first rest)
@@ -84,7 +82,7 @@ module _ {E : Type 0} {between : E → Option Place → Option Place → Type 0}
       let few = stretch_length {between = between} t covered {b = None} {from = first s} {to = last s} {a = None} {w = s} (record { distinct = distinct; chain = chain; starts = refl; ends = refl }) in
       omega (arith, few, k.counted, ap length l.1, length-append k.done (p ∷ l.0))
 
--- `law`: an entry alone tells what stands behind
+-- `law`: an entry alone tells what stands after
 module _ {E : Type 0} {between : E → Option Place → Option Place → Type 0} (next : E → Option Place) (law : (e : E) (b a : Option Place) → between e b a → next e ≡ a) where
   -- two chains from one place on are one, whatever stands before
   one_chain : (t : Place → E) (b c : Option Place) (s r : List Place) → first s ≡ first r → IsChain between t b s None → IsChain between t c r None → s ≡ r
@@ -113,7 +111,7 @@ module _ {E : Type 0} {between : E → Option Place → Option Place → Type 0}
       → IsDistinct k.done × IsChain between t.entry None k.done None × (head ≡ first k.done)
   checks_all {t} k over = let chain = rw over at k.chain in (chain_distinct t.entry None k.done chain, chain, k.starts ∙ ap (first_or k.done) over)
 
--- what an entry tells stands behind, whatever stands in front
+-- what an entry tells stands after, whatever stands before
 abbrev pub next_of : {E : Type 0} → (E → Option Place → Option Place) → E → Option Place
 next_of step e = step e None
 
@@ -122,6 +120,6 @@ module _ {E : Type 0} {between : E → Option Place → Option Place → Type 0}
       → (e : E) (b a : Option Place) → between e b a → next_of step e ≡ a
   leads_on blind leads e b a h = blind e None b ∙ leads e b a h
 
-  -- what stands between two places stands in front of what it tells
+  -- what stands between two places stands before what it tells
   pub stands_after : ((e : E) (b a : Option Place) → between e b a → step e b ≡ a) → {e : E} {b a : Option Place} → between e b a → between e b (step e b)
   stands_after leads {e} {b} {a} h = subst (between e b) (sym (leads e b a h)) h

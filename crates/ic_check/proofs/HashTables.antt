@@ -3,15 +3,10 @@ use Rattle.std.proofs.Common.{◌≡◌, ℕ, suc, ◌+◌, ◌<◌, ◌≤◌, 
 use Rattle.std.specs.Bool.{Decides}
 use Rattle.std.specs.List.{AllByRecursion}
 use Rattle.std.proofs.Math.Seq.{drop-cons}
-use Rattle.ic_unsafe_ref.specs.declared.place.Place.{Place}
-use Rattle.ic_unsafe_ref.specs.Objects.{Objects, object_at, is_placed, at_indexes}
-use Rattle.ic_unsafe_ref.specs.Places.{index_of}
+use Rattle.ic_link_ops.specs.Prelude.{Place, index_of, Objects, object_at, is_placed, at_indexes, IsAbsent, IsDistinct, IsDisjoint, first, Table, ArePlaced}
 use Rattle.ic_unsafe_ref.proofs.IndexLemmas.{in_range, placed_in_range}
 use Rattle.ic_link_ops.specs.Chains.{IsChain}
-use Rattle.ic_link_ops.specs.PlacedObjects.{ArePlaced}
-use Rattle.ic_link_ops.specs.Sequences.{IsAbsent, IsDistinct, IsDisjoint, first}
 use Rattle.ic_link_ops.specs.SinglyLinkedList.{Successor}
-use Rattle.ic_link_ops.specs.Tables.{Table}
 use Rattle.ic_link_ops.proofs.Clearing.{Releases, releases_none, releases_more}
 use Rattle.ic_link_ops.proofs.Each.{all_back, all_both, all_front}
 use Rattle.ic_link_ops.proofs.SequenceLemmas.{first_is, nothing_first, some_same}
@@ -22,8 +17,8 @@ use Rattle.ic_hash_table.specs.Chains.{AreChained}
 use Rattle.ic_hash_table.specs.HashTable.{BelongsIn, HasChains, Holds, HoldsSome}
 use Rattle.ic_hash_table.specs.Slots.{slot_of}
 use Rattle.ic_hash_table.proofs.Chains.{chain_one}
-use Rattle.ic_check.specs.Checked.{IsShown, ShowsNone}
-use Rattle.ic_check.specs.HashTables.{IsPlacedIn, ShowsOwn}
+use Rattle.ic_check.specs.Checked.{IsRepresented, RepresentsNone}
+use Rattle.ic_check.specs.HashTables.{IsPlacedIn, RepresentsOwn}
 use Rattle.ic_check.proofs.Marking.{distinct_both, drop_none}
 
 -- an index is in range exactly where a value is placed
@@ -103,7 +98,7 @@ module _ {V : Type 0} (slots : Slots) (hash : V → ℕ) (objects : Objects V) (
   all_apart [] own done before = tt
   all_apart (p ∷ chain) own done before = (apart_from p own.0 done before, all_apart chain own.1 done before)
 
--- the walk along a chain that is shown, whose members before `current` are own ones
+-- the walk along a chain that is represented, whose members before `current` are own ones
 module _ {E : Type 0} (between : E → Option Place → Option Place → Type 0) (Own : Place → Type 0) where
   pub record Owns (t : Table E) (chain : List Place) (current : Option Place) : Type 0 where
     pub walk : Releases between t t chain current
@@ -153,15 +148,15 @@ module _ {E A B V : Type 0} {successor : E → Successor} {hash : A → V → �
     at_next : i < length (fronts table.buckets) → drop i (fronts table.buckets) ≡ slice_index_or (fronts table.buckets) i None ∷ drop (suc i) (fronts table.buckets)
     at_next within = drop-cons (fronts table.buckets) i None within
 
-    both_distinct : (chain : List Place) → ShowsOwn successor hash fronts t table objects i chain → IsDistinct (k.done ++ chain)
+    both_distinct : (chain : List Place) → RepresentsOwn successor hash fronts t table objects i chain → IsDistinct (k.done ++ chain)
     both_distinct chain c = distinct_both k.done chain k.distinct c.shown.distinct (all_apart table.slots (hash table.adapter) objects i chain c.own k.done k.before)
 
     -- few members are in these chains
-    pub few_checked : {n : ℕ} → IsShown (ShowsOwn successor hash fronts t table objects i) n → count + n ≤ 8589934591
+    pub few_checked : {n : ℕ} → IsRepresented (RepresentsOwn successor hash fronts t table objects i) n → count + n ≤ 8589934591
     few_checked (chain, c, many) = omega (arith, few_places (k.done ++ chain) (both_distinct chain c), k.counted, many, length-append k.done chain)
 
     -- ONE CHAIN MORE
-    chains_one_more : {n more : ℕ} → i < length (fronts table.buckets) → IsShown (ShowsOwn successor hash fronts t table objects i) n → more ≡ count + n
+    chains_one_more : {n more : ℕ} → i < length (fronts table.buckets) → IsRepresented (RepresentsOwn successor hash fronts t table objects i) n → more ≡ count + n
         → ChecksChains successor hash fronts t table objects (suc i) (drop (suc i) (fronts table.buckets)) more
     chains_one_more {n} {more} within (chain, c, many) counts = record {
       done = k.done ++ chain;
@@ -178,13 +173,13 @@ module _ {E A B V : Type 0} {successor : E → Successor} {hash : A → V → �
           (h.1, h.5, l.2 ∙ ap (λ (x : List Place). k.done ++ x) (h.2 ∙ ap (λ (x : List Place). x ++ h.1) (chain_one h.3 c.shown)) ∙ sym (append_assoc k.done chain h.1));
     }
 
-    pub chains_more : {n more next : ℕ} → i < length (fronts table.buckets) → IsShown (ShowsOwn successor hash fronts t table objects i) n → more ≡ count + n → suc i ≡ next
+    pub chains_more : {n more next : ℕ} → i < length (fronts table.buckets) → IsRepresented (RepresentsOwn successor hash fronts t table objects i) n → more ≡ count + n → suc i ≡ next
         → ChecksChains successor hash fronts t table objects next (drop next (fronts table.buckets)) more
     chains_more {more = more} within shown counts is_next =
         subst (λ (j : ℕ). ChecksChains successor hash fronts t table objects j (drop j (fronts table.buckets)) more) is_next (chains_one_more within shown counts)
 
     -- none is held where the chain has no own members
-    pub not_held : i < length (fronts table.buckets) → ShowsNone (ShowsOwn successor hash fronts t table objects i) → HoldsSome successor hash fronts t table objects → ⊥
+    pub not_held : i < length (fronts table.buckets) → RepresentsNone (RepresentsOwn successor hash fronts t table objects i) → HoldsSome successor hash fronts t table objects → ⊥
     not_held within never (s, held) =
         let l = k.leads s held.chained in
         let h = subst (λ (fs : List (Option Place)). AreChained successor (BelongsIn table.slots (hash table.adapter) objects) t i fs l.0) (at_next within) l.1 in

@@ -1,10 +1,7 @@
 -- A walk through words that nobody vouches for, which marks each place that it meets.
 use Rattle.std.proofs.Common.{◌≡◌, ℕ, ◌+◌, ◌<◌, ◌≤◌, Bool, true, false, Option, Some, None, List, [], ◌∷◌, length, slice_set, refl, sym, ◌∙◌, ap, subst, arith, true≢false}
-use Rattle.ic_unsafe_ref.specs.declared.place.Place.{Place}
-use Rattle.ic_unsafe_ref.specs.Places.{index_of}
-use Rattle.ic_link_ops.specs.Sequences.{IsDistinct, first_or, first, last}
-use Rattle.ic_link_ops.specs.Tables.{Table, IsCovered}
-use Rattle.ic_link_ops.specs.Chains.{IsChain, ShowsChain}
+use Rattle.ic_link_ops.specs.Prelude.{Place, index_of, IsDistinct, first_or, first, last, Table, IsCovered}
+use Rattle.ic_link_ops.specs.Chains.{IsChain, RepresentsChain}
 use Rattle.ic_link_ops.proofs.SequenceLemmas.{absent_left, distinct_middle}
 use Rattle.ic_link_ops.proofs.Chains.{chain_absent}
 use Rattle.ic_link_ops.proofs.Walks.{few_places, stretch_length}
@@ -60,7 +57,7 @@ module _ {E : Type 0} {between : E → Option Place → Option Place → Type 0}
     walks_only linked held = only_also linked t k.also (λ p off. chain_absent between linked held t.entry None k.checks.done current p k.checks.chain off)
 
     -- THE END: all of it is passed
-    pub walks_all : {W : Type 0} {kept : Option Place → W} {tail : W} → current ≡ None → tail ≡ kept before → IsGathered (ShowsChain between kept t (record { head = head; tail = tail })) old marks count
+    pub walks_all : {W : Type 0} {kept : Option Place → W} {tail : W} → current ≡ None → tail ≡ kept before → IsGathered (RepresentsChain between kept t (record { head = head; tail = tail })) old marks count
     walks_all {kept = kept} over ends = (
       k.checks.done,
       record {

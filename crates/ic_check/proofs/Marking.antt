@@ -1,15 +1,12 @@
 -- Marks of members, collection by collection.
 use Rattle.std.proofs.Common.{◌≡◌, ℕ, zero, suc, ◌+◌, ◌*◌, ◌<◌, ◌≤◌, Bool, not, MatchOption, IfSome, cond, true, false, Option, Some, None, List, [], ◌∷◌, ◌++◌, drop, length, length-append, slice_set, slice_index_or, refl, sym, ap, ◌∙◌, subst, arith, append_assoc, append-nil, true≢false, inl, inr}
-use Rattle.ic_unsafe_ref.specs.declared.place.Place.{Place}
-use Rattle.ic_unsafe_ref.specs.Places.{index_of, place_at}
+use Rattle.ic_link_ops.specs.Prelude.{Place, index_of, place_at, IsAbsent, IsMember, IsDistinct, IsDisjoint, first, Table, IsLinked}
 use Rattle.ic_unsafe_ref.proofs.PlaceLemmas.{same_or_not, same_index, place_with, place_at_word}
-use Rattle.ic_link_ops.specs.Sequences.{IsAbsent, IsMember, IsDistinct, IsDisjoint, first}
-use Rattle.ic_link_ops.specs.Tables.{Table, IsLinked}
 use Rattle.ic_link_ops.proofs.EntryLemmas.{others_same, entry_same}
 use Rattle.ic_link_ops.proofs.SequenceLemmas.{absent_left, absent_right, absent_both, first_is, nothing_first, distinct_middle, distinct_disjoint, distinct_splice, disjoint_left, disjoint_sym}
 use Rattle.ic_link_ops.proofs.Walks.{few_places}
 use Rattle.std.proofs.lemmas.Bool.{cases_lt}
-use Rattle.ic_check.specs.WholeTables.{ShowsEach, ShowsEachOnce, AreUnmarked, MarksAlso, MarksLinked, IsGathered, IsMarking, LeavesMarked, ShowsNoneUnmarked, is_marked, many_marked, IsMissed}
+use Rattle.ic_check.specs.WholeTables.{RepresentsEach, RepresentsEachOnce, AreUnmarked, MarksAlso, MarksLinked, IsGathered, IsMarking, LeavesMarked, RepresentsNoneUnmarked, is_marked, many_marked, IsMissed}
 use Rattle.ic_check.proofs.Checking.{absent_or}
 use Rattle.std.proofs.lemmas.List.{length-set, get_or-set_other, get_or_past}
 use Rattle.std.proofs.lemmas.List.Sums.{sum_by-set, sum_by-cons}
@@ -123,7 +120,7 @@ marks_none {s} {marks} e k = record {
 }
 
 module _ {s : List Place} {old marks : List Bool} {current : Option Place} {left : ℕ} (m : Marks s old marks current left) where
-  -- THE MEMBER that it has come to, and what is behind
+  -- THE MEMBER that it has come to, and what is after
   pub record Here (p : Place) : Type 0 where
     pub behind : List Place
     pub rest_is : m.rest ≡ p ∷ behind
@@ -172,8 +169,8 @@ module _ {H : Type 0} (shows : H → List Place → Type 0) where
     pub free : AreUnmarked old done
     pub also : MarksAlso old marks done
     pub counted : count ≡ length done
-    pub builds : (s : List Place) → ShowsEach shows rest s → ShowsEach shows all (done ++ s)
-    pub leads : (s : List Place) → ShowsEach shows all s → (back : List Place) × ShowsEach shows rest back × (s ≡ done ++ back)
+    pub builds : (s : List Place) → RepresentsEach shows rest s → RepresentsEach shows all (done ++ s)
+    pub leads : (s : List Place) → RepresentsEach shows all s → (back : List Place) × RepresentsEach shows rest back × (s ≡ done ++ back)
 
   pub gathers_none : (all : List H) (marks : List Bool) → Gathers all all marks marks 0
   gathers_none all marks = record { done = []; distinct = tt; free = tt; also = also_none marks; counted = refl; builds = λ s h. h; leads = λ s h. (s, h, refl) }
@@ -195,35 +192,35 @@ module _ {H : Type 0} (shows : H → List Place → Type 0) where
       also = also_on g.also also;
       counted = omega (arith, counts, g.counted, many, length-append g.done s);
       builds = λ back each.
-          subst (ShowsEach shows all) (sym (append_assoc g.done s back)) (g.builds (s ++ back) (rw is (s, back, shown, each, refl)));
+          subst (RepresentsEach shows all) (sym (append_assoc g.done s back)) (g.builds (s ++ back) (rw is (s, back, shown, each, refl)));
       leads = λ whole each.
           let l = g.leads whole each in
-          let k : ShowsEach shows (one ∷ others) l.0 = subst (λ (x : List H). ShowsEach shows x l.0) is l.1 in
+          let k : RepresentsEach shows (one ∷ others) l.0 = subst (λ (x : List H). RepresentsEach shows x l.0) is l.1 in
           (k.1, k.3, l.2 ∙ ap (λ (x : List Place). g.done ++ x) (k.4 ∙ ap (λ (x : List Place). x ++ k.1) (single k.0 s k.2 shown)) ∙ sym (append_assoc g.done s k.1));
     }
 
-    -- none is shown for a collection of which no member was marked
-    pub not_gathered : ShowsNoneUnmarked (shows one) marks → ShowsNoneUnmarked (ShowsEachOnce shows all) old
+    -- none is represented for a collection of which no member was marked
+    pub not_gathered : RepresentsNoneUnmarked (shows one) marks → RepresentsNoneUnmarked (RepresentsEachOnce shows all) old
     not_gathered never whole once free =
         let l = g.leads whole once.each in
-        let k : ShowsEach shows (one ∷ others) l.0 = subst (λ (x : List H). ShowsEach shows x l.0) is l.1 in
+        let k : RepresentsEach shows (one ∷ others) l.0 = subst (λ (x : List H). RepresentsEach shows x l.0) is l.1 in
         let parts : whole ≡ g.done ++ (k.0 ++ k.1) = l.2 ∙ ap (λ (x : List Place). g.done ++ x) k.4 in
         let apart = disjoint_sym g.done k.0 (disjoint_left g.done k.0 k.1 (distinct_disjoint g.done (k.0 ++ k.1) (subst IsDistinct parts once.distinct))) in
         let here = unmarked_front old k.0 k.1 (unmarked_back old g.done (k.0 ++ k.1) (subst (AreUnmarked old) parts free)) in
         never k.0 k.2 (unmarked_beside g.also k.0 apart here)
 
   -- ALL ARE CHECKED
-  pub gathered : {all rest : List H} {old marks : List Bool} {count : ℕ} (g : Gathers all rest old marks count) → rest ≡ [] → IsGathered (ShowsEachOnce shows all) old marks count
+  pub gathered : {all rest : List H} {old marks : List Bool} {count : ℕ} (g : Gathers all rest old marks count) → rest ≡ [] → IsGathered (RepresentsEachOnce shows all) old marks count
   gathered {all} g over = (
     g.done,
-    record { each = subst (ShowsEach shows all) (append-nil g.done) (g.builds [] (rw over refl)); distinct = g.distinct },
+    record { each = subst (RepresentsEach shows all) (append-nil g.done) (g.builds [] (rw over refl)); distinct = g.distinct },
     sym g.counted,
     g.free,
     g.also,
   )
 
-  -- one sequence is shown for a row at most
-  pub each_one : ((c : H) (s r : List Place) → shows c s → shows c r → s ≡ r) → (all : List H) (s r : List Place) → ShowsEach shows all s → ShowsEach shows all r → s ≡ r
+  -- one sequence is represented for a row at most
+  pub each_one : ((c : H) (s r : List Place) → shows c s → shows c r → s ≡ r) → (all : List H) (s r : List Place) → RepresentsEach shows all s → RepresentsEach shows all r → s ≡ r
   each_one single [] s r h k = h ∙ sym k
   each_one single (c ∷ all) s r h k = h.4 ∙ ap (λ (x : List Place). x ++ h.1) (single c h.0 k.0 h.2 k.2) ∙ ap (λ (x : List Place). k.0 ++ x) (each_one single all h.1 k.1 h.3 k.3) ∙ sym k.4
 
@@ -245,7 +242,7 @@ module _ {old new : List Bool} (none : (p : Place) → is_marked old p ≡ false
   left_marked shows shown many = (s, shown, marking, omega (arith, also.more, zero_before, many))
 
 pub left_gathered : (shows : List Place → Type 0) (old new : List Bool) → ((p : Place) → is_marked old p ≡ false) → many_marked old ≡ 0 → (o : Option ℕ)
-    → MatchOption o (ShowsNoneUnmarked shows old) (IsGathered shows old new) → IfSome o (LeavesMarked shows new)
+    → MatchOption o (RepresentsNoneUnmarked shows old) (IsGathered shows old new) → IfSome o (LeavesMarked shows new)
 left_gathered shows old new none zero_before None h = tt
 left_gathered shows old new none zero_before (Some count) (s, shown, many, free, also) = left_marked none zero_before also shows shown many
 
@@ -292,7 +289,7 @@ none_marked (x ∷ marks) none =
     let first : weigh x ≡ 0 = ap weigh (none 0) in
     omega (arith, sum_by-cons weigh x marks, first, none_marked marks (λ j. none (suc j)))
 
--- behind the last of a list there is nothing
+-- after the last of a list there is nothing
 pub drop_none : {X : Type 0} (xs : List X) (i : ℕ) → length xs ≤ i → drop i xs ≡ []
 drop_none [] zero h = refl
 drop_none [] (suc i) h = refl

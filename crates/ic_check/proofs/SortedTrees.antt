@@ -1,4 +1,4 @@
--- Two walks side by side, the one a value behind the other: all is sorted exactly if what the one behind has left is.
+-- Two walks side by side, the one a value after the other: all is sorted exactly if what the one after has left is.
 use Rattle.std.proofs.Common.{◌≡◌, true, Option, Some, None, List, [], ◌∷◌, map, sym, ◌∙◌, ap, subst}
 use Rattle.std.specs.Borrow.{Bor}
 use Rattle.std.specs.Option.{IfSome, is_some}
@@ -21,7 +21,7 @@ module _ {V K : Type 0} (cmp : K → K → Ordering) (key : V → K) where
   abbrev pub Rise : List V → Type 0
   Rise s = IsSorted cmp (map key s)
 
-  -- one walk is a value behind the other, and all are sorted exactly if what it has left is
+  -- one walk is a value after the other, and all are sorted exactly if what it has left is
   pub record GoesOn (all behind left : List V) : Type 0 where
     pub value : V
     pub is : behind ≡ value ∷ left

@@ -2,14 +2,12 @@
 use Rattle.std.proofs.Common.{◌≡◌, ℕ, ◌+◌, ◌≤◌, true, MatchOption, Option, Some, None, List, [], ◌∷◌, ◌++◌, length, length-append, refl, sym, ap, ◌∙◌, subst, arith, append_assoc}
 use Rattle.std.proofs.Math.Nat.{max-le, le-max_left, le-max_right}
 use Rattle.std.specs.List.{AllByRecursion}
-use Rattle.ic_unsafe_ref.specs.declared.place.Place.{Place}
+use Rattle.ic_link_ops.specs.Prelude.{Place, IsAbsent, IsDistinct, IsDisjoint, Table}
 use Rattle.ic_link_ops.specs.declared.color.Color.{Color}
 use Rattle.ic_link_ops.specs.declared.color.Color.TheVariants.{Red, Black}
-use Rattle.ic_link_ops.specs.Sequences.{IsAbsent, IsDistinct, IsDisjoint}
 use Rattle.ic_link_ops.specs.Trees.{Tree, leaf, fork, top, in_order}
 use Rattle.ic_link_ops.specs.Shape.{top_color, weight, blacks}
-use Rattle.ic_link_ops.specs.Tables.{Table}
-use Rattle.ic_link_ops.specs.RedBlackTree.{Node, IsTree, Shows}
+use Rattle.ic_link_ops.specs.RedBlackTree.{Node, IsTree, Represents}
 use Rattle.ic_link_ops.proofs.Each.{all_both, all_map}
 use Rattle.ic_link_ops.proofs.SequenceLemmas.{none_not, some_same, absent_both, distinct_left, distinct_right, distinct_insert, distinct_disjoint, distinct_splice}
 use Rattle.ic_link_ops.proofs.Trees.{top_not, one_tree}
@@ -94,13 +92,13 @@ module _ {E : Type 0} (n : E → Node) (entry : Place → E) where
           apart u.1 u.2 (v.2 ∙ ap Some (sym (same_before u.0 v.0 (p ∷ w) u.1 v.1 same)))
 
   -- what the entry of a member says that may stand below `up`
-  pub record Stands (up : Option Place) (p : Place) : Type 0 where
+  pub record MayStandBelow (up : Option Place) (p : Place) : Type 0 where
     pub linked : (n (entry p)).linked ≡ true
     pub parent : (n (entry p)).parent ≡ up
     pub apart : AreApart (n (entry p)).left (n (entry p)).right
 
   pub stands_there : {up left right : Option Place} {p : Place} → (n (entry p)).linked ≡ true → (n (entry p)).parent ≡ up
-      → left ≡ (n (entry p)).left → right ≡ (n (entry p)).right → AreApart left right → Stands up p
+      → left ≡ (n (entry p)).left → right ≡ (n (entry p)).right → AreApart left right → MayStandBelow up p
   stands_there linked parent left right apart = record { linked = linked; parent = parent; apart = λ q e f. apart q (left ∙ e) (right ∙ f) }
 
   -- from there the parents lead on, and beyond the root
@@ -112,7 +110,7 @@ module _ {E : Type 0} (n : E → Node) (entry : Place → E) where
     pub a : Tree
     pub b : Tree
     pub is : t ≡ fork (n (entry p)).color a p b
-    pub stands : Stands up p
+    pub stands : MayStandBelow up p
     pub left : IsSound n entry (Some p) (n (entry p)).left a
     pub right : IsSound n entry (Some p) (n (entry p)).right b
     pub no_red_pair : AreNoRedPair (n (entry p)).color (top_color a) (top_color b)
@@ -159,7 +157,7 @@ module _ {E : Type 0} (n : E → Node) (entry : Place → E) where
       let k = parts t up p s in omega (arith, none, low, ap height k.is, le-max_left (height k.a) (height k.b))
 
   -- nor where the entry says otherwise
-  pub stands_not : {levels : ℕ} {up : Option Place} {p : Place} → (Stands up p → ⊥) → HasNoTree n entry levels up (Some p)
+  pub stands_not : {levels : ℕ} {up : Option Place} {p : Place} → (MayStandBelow up p → ⊥) → HasNoTree n entry levels up (Some p)
   stands_not {levels} {up} {p} never t s low = never (parts t up p s).stands
 
   -- nor where none stands on a side
@@ -182,19 +180,19 @@ module _ {E : Type 0} (n : E → Node) (entry : Place → E) where
 
   module _ {p : Place} {few : ℕ} {left right : Subtree}
       (x : IsTreeBelow n entry few (Some p) (n (entry p)).left left) (y : IsTreeBelow n entry few (Some p) (n (entry p)).right right) where
-    both_distinct : {up : Option Place} → HasPathUp n entry up → Stands up p → IsDistinct (in_order (fork (n (entry p)).color x.0 p y.0))
+    both_distinct : {up : Option Place} → HasPathUp n entry up → MayStandBelow up p → IsDistinct (in_order (fork (n (entry p)).color x.0 p y.0))
     both_distinct path stands =
         fork_distinct (n (entry p)).color x.0 p y.0 path.0 (refl, rw stands.parent path.1) x.1.entries y.1.entries
         (λ q e f. stands.apart q (x.1.starts ∙ e) (y.1.starts ∙ f)) x.1.distinct y.1.distinct
 
     -- two subtrees have few members
-    pub few_members : {up : Option Place} → HasPathUp n entry up → Stands up p → left.members + right.members ≤ 8589934591
+    pub few_members : {up : Option Place} → HasPathUp n entry up → MayStandBelow up p → left.members + right.members ≤ 8589934591
     few_members path stands =
         let few = few_places (in_order (fork (n (entry p)).color x.0 p y.0)) (both_distinct path stands) in
         omega (arith, few, x.3.members, y.3.members, length-append (in_order x.0) (p ∷ in_order y.0))
 
     -- JOINED they are one
-    pub joined : {up : Option Place} {levels : ℕ} {found : Subtree} → HasPathUp n entry up → Stands up p → few + 1 ≤ levels → IsJoined (n (entry p)).color left right found → IsTreeBelow n entry levels up (Some p) found
+    pub joined : {up : Option Place} {levels : ℕ} {found : Subtree} → HasPathUp n entry up → MayStandBelow up p → few + 1 ≤ levels → IsJoined (n (entry p)).color left right found → IsTreeBelow n entry levels up (Some p) found
     joined {up} {levels} {found} path stands fits j = (
       fork (n (entry p)).color x.0 p y.0,
       record {
@@ -224,14 +222,14 @@ module _ {E : Type 0} (n : E → Node) (entry : Place → E) where
         (λ red. let r = k.no_red_pair red in (x.3.color ∙ ap top_color a ∙ r.0, y.3.color ∙ ap top_color b ∙ r.1))
 
     -- WHAT JOINS THEM tells whether there is one
-    pub told : {up : Option Place} {levels : ℕ} {c : Color} → HasPathUp n entry up → Stands up p → few + 1 ≤ levels → c ≡ (n (entry p)).color → (o : Option Subtree)
+    pub told : {up : Option Place} {levels : ℕ} {c : Color} → HasPathUp n entry up → MayStandBelow up p → few + 1 ≤ levels → c ≡ (n (entry p)).color → (o : Option Subtree)
         → MatchOption o (AreUnlike c left right) (IsJoined c left right) → MatchOption o (HasNoTree n entry levels up (Some p)) (IsTreeBelow n entry levels up (Some p))
     told path stands fits color None h = unlike (subst (λ (k : Color). AreUnlike k left right) color h)
     told path stands fits color (Some found) h = joined path stands fits (subst (λ (k : Color). IsJoined k left right found) color h)
 
 module _ {E : Type 0} {n : E → Node} {t : Table E} {root : Option Place} where
   -- WHAT IS SHOWN is sound, and no higher than 66
-  pub sound : {s : List Place} (shown : Shows n t root s) → IsSound n t.entry None root shown.tree
+  pub sound : {s : List Place} (shown : Represents n t root s) → IsSound n t.entry None root shown.tree
   sound shown = record {
     entries = shown.held.entries;
     starts = shown.starts;
@@ -240,26 +238,26 @@ module _ {E : Type 0} {n : E → Node} {t : Table E} {root : Option Place} where
     even = shown.shape.even;
   }
 
-  pub low : {s : List Place} (shown : Shows n t root s) → height shown.tree ≤ 66
+  pub low : {s : List Place} (shown : Represents n t root s) → height shown.tree ≤ 66
   low shown =
       let few = few_places (in_order shown.tree) (sound shown).distinct in
       exponent_small (height shown.tree) (length (in_order shown.tree) + 1) (omega (arith, few)) (height_few shown.tree shown.shape)
 
-  -- so what no walk finds is not shown
-  pub none_shown : HasNoTree n t.entry 66 None root → (s : List Place) → Shows n t root s → ⊥
-  none_shown none s shown = none shown.tree (sound shown) (low shown)
+  -- so what no walk finds is not represented
+  pub none_represented : HasNoTree n t.entry 66 None root → (s : List Place) → Represents n t root s → ⊥
+  none_represented none s shown = none shown.tree (sound shown) (low shown)
 
   -- nor is a tree with a red root
-  pub red_not_shown : {levels : ℕ} {found : Subtree} → IsTreeBelow n t.entry levels None root found → found.color ≡ Red → (s : List Place) → Shows n t root s → ⊥
-  red_not_shown x red s shown =
+  pub red_not_represented : {levels : ℕ} {found : Subtree} → IsTreeBelow n t.entry levels None root found → found.color ≡ Red → (s : List Place) → Represents n t root s → ⊥
+  red_not_represented x red s shown =
       let same = one_tree n t.entry None x.0 shown.tree x.1.entries shown.held.entries (sym x.1.starts ∙ shown.starts) in
       let color : Red ≡ Black = sym red ∙ x.3.color ∙ ap top_color same ∙ shown.shape.black_root in
       cc
 
   -- and one with a black root is
-  pub black_shown : {levels : ℕ} {found : Subtree} → IsTreeBelow n t.entry levels None root found → found.color ≡ Black
-      → (s : List Place) × Shows n t root s × (length s ≡ found.members)
-  black_shown x black = (
+  pub black_represented : {levels : ℕ} {found : Subtree} → IsTreeBelow n t.entry levels None root found → found.color ≡ Black
+      → (s : List Place) × Represents n t root s × (length s ≡ found.members)
+  black_represented x black = (
     in_order x.0,
     record {
       tree = x.0;

@@ -1,14 +1,12 @@
 -- What a check of a hash table finds in one chain.
 use Rattle.std.specs.Prelude.{◌≡◌, ℕ, Option, Some, List}
 use Rattle.std.specs.List.{AllByRecursion}
-use Rattle.ic_unsafe_ref.specs.declared.place.Place.{Place}
-use Rattle.ic_unsafe_ref.specs.Objects.{Objects, object_at}
-use Rattle.ic_link_ops.specs.Tables.{Table}
+use Rattle.ic_link_ops.specs.Prelude.{Place, Objects, object_at, Table}
 use Rattle.ic_link_ops.specs.SinglyLinkedList.{Successor}
 use Rattle.ic_hash_table.specs.declared.slots.Slots.{Slots}
 use Rattle.ic_hash_table.specs.declared.table.HashTable.{HashTable}
 use Rattle.ic_hash_table.specs.Slots.{slot_of}
-use Rattle.ic_hash_table.specs.Chains.{ShowsFrom}
+use Rattle.ic_hash_table.specs.Chains.{RepresentsFrom}
 use Rattle.ic_hash_table.specs.HashTable.{front_at}
 
 -- an object is placed there, and belongs in chain i
@@ -17,6 +15,6 @@ IsPlacedIn {V} slots hash objects i p = (value : V) × (object_at objects p ≡ 
 
 -- CHAIN i IS SHOWN with these members, each of which is placed and belongs there
 module _ {E A B V : Type 0} (successor : E → Successor) (hash : A → V → ℕ) (fronts : B → List (Option Place)) (t : Table E) (table : HashTable A B) (objects : Objects V) where
-  pub record ShowsOwn (i : ℕ) (chain : List Place) : Type 0 where
-    pub shown : ShowsFrom successor t (front_at fronts table i) chain
+  pub record RepresentsOwn (i : ℕ) (chain : List Place) : Type 0 where
+    pub shown : RepresentsFrom successor t (front_at fronts table i) chain
     pub own : AllByRecursion (IsPlacedIn table.slots (hash table.adapter) objects i) chain

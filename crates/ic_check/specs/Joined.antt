@@ -2,9 +2,8 @@
 use Rattle.std.specs.Prelude.{◌≡◌, ℕ, true, not, bit_xor, Option}
 use Rattle.std.proofs.Common.{sym, ap, ◌∙◌, eq-eqb, true≢false, arith}
 use Rattle.std.proofs.lemmas.Nat.{xor_comm}
-use Rattle.ic_unsafe_ref.specs.declared.place.Place.{Place}
+use Rattle.ic_link_ops.specs.Prelude.{Place, place_at, word_of}
 use Rattle.ic_unsafe_ref.specs.PlaceWords.{IsWord}
-use Rattle.ic_unsafe_ref.specs.Places.{place_at, word_of}
 use Rattle.ic_unsafe_ref.proofs.PlaceLemmas.{word_at, word_fits, xor_fits}
 use Rattle.ic_link_ops.specs.declared.linked_list.TwoWords.{TwoWords}
 use Rattle.ic_link_ops.specs.declared.marked_word.MarkedWord.{MarkedWord}

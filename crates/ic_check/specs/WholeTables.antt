@@ -2,37 +2,34 @@
 use Rattle.std.specs.Prelude.{◌≡◌, ℕ, ◌+◌, Bool, true, false, List, [], ◌∷◌, ◌++◌, length, count_by}
 use Rattle.std.specs.Bool.{Decides}
 use Rattle.std.specs.List.{AllByRecursion}
-use Rattle.ic_unsafe_ref.specs.declared.place.Place.{Place}
-use Rattle.ic_unsafe_ref.specs.Places.{index_of}
+use Rattle.ic_link_ops.specs.Prelude.{Place, index_of, IsAbsent, IsMember, IsDistinct, Table, IsLinked}
 use Rattle.ic_link_ops.specs.PlainTables.{entry_at}
-use Rattle.ic_link_ops.specs.Sequences.{IsAbsent, IsMember, IsDistinct}
-use Rattle.ic_link_ops.specs.Tables.{Table, IsLinked}
 
 module _ {H : Type 0} (shows : H → List Place → Type 0) where
-  -- each list shows a sequence, and these are s one after the other
-  abbrev pub ShowsEach : List H → List Place → Type 0
-  ShowsEach [] s = s ≡ []
-  ShowsEach (list ∷ lists) s = (front back : List Place) × shows list front × ShowsEach lists back × (s ≡ front ++ back)
+  -- each list represents a sequence, and these are s one after the other
+  abbrev pub RepresentsEach : List H → List Place → Type 0
+  RepresentsEach [] s = s ≡ []
+  RepresentsEach (list ∷ lists) s = (front back : List Place) × shows list front × RepresentsEach lists back × (s ≡ front ++ back)
 
   -- and no place stands twice in it
-  pub record ShowsEachOnce (lists : List H) (s : List Place) : Type 0 where
-    pub each : ShowsEach lists s
+  pub record RepresentsEachOnce (lists : List H) (s : List Place) : Type 0 where
+    pub each : RepresentsEach lists s
     pub distinct : IsDistinct s
 
   -- THE WHOLE TABLE: besides, no place is a member of two of them, and none but their members is linked
-  pub record ShowsAll {E : Type 0} (linked : E → Bool) (t : Table E) (lists : List H) (s : List Place) : Type 0 where
-    pub each : ShowsEach lists s
+  pub record RepresentsAll {E : Type 0} (linked : E → Bool) (t : Table E) (lists : List H) (s : List Place) : Type 0 where
+    pub each : RepresentsEach lists s
     pub distinct : IsDistinct s
     pub only : (p : Place) → IsLinked linked t p → IsMember p s
 
 -- THE WHOLE TABLE OF TWO ROWS of collections: those of the second one have the rest of s
 module _ {H G : Type 0} (shows : H → List Place → Type 0) (others : G → List Place → Type 0) where
-  pub record ShowsBoth {E : Type 0} (linked : E → Bool) (t : Table E) (first : List H) (second : List G) (s : List Place) : Type 0 where
+  pub record RepresentsBoth {E : Type 0} (linked : E → Bool) (t : Table E) (first : List H) (second : List G) (s : List Place) : Type 0 where
     pub front : List Place
     pub back : List Place
     pub parts : s ≡ front ++ back
-    pub each : ShowsEach shows first front
-    pub each_other : ShowsEach others second back
+    pub each : RepresentsEach shows first front
+    pub each_other : RepresentsEach others second back
     pub distinct : IsDistinct s
     pub only : (p : Place) → IsLinked linked t p → IsMember p s
 
@@ -63,16 +60,16 @@ pub record MarksAlso (old new : List Bool) (s : List Place) : Type 0 where
   pub marked : (p : Place) → IsMember p s → is_marked new p ≡ true
   pub others : (p : Place) → IsAbsent p s → is_marked new p ≡ is_marked old p
 
--- what a check of one collection says that marks its members: so many are shown, none of them was marked, and they are marked now
+-- what a check of one collection says that marks its members: so many are represented, none of them was marked, and they are marked now
 module _ (shows : List Place → Type 0) where
   abbrev pub IsGathered : List Bool → List Bool → ℕ → Type 0
   IsGathered old new count = (s : List Place) × shows s × (length s ≡ count) × AreUnmarked old s × MarksAlso old new s
 
-  -- no sequence is shown of which no member is marked
-  abbrev pub ShowsNoneUnmarked : List Bool → Type 0
-  ShowsNoneUnmarked old = (s : List Place) → shows s → AreUnmarked old s → ⊥
+  -- no sequence is represented of which no member is marked
+  abbrev pub RepresentsNoneUnmarked : List Bool → Type 0
+  RepresentsNoneUnmarked old = (s : List Place) → shows s → AreUnmarked old s → ⊥
 
-  -- THE MARKS THAT ARE LEFT: those of the members of a sequence that is shown, so many, and no other
+  -- THE MARKS THAT ARE LEFT: those of the members of a sequence that is represented, so many, and no other
   abbrev pub LeavesMarked : List Bool → ℕ → Type 0
   LeavesMarked marks count = (s : List Place) × shows s × IsMarking marks s × (many_marked marks ≡ count)
 

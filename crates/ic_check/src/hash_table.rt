@@ -9,11 +9,11 @@ ghost use Rattle.std.specs.Prelude.{◌<◌, List, MatchOption, length};
 ghost use Rattle.std.specs.Bool.{Decides};
 ghost use Rattle.std.specs.List.{AllByRecursion};
 ghost use Rattle.ic_unsafe_ref.specs.declared.place.Place.{Place};
-ghost use Rattle.ic_hash_table.specs.Chains.{ShowsFrom, ShowsFromSome};
+ghost use Rattle.ic_hash_table.specs.Chains.{RepresentsFrom, RepresentsFromSome};
 ghost use Rattle.ic_hash_table.specs.HashTable.{adapter_of, front_at, fronts_of, slots_of, number, HasChains, HoldsSome};
 ghost use Rattle.ic_hash_table.specs.Slots.{IsWellFormed};
-ghost use Rattle.ic_check.specs.Checked.{IsShown, ShowsNone};
-ghost use Rattle.ic_check.specs.HashTables.{IsPlacedIn, ShowsOwn};
+ghost use Rattle.ic_check.specs.Checked.{IsRepresented, RepresentsNone};
+ghost use Rattle.ic_check.specs.HashTables.{IsPlacedIn, RepresentsOwn};
 
 use crate::list::check;
 use crate::placed::TellsPlaced;
@@ -53,7 +53,7 @@ pub fn check_hash_table<
     members == table.len()
 }
 
-// How many members chain `at` has, `None` if the table shows no sequence for it, or if a member of it is not placed, or belongs elsewhere.
+// How many members chain `at` has, `None` if the table represents no sequence for it, or if a member of it is not placed, or belongs elsewhere.
 fn check_chain<
     A: HashAdapter,
     B: BucketRow,
@@ -63,8 +63,8 @@ fn check_chain<
     requires within { at < length (fronts_of B.fronts table.now) }
     requires well_formed { IsWellFormed (slots_of table.now) }
     ensures { MatchOption result
-        (ShowsNone (ShowsOwn L.successor (number A.key_of A.hash_of) B.fronts (L.table links.now) table.now (O.values objects.now) at))
-        (IsShown (ShowsOwn L.successor (number A.key_of A.hash_of) B.fronts (L.table links.now) table.now (O.values objects.now) at)) }
+        (RepresentsNone (RepresentsOwn L.successor (number A.key_of A.hash_of) B.fronts (L.table links.now) table.now (O.values objects.now) at))
+        (IsRepresented (RepresentsOwn L.successor (number A.key_of A.hash_of) B.fronts (L.table links.now) table.now (O.values objects.now) at)) }
 {
     let front = table.buckets().front(at);
     let chain: SinglyLinkedList<A::Value> = SinglyLinkedList::from_front(front);
@@ -86,9 +86,9 @@ fn are_own<A: HashAdapter, B, L: SinglyLinkedListOps, O: TellsPlaced<A::Value>>(
     front: Option<Place>,
     at: usize,
 ) -> bool
-    requires shown { ShowsFromSome L.successor (L.table links.now) front }
+    requires shown { RepresentsFromSome L.successor (L.table links.now) front }
     requires well_formed { IsWellFormed (slots_of table.now) }
-    ensures { (chain : List Place) → ShowsFrom L.successor (L.table links.now) front chain
+    ensures { (chain : List Place) → RepresentsFrom L.successor (L.table links.now) front chain
         → Decides result (AllByRecursion (IsPlacedIn (slots_of table.now) (number A.key_of A.hash_of (adapter_of table.now)) (O.values objects.now) at) chain) }
 {
     let mut current = front;

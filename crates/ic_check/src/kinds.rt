@@ -7,8 +7,7 @@
 ghost use Rattle.std.specs.Prelude.{◌≡◌, Option};
 ghost use Rattle.std.specs.Bool.{Decides};
 ghost use Rattle.std.proofs.Common.{refl};
-ghost use Rattle.ic_unsafe_ref.specs.declared.place.Place.{Place};
-ghost use Rattle.ic_link_ops.specs.Tables.{IsLinked};
+ghost use Rattle.ic_link_ops.specs.Prelude.{Place, IsLinked};
 
 use crate::joined::JoinsAny;
 use ic_chain::{Chain, ForwardLinks};
@@ -24,7 +23,7 @@ use ic_xor_linked_list::XorLinked;
 ///
 /// Each kind is such: doubly and singly linked lists over all tables, and XOR lists over those that are [`JoinsAny`].
 pub trait TellsNeighbors<L: LinkOps>: ForwardLinks<L> {
-    /// Whether `place` stands behind `prev`, as its entry says. It requires that the place is linked. At most one reading.
+    /// Whether `place` stands after `prev`, as its entry says. It requires that the place is linked. At most one reading.
     fn stands_behind(links: &L, place: Place, prev: Option<Place>) -> bool
         requires linked { IsLinked L.linked (L.table links.now) place }
         ensures { Decides result (Self.Between ((L.table links.now).entry place) prev (Self.step ((L.table links.now).entry place) prev)) };
@@ -34,12 +33,12 @@ pub trait TellsNeighbors<L: LinkOps>: ForwardLinks<L> {
         ensures { Decides result (list.now.tail ≡ Self.kept last) };
 }
 
-/// A kind of lists whose entries tell what stands behind by themselves, so that a walk which ends has met no place twice.
+/// A kind of lists whose entries tell what stands after by themselves, so that a walk which ends has met no place twice.
 ///
 /// Doubly and singly linked lists are such. An XOR list is none: between other neighbors an entry leads elsewhere.
 pub trait NamesItsNext<L: LinkOps>: TellsNeighbors<L> {
-    // The law: what stands behind is told, whatever stands in front.
-    ghost tells_behind: { (e : L.Entry) (b c : Option Place) → Self.step e b ≡ Self.step e c };
+    // The law: what stands after is told, whatever stands before.
+    ghost tells_after: { (e : L.Entry) (b c : Option Place) → Self.step e b ≡ Self.step e c };
 }
 
 impl<L: LinkedListOps> TellsNeighbors<L> for DoublyLinked {
@@ -55,7 +54,7 @@ impl<L: LinkedListOps> TellsNeighbors<L> for DoublyLinked {
 }
 
 impl<L: LinkedListOps> NamesItsNext<L> for DoublyLinked {
-    ghost tells_behind = { λ e b c. refl };
+    ghost tells_after = { λ e b c. refl };
 }
 
 impl<L: SinglyLinkedListOps> TellsNeighbors<L> for SinglyLinked {
@@ -76,7 +75,7 @@ impl<L: SinglyLinkedListOps> TellsNeighbors<L> for SinglyLinked {
 }
 
 impl<L: SinglyLinkedListOps> NamesItsNext<L> for SinglyLinked {
-    ghost tells_behind = { λ e b c. refl };
+    ghost tells_after = { λ e b c. refl };
 }
 
 impl<L: JoinsAny> TellsNeighbors<L> for XorLinked {

@@ -1,7 +1,7 @@
-//! Whether a table shows a sequence for a collection, of whose words nobody vouches.
+//! Whether a table represents a sequence for a collection, of whose words nobody vouches.
 //!
 //! A table that was read from a file, or that others write too, may hold anything. A check walks the words once, and says how many members
-//! the collection has, or that the table shows no sequence for it. It requires nothing of the words. Where it answers a number, every
+//! the collection has, or that the table represents no sequence for it. It requires nothing of the words. Where it answers a number, every
 //! contract of the collection holds of the table.
 //!
 //! ```text

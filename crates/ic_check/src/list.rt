@@ -1,23 +1,23 @@
 //! The check of a list.
 //!
 //! ```text
-//! check(&list, &links) // Some(3): the table shows three members for the list
+//! check(&list, &links) // Some(3): the table represents three members for the list
 //! ```
 
 ghost use Rattle.std.specs.Prelude.{MatchOption};
-ghost use Rattle.ic_link_ops.specs.Chains.{ShowsChain};
-ghost use Rattle.ic_check.specs.Checked.{IsShown, ShowsNone};
+ghost use Rattle.ic_link_ops.specs.Chains.{RepresentsChain};
+ghost use Rattle.ic_check.specs.Checked.{IsRepresented, RepresentsNone};
 
 use crate::kinds::NamesItsNext;
 use crate::tells::TellsLinks;
 use ic_chain::Chain;
 
-/// How many members the table shows for the list, `None` if it shows no sequence for it.
+/// How many members the table represents for the list, `None` if it represents no sequence for it.
 ///
 /// It requires nothing of the words. O(n) for n members, and at most as many steps as the table covers places. It takes no memory.
 pub fn check<K: NamesItsNext<L>, T, L: TellsLinks>(list: &Chain<K, T>, links: &L) -> Option<usize>
-    ensures { MatchOption result (ShowsNone (ShowsChain K.Between K.kept (L.table links.now) list.now))
-        (IsShown (ShowsChain K.Between K.kept (L.table links.now) list.now)) }
+    ensures { MatchOption result (RepresentsNone (RepresentsChain K.Between K.kept (L.table links.now) list.now))
+        (IsRepresented (RepresentsChain K.Between K.kept (L.table links.now) list.now)) }
 {
     let mut count: usize = 0;
     let mut before = None;

@@ -7,9 +7,8 @@
 ghost use Rattle.std.specs.Prelude.{◌≡◌, List, map};
 ghost use Rattle.std.specs.Bool.{Decides};
 ghost use Rattle.std.specs.declared.cmp.Ordering.TheVariants.{Greater};
-ghost use Rattle.ic_unsafe_ref.specs.declared.place.Place.{Place};
-ghost use Rattle.ic_link_ops.specs.PlacedObjects.{ShowsPlaced, values_at};
-ghost use Rattle.ic_link_ops.specs.RedBlackTree.{Shows};
+ghost use Rattle.ic_link_ops.specs.Prelude.{Place, RepresentsPlaced, values_at};
+ghost use Rattle.ic_link_ops.specs.RedBlackTree.{Represents};
 ghost use Rattle.ic_rbtree.specs.Borders.{IsSorted};
 ghost use Rattle.ic_rbtree.specs.Tree.{root_of, adapter_of};
 
@@ -26,8 +25,8 @@ pub fn is_sorted<A: KeyAdapter, L: RBTreeOps, O: Values<A::Value>>(
     links: &L,
     objects: &O,
 ) -> bool
-    requires placed { ShowsPlaced (Shows L.node (L.table links.now) (root_of tree.now)) (O.values objects.now) }
-    ensures { (s : List Place) → Shows L.node (L.table links.now) (root_of tree.now) s
+    requires placed { RepresentsPlaced (Represents L.node (L.table links.now) (root_of tree.now)) (O.values objects.now) }
+    ensures { (s : List Place) → Represents L.node (L.table links.now) (root_of tree.now) s
         → Decides result (IsSorted A.Key.cmp (map (A.key_of (adapter_of tree.now)) (values_at (O.values objects.now) s))) }
 {
     let mut walk = tree.iter(links, objects);

@@ -1,15 +1,15 @@
 //! The check of a tree.
 //!
 //! ```text
-//! check_tree(&tree, &links) // Some(3): the table shows a red-black tree of three members
+//! check_tree(&tree, &links) // Some(3): the table represents a red-black tree of three members
 //! ```
 
 ghost use Rattle.std.specs.Prelude.{◌≡◌, ◌<◌, ◌≤◌, ◌+◌, MatchOption};
 ghost use Rattle.std.specs.Bool.{Decides};
-ghost use Rattle.ic_link_ops.specs.RedBlackTree.{Shows};
+ghost use Rattle.ic_link_ops.specs.RedBlackTree.{Represents};
 ghost use Rattle.ic_link_ops.specs.Shape.{weight};
 ghost use Rattle.ic_rbtree.specs.Tree.{root_of};
-ghost use Rattle.ic_check.specs.Checked.{IsShown, ShowsNone};
+ghost use Rattle.ic_check.specs.Checked.{IsRepresented, RepresentsNone};
 ghost use Rattle.ic_check.specs.Subtrees.{AreApart, AreNoRedPair, AreUnlike, IsJoined, HasPathUp, IsTreeBelow, HasNoTree};
 
 use crate::kinds::is_same;
@@ -30,13 +30,13 @@ struct Subtree {
     color: Color,
 }
 
-/// How many members the table shows for the tree, `None` if it shows no tree of the right shape with its root.
+/// How many members the table represents for the tree, `None` if it represents no tree of the right shape with its root.
 ///
 /// It requires nothing of the words. Each child has to name the member above it as its parent, so no place is met twice: O(n) for n
 /// members that it meets, at most 67 calls deep. It takes no memory.
 pub fn check_tree<A, L: RBTreeOps + TellsLinks>(tree: &RBTree<A>, links: &L) -> Option<usize>
-    ensures { MatchOption result (ShowsNone (Shows L.node (L.table links.now) (root_of tree.now)))
-        (IsShown (Shows L.node (L.table links.now) (root_of tree.now))) }
+    ensures { MatchOption result (RepresentsNone (Represents L.node (L.table links.now) (root_of tree.now)))
+        (IsRepresented (Represents L.node (L.table links.now) (root_of tree.now))) }
 {
     let Some(found) = check_below(links, tree.root(), None, HIGHEST) else {
         return None;

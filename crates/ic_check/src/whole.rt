@@ -1,19 +1,17 @@
 //! Checks with a mark for each place: of a list of any kind, and of a whole table.
 //!
 //! ```text
-//! check_marking(&xor_list, &links, &mut marks)     // Some(3): the table shows three members for the list
+//! check_marking(&xor_list, &links, &mut marks)     // Some(3): the table represents three members for the list
 //! check_all(&[ready, waiting], &links, &mut marks) // Some(5): five members, and nothing else is linked
 //! check_both(&lists, &trees, &links, &mut marks)   // the same of a table with lists and trees
 //! ```
 
 ghost use Rattle.std.specs.Prelude.{◌≡◌, ◌<◌, ◌≤◌, MatchOption, IfSome, length, true, false};
 ghost use Rattle.std.specs.Bool.{Decides};
-ghost use Rattle.ic_unsafe_ref.specs.declared.place.Place.{Place};
-ghost use Rattle.ic_unsafe_ref.specs.Places.{index_of};
-ghost use Rattle.ic_link_ops.specs.Chains.{ShowsChain};
-ghost use Rattle.ic_link_ops.specs.Tables.{IsLinked};
-ghost use Rattle.ic_check.specs.Checked.{IsShown, ShowsNone};
-ghost use Rattle.ic_check.specs.WholeTables.{ShowsAll, ShowsBoth, ShowsEachOnce, IsGathered, ShowsNoneUnmarked, IsMissed, LeavesMarked, MarksLinked, is_marked, many_marked};
+ghost use Rattle.ic_link_ops.specs.Prelude.{Place, index_of, IsLinked};
+ghost use Rattle.ic_link_ops.specs.Chains.{RepresentsChain};
+ghost use Rattle.ic_check.specs.Checked.{IsRepresented, RepresentsNone};
+ghost use Rattle.ic_check.specs.WholeTables.{RepresentsAll, RepresentsBoth, RepresentsEachOnce, IsGathered, RepresentsNoneUnmarked, IsMissed, LeavesMarked, MarksLinked, is_marked, many_marked};
 
 use crate::gather::Gather;
 use crate::kinds::TellsNeighbors;
@@ -24,7 +22,7 @@ use ic_unsafe_ref::Place;
 // So many places have words.
 const ALL_PLACES: usize = 8_589_934_591;
 
-/// How many members the table shows for the list, `None` if it shows no sequence for it: the check of a list of any kind.
+/// How many members the table represents for the list, `None` if it represents no sequence for it: the check of a list of any kind.
 ///
 /// A list whose entries name no next place by themselves may lead through a place twice and still end right, so it takes a mark for each
 /// place that the table covers, whatever it says. Where it answers a number, the members alone are marked then, and no mark is left from before;
@@ -35,9 +33,9 @@ pub fn check_marking<K: TellsNeighbors<L>, T, L: TellsLinks>(
     marks: &mut [bool],
 ) -> Option<usize>
     requires room { (L.table links.now).extent.places ≤ length marks.old }
-    ensures shown { MatchOption result (ShowsNone (ShowsChain K.Between K.kept (L.table links.now) list.now))
-        (IsShown (ShowsChain K.Between K.kept (L.table links.now) list.now)) }
-    ensures marked { IfSome result (LeavesMarked (ShowsChain K.Between K.kept (L.table links.now) list.now) marks.new) }
+    ensures shown { MatchOption result (RepresentsNone (RepresentsChain K.Between K.kept (L.table links.now) list.now))
+        (IsRepresented (RepresentsChain K.Between K.kept (L.table links.now) list.now)) }
+    ensures marked { IfSome result (LeavesMarked (RepresentsChain K.Between K.kept (L.table links.now) list.now) marks.new) }
     ensures only { (p : Place) → is_marked marks.new p ≡ true → IsLinked L.linked (L.table links.now) p }
     ensures length { length marks.new ≡ length marks.old }
 {
@@ -45,7 +43,7 @@ pub fn check_marking<K: TellsNeighbors<L>, T, L: TellsLinks>(
     list.gather(links, marks)
 }
 
-/// How many members all these collections have, `None` if the table shows no sequence for one of them, if two share a place, or if a place
+/// How many members all these collections have, `None` if the table represents no sequence for one of them, if two share a place, or if a place
 /// is linked that is no member.
 ///
 /// The collections are lists of one kind, or trees. It requires nothing of the words, and a mark for each place that the table covers,
@@ -57,10 +55,10 @@ pub fn check_all<C: Gather<L>, L: TellsLinks>(
 ) -> Option<usize>
     requires room { (L.table links.now).extent.places ≤ length marks.old }
     ensures shown { MatchOption result
-        (ShowsNone (ShowsAll (λ c. C.Shows c (L.table links.now)) L.linked (L.table links.now) collections.now))
-        (IsShown (ShowsAll (λ c. C.Shows c (L.table links.now)) L.linked (L.table links.now) collections.now)) }
+        (RepresentsNone (RepresentsAll (λ c. C.Represents c (L.table links.now)) L.linked (L.table links.now) collections.now))
+        (IsRepresented (RepresentsAll (λ c. C.Represents c (L.table links.now)) L.linked (L.table links.now) collections.now)) }
     ensures marked { IfSome result
-        (LeavesMarked (ShowsAll (λ c. C.Shows c (L.table links.now)) L.linked (L.table links.now) collections.now) marks.new) }
+        (LeavesMarked (RepresentsAll (λ c. C.Represents c (L.table links.now)) L.linked (L.table links.now) collections.now) marks.new) }
     ensures only { (p : Place) → is_marked marks.new p ≡ true → IsLinked L.linked (L.table links.now) p }
     ensures length { length marks.new ≡ length marks.old }
 {
@@ -84,12 +82,12 @@ pub fn check_both<C: Gather<L>, D: Gather<L>, L: TellsLinks>(
 ) -> Option<usize>
     requires room { (L.table links.now).extent.places ≤ length marks.old }
     ensures shown { MatchOption result
-        (ShowsNone (ShowsBoth (λ c. C.Shows c (L.table links.now)) (λ c. D.Shows c (L.table links.now)) L.linked (L.table links.now)
+        (RepresentsNone (RepresentsBoth (λ c. C.Represents c (L.table links.now)) (λ c. D.Represents c (L.table links.now)) L.linked (L.table links.now)
         first.now second.now))
-        (IsShown (ShowsBoth (λ c. C.Shows c (L.table links.now)) (λ c. D.Shows c (L.table links.now)) L.linked (L.table links.now)
+        (IsRepresented (RepresentsBoth (λ c. C.Represents c (L.table links.now)) (λ c. D.Represents c (L.table links.now)) L.linked (L.table links.now)
         first.now second.now)) }
     ensures marked { IfSome result
-        (LeavesMarked (ShowsBoth (λ c. C.Shows c (L.table links.now)) (λ c. D.Shows c (L.table links.now)) L.linked (L.table links.now)
+        (LeavesMarked (RepresentsBoth (λ c. C.Represents c (L.table links.now)) (λ c. D.Represents c (L.table links.now)) L.linked (L.table links.now)
         first.now second.now) marks.new) }
     ensures only { (p : Place) → is_marked marks.new p ≡ true → IsLinked L.linked (L.table links.now) p }
     ensures length { length marks.new ≡ length marks.old }
@@ -108,7 +106,7 @@ pub fn check_both<C: Gather<L>, D: Gather<L>, L: TellsLinks>(
     }
 }
 
-// How many members the table shows for all these collections, which it marks, `None` if it shows no sequence for one of them, if two share
+// How many members the table represents for all these collections, which it marks, `None` if it represents no sequence for one of them, if two share
 // a place, or if one of the members was marked.
 fn gather_each<C: Gather<L>, L: TellsLinks>(
     collections: &[C],
@@ -117,8 +115,8 @@ fn gather_each<C: Gather<L>, L: TellsLinks>(
 ) -> Option<usize>
     requires room { (L.table links.now).extent.places ≤ length marks.old }
     ensures gathered { MatchOption result
-        (ShowsNoneUnmarked (ShowsEachOnce (λ c. C.Shows c (L.table links.now)) collections.now) marks.old)
-        (IsGathered (ShowsEachOnce (λ c. C.Shows c (L.table links.now)) collections.now) marks.old marks.new) }
+        (RepresentsNoneUnmarked (RepresentsEachOnce (λ c. C.Represents c (L.table links.now)) collections.now) marks.old)
+        (IsGathered (RepresentsEachOnce (λ c. C.Represents c (L.table links.now)) collections.now) marks.old marks.new) }
     ensures only { MarksLinked L.linked (L.table links.now) marks.old marks.new }
     ensures length { length marks.new ≡ length marks.old }
 {

@@ -3,10 +3,8 @@ use Rattle.std.proofs.Common.{◌≡◌, ◌≢◌, ℕ, Bool, true, false, cond
 use Rattle.std.proofs.Math.ListN.{get_or-map}
 use Rattle.std.proofs.lemmas.Bool.{false_from_ne_true}
 use Rattle.std.specs.List.{AllByRecursion}
-use Rattle.ic_unsafe_ref.specs.declared.place.Place.{Place}
-use Rattle.ic_unsafe_ref.specs.Objects.{Objects, Places, Frees, object_at}
+use Rattle.ic_link_ops.specs.Prelude.{Place, index_of, Objects, Places, Frees, object_at, IsAbsent, IsMember, IsDisjoint, Table, IsCovered, IsLinked, IsUnlinked, HasMember}
 use Rattle.ic_unsafe_ref.proofs.Placing.{Puts, put_there, put_others}
-use Rattle.ic_unsafe_ref.specs.Places.{index_of}
 use Rattle.ic_link_ops.specs.Chains.{no_members}
 use Rattle.ic_link_ops.specs.DoublyEntries as doubly
 use Rattle.ic_link_ops.specs.EntryLaws.{linked_in_range}
@@ -18,13 +16,10 @@ use Rattle.ic_link_ops.specs.PlainTables.{entries, linked_by}
 use Rattle.ic_link_ops.specs.Readings.{neighbors_of}
 use Rattle.ic_link_ops.specs.TwoWords.{no_words, has_words, next_word_of, prev_of}
 use Rattle.ic_link_ops.specs.Widths.{Width, wide, nameable}
-use Rattle.ic_link_ops.specs.Positions.{HasMember}
-use Rattle.ic_link_ops.specs.Sequences.{IsAbsent, IsMember, IsDisjoint}
 use Rattle.ic_link_ops.specs.Walk.{is_end}
-use Rattle.ic_link_ops.specs.Tables.{Table, IsCovered, IsLinked, IsUnlinked}
 use Rattle.ic_link_ops.proofs.Calling.{has_member}
-use Rattle.ic_link_ops.proofs.CollectionLaws.{IsKind, kept_shown, others_stay}
-use Rattle.ic_link_ops.proofs.DoublyLists.{doubly_lists, members_shown, neighbors_covered}
+use Rattle.ic_link_ops.proofs.CollectionLaws.{IsKind, kept_represented, others_stay}
+use Rattle.ic_link_ops.proofs.DoublyLists.{doubly_lists, members_represented, neighbors_covered}
 use Rattle.ic_link_ops.proofs.LinkedSets.{everywhere}
 use Rattle.ic_link_ops.proofs.SequenceLemmas.{disjoint_cons, member_split, some_same}
 use Rattle.ic_link_ops.proofs.Walks.{is_end_yes, is_end_no}
@@ -35,17 +30,17 @@ use Rattle.ic_container.specs.Holds.{rows_of, Holds, members_in}
 use Rattle.ic_container.specs.ListReadings.{ReadsLists}
 use Rattle.ic_container.proofs.RowLemmas.{at_row, rows_apart, housed_same, housed_joined, housed_left, housed_moved, joins_from, home_placed, homes_placed, home_freed, homes_freed}
 
--- how a container reads its tables: the five facts of a kind, and that the members are what is shown
-pub record Reading {L E H : Type 0} (Shows : Table E → H → List Place → Type 0) (linked : E → Bool) (empty : H) (table : L → Table E) (members : L → H → List Place) : Type 0 where
-  pub kind : IsKind Shows linked empty
-  pub members_are : (links : L) (head : H) (s : List Place) → Shows (table links) head s → members links head ≡ s
+-- how a container reads its tables: the five facts of a kind, and that the members are what is represented
+pub record Reading {L E H : Type 0} (Represents : Table E → H → List Place → Type 0) (linked : E → Bool) (empty : H) (table : L → Table E) (members : L → H → List Place) : Type 0 where
+  pub kind : IsKind Represents linked empty
+  pub members_are : (links : L) (head : H) (s : List Place) → Represents (table links) head s → members links head ≡ s
 
 -- of a table of lists, of whatever width
 module _ {L E : Type 0} {neighbors : E → Neighbors} {linked : E → Bool} {table : L → Table E} (reads : ReadsLists neighbors linked table) where
-  pub list_reading : Reading (lists.Shows neighbors) linked no_members table (members_in neighbors table)
+  pub list_reading : Reading (lists.Represents neighbors) linked no_members table (members_in neighbors table)
   list_reading = record {
     kind = doubly_lists reads.alike;
-    members_are = λ links head s shown. members_shown (table links) (neighbors_covered neighbors table reads.covered reads.alike links) head s shown;
+    members_are = λ links head s shown. members_represented (table links) (neighbors_covered neighbors table reads.covered reads.alike links) head s shown;
   }
 
   -- A TABLE WITH NO PLACE links nothing
@@ -85,16 +80,16 @@ homeless_beside p home q n = by (is_end (Some p) q) refl where
   by true e = absurd (n (sym (some_same (is_end_yes (Some p) q e))))
   by false e = refl
 
-module _ {L E H : Type 0} {Shows : Table E → H → List Place → Type 0} {linked : E → Bool} {empty : H} {table : L → Table E} {members : L → H → List Place} (reading : Reading Shows linked empty table members) where
-  itself : (links : L) (head : H) {s : List Place} → Shows (table links) head s → Shows (table links) head (members links head)
-  itself links head {s} shown = subst (Shows (table links) head) (sym (reading.members_are links head s shown)) shown
+module _ {L E H : Type 0} {Represents : Table E → H → List Place → Type 0} {linked : E → Bool} {empty : H} {table : L → Table E} {members : L → H → List Place} (reading : Reading Represents linked empty table members) where
+  itself : (links : L) (head : H) {s : List Place} → Represents (table links) head s → Represents (table links) head (members links head)
+  itself links head {s} shown = subst (Represents (table links) head) (sym (reading.members_are links head s shown)) shown
 
   -- AT FIRST: nothing has a home, and nothing is linked
   module _ (links : L) {heads : ℕ → H} (none : (i : ℕ) → heads i ≡ empty) where
     pub none_stand : (i : ℕ) → rows_of members links heads i ≡ []
     none_stand i = reading.members_are links (heads i) [] (rw (none i) (reading.kind.nothing (table links)))
 
-    pub holds_none : {home : Place → Option ℕ} → ((p : Place) → home p ≡ None) → ((p : Place) → IsUnlinked linked (table links) p) → Holds Shows linked table members links heads home
+    pub holds_none : {home : Place → Option ℕ} → ((p : Place) → home p ≡ None) → ((p : Place) → IsUnlinked linked (table links) p) → Holds Represents linked table members links heads home
     holds_none {home} homeless off = record {
       shown = λ i. itself links (heads i) {s = []} (rw (none i) (reading.kind.nothing (table links)));
       housed = record {
@@ -110,7 +105,7 @@ module _ {L E H : Type 0} {Shows : Table E → H → List Place → Type 0} {lin
       let nothing : members links empty ≡ [] = reading.members_are links empty [] (reading.kind.nothing (table links)) in
       ap (λ d. slice_index_or (map (members links) heads) i d) (sym nothing) ∙ get_or-map (members links) heads i empty
 
-  module _ {links : L} {heads : ℕ → H} {home : Place → Option ℕ} (k : Holds Shows linked table members links heads home) where
+  module _ {links : L} {heads : ℕ → H} {home : Place → Option ℕ} (k : Holds Represents linked table members links heads home) where
     abbrev rows : Rows
     rows = rows_of members links heads
 
@@ -119,38 +114,38 @@ module _ {L E H : Type 0} {Shows : Table E → H → List Place → Type 0} {lin
       pub stands_at : (front : List Place) × (back : List Place) × (rows_of members links heads i ≡ front ++ p ∷ back)
       stands_at = member_split p (rows_of members links heads i) (k.housed.all p i at)
 
-      pub stands : HasMember (Shows (table links) (heads i)) p
-      stands = has_member (Shows (table links) (heads i)) (rows_of members links heads i) (k.shown i) (k.housed.all p i at)
+      pub stands : HasMember (Represents (table links) (heads i)) p
+      stands = has_member (Represents (table links) (heads i)) (rows_of members links heads i) (k.shown i) (k.housed.all p i at)
 
     -- AFTER `cover`, or `place`, whatever it answered
     module _ (grown : L) (grows : Grows (table links) (table grown)) where
-      still_shown : (i : ℕ) → Shows (table grown) (heads i) (rows_of members links heads i)
-      still_shown i = kept_shown reading.kind grows.entries (k.shown i)
+      still_represented : (i : ℕ) → Represents (table grown) (heads i) (rows_of members links heads i)
+      still_represented i = kept_represented reading.kind grows.entries (k.shown i)
 
       pub rows_grown : Stays (rows_of members links heads) (rows_of members grown heads)
-      rows_grown i = reading.members_are grown (heads i) (rows_of members links heads i) (still_shown i)
+      rows_grown i = reading.members_are grown (heads i) (rows_of members links heads i) (still_represented i)
 
-      pub holds_grown : Holds Shows linked table members grown heads home
+      pub holds_grown : Holds Represents linked table members grown heads home
       holds_grown = record {
-        shown = λ i. itself grown (heads i) (still_shown i);
+        shown = λ i. itself grown (heads i) (still_represented i);
         housed = record { own = λ i. subst (AllByRecursion (λ p. home p ≡ Some i)) (sym (rows_grown i)) (k.housed.own i); all = λ p i at. subst (IsMember p) (sym (rows_grown i)) (k.housed.all p i at) };
         only = λ p at. rw (grows.entries p) (k.only p at);
       }
 
     -- WHERE ALL ARE AT HOME where they were
-    pub holds_same : {other : Place → Option ℕ} → ((p : Place) → other p ≡ home p) → Holds Shows linked table members links heads other
+    pub holds_same : {other : Place → Option ℕ} → ((p : Place) → other p ≡ home p) → Holds Represents linked table members links heads other
     holds_same same = record { shown = k.shown; housed = housed_same k.housed same; only = λ p at. k.only p (sym (same p) ∙ at) }
 
     -- AN EDIT of collection j
     module _ (j : ℕ) (new : L) {front : List Place} {p : Place} {back : List Place} {after : ℕ → H} (others : (i : ℕ) → i ≢ j → after i ≡ heads i) where
-      module _ (e : HasJoined Shows linked (table links) (table new) (heads j) (after j) front p back) where
+      module _ (e : HasJoined Represents linked (table links) (table new) (heads j) (after j) front p back) where
         joins_was : rows_of members links heads j ≡ front ++ back
         joins_was = reading.members_are links (heads j) (front ++ back) e.was
 
         joins_out : (i : ℕ) → IsAbsent p (rows_of members links heads i)
         joins_out i = reading.kind.free (table links) (heads i) (rows_of members links heads i) p (k.shown i) e.also.was
 
-        joins_still : (i : ℕ) → i ≢ j → Shows (table new) (after i) (rows_of members links heads i)
+        joins_still : (i : ℕ) → i ≢ j → Represents (table new) (after i) (rows_of members links heads i)
         joins_still i n =
             rw (others i n) (others_stay reading.kind (p ∷ (front ++ back)) (k.shown i)
             (disjoint_cons p (rows_of members links heads i) (front ++ back) (joins_out i) (subst (IsDisjoint (rows_of members links heads i)) joins_was (rows_apart k.housed i j n))) e.frame)
@@ -163,19 +158,19 @@ module _ {L E H : Type 0} {Shows : Table E → H → List Place → Type 0} {lin
         }
 
         -- ONE MORE, that is at home in collection j then
-        pub holds_joined : {other : Place → Option ℕ} → other p ≡ Some j → ((q : Place) → q ≢ p → other q ≡ home q) → Holds Shows linked table members new after other
+        pub holds_joined : {other : Place → Option ℕ} → other p ≡ Some j → ((q : Place) → q ≢ p → other q ≡ home q) → Holds Represents linked table members new after other
         holds_joined {other} here beside = record {
-          shown = λ i. at_row (λ i. Shows (table new) (after i) (rows_of members new after i)) j i (itself new (after j) e.is) (λ n. itself new (after i) (joins_still i n));
+          shown = λ i. at_row (λ i. Represents (table new) (after i) (rows_of members new after i)) j i (itself new (after j) e.is) (λ n. itself new (after i) (joins_still i n));
           housed = housed_joined k.housed beside joined here joins_out;
           only = λ q. everywhere (λ q. other q ≡ None → IsUnlinked linked (table new) q) p q (λ at. let never : None ≡ Some j = sym at ∙ here in absurd (cc))
               (λ n at. e.also.others q n ∙ k.only q (sym (beside q n) ∙ at));
         }
 
-      module _ (e : HasLeft Shows linked (table links) (table new) (heads j) (after j) front p back) where
+      module _ (e : HasLeft Represents linked (table links) (table new) (heads j) (after j) front p back) where
         leaves_was : rows_of members links heads j ≡ front ++ p ∷ back
         leaves_was = reading.members_are links (heads j) (front ++ p ∷ back) e.was
 
-        leaves_still : (i : ℕ) → i ≢ j → Shows (table new) (after i) (rows_of members links heads i)
+        leaves_still : (i : ℕ) → i ≢ j → Represents (table new) (after i) (rows_of members links heads i)
         leaves_still i n =
             rw (others i n) (others_stay reading.kind (front ++ p ∷ back) (k.shown i) (subst (IsDisjoint (rows_of members links heads i)) leaves_was (rows_apart k.housed i j n)) e.frame)
 
@@ -187,15 +182,15 @@ module _ {L E H : Type 0} {Shows : Table E → H → List Place → Type 0} {lin
         }
 
         -- ONE LESS, that is at home nowhere then
-        pub holds_left : {other : Place → Option ℕ} → other p ≡ None → ((q : Place) → q ≢ p → other q ≡ home q) → Holds Shows linked table members new after other
+        pub holds_left : {other : Place → Option ℕ} → other p ≡ None → ((q : Place) → q ≢ p → other q ≡ home q) → Holds Represents linked table members new after other
         holds_left {other} gone beside = record {
-          shown = λ i. at_row (λ i. Shows (table new) (after i) (rows_of members new after i)) j i (itself new (after j) e.is) (λ n. itself new (after i) (leaves_still i n));
+          shown = λ i. at_row (λ i. Represents (table new) (after i) (rows_of members new after i)) j i (itself new (after j) e.is) (λ n. itself new (after i) (leaves_still i n));
           housed = housed_left k.housed beside left gone (reading.kind.distinct (table links) (heads j) (rows_of members links heads j) (k.shown j));
           only = λ q. everywhere (λ q. other q ≡ None → IsUnlinked linked (table new) q) p q (λ at. e.off.is) (λ n at. e.off.others q n ∙ k.only q (sym (beside q n) ∙ at));
         }
 
-      module _ {before behind : List Place} (e : HasMoved Shows linked (table links) (table new) (heads j) (after j) front p back before behind) where
-        moves_still : (i : ℕ) → i ≢ j → Shows (table new) (after i) (rows_of members links heads i)
+      module _ {before behind : List Place} (e : HasMoved Represents linked (table links) (table new) (heads j) (after j) front p back before behind) where
+        moves_still : (i : ℕ) → i ≢ j → Represents (table new) (after i) (rows_of members links heads i)
         moves_still i n =
             rw (others i n) (others_stay reading.kind (front ++ p ∷ back) (k.shown i)
             (subst (IsDisjoint (rows_of members links heads i)) (reading.members_are links (heads j) (front ++ p ∷ back) e.was) (rows_apart k.housed i j n)) e.frame)
@@ -209,35 +204,35 @@ module _ {L E H : Type 0} {Shows : Table E → H → List Place → Type 0} {lin
         }
 
         -- ONE ELSEWHERE in its collection
-        pub holds_moved : Holds Shows linked table members new after home
+        pub holds_moved : Holds Represents linked table members new after home
         holds_moved = record {
-          shown = λ i. at_row (λ i. Shows (table new) (after i) (rows_of members new after i)) j i (itself new (after j) e.is) (λ n. itself new (after i) (moves_still i n));
+          shown = λ i. at_row (λ i. Represents (table new) (after i) (rows_of members new after i)) j i (itself new (after j) e.is) (λ n. itself new (after i) (moves_still i n));
           housed = housed_moved k.housed moved;
           only = λ q at. e.keeps q ∙ k.only q at;
         }
 
   -- FROM COLLECTION j TO COLLECTION i: taken off the one, and put into the other
-  module _ {links : L} {heads : ℕ → H} {home : Place → Option ℕ} (k : Holds Shows linked table members links heads home) (j : ℕ) (mid : L) {front : List Place} {p : Place} {back : List Place} {between : ℕ → H}
-      (others : (i : ℕ) → i ≢ j → between i ≡ heads i) (off : HasLeft Shows linked (table links) (table mid) (heads j) (between j) front p back) where
+  module _ {links : L} {heads : ℕ → H} {home : Place → Option ℕ} (k : Holds Represents linked table members links heads home) (j : ℕ) (mid : L) {front : List Place} {p : Place} {back : List Place} {between : ℕ → H}
+      (others : (i : ℕ) → i ≢ j → between i ≡ heads i) (off : HasLeft Represents linked (table links) (table mid) (heads j) (between j) front p back) where
     -- it is at home nowhere between the two
-    pub holds_off : Holds Shows linked table members mid between (homeless p home)
+    pub holds_off : Holds Represents linked table members mid between (homeless p home)
     holds_off = holds_left k j mid others off (homeless_there p home) (homeless_beside p home)
 
-    module _ (i : ℕ) (new : L) {before behind : List Place} {after : ℕ → H} (rest : (l : ℕ) → l ≢ i → after l ≡ between l) (on : HasJoined Shows linked (table mid) (table new) (between i) (after i) before p behind) where
-      pub holds_transferred : {other : Place → Option ℕ} → other p ≡ Some i → ((q : Place) → q ≢ p → other q ≡ home q) → Holds Shows linked table members new after other
+    module _ (i : ℕ) (new : L) {before behind : List Place} {after : ℕ → H} (rest : (l : ℕ) → l ≢ i → after l ≡ between l) (on : HasJoined Represents linked (table mid) (table new) (between i) (after i) before p behind) where
+      pub holds_transferred : {other : Place → Option ℕ} → other p ≡ Some i → ((q : Place) → q ≢ p → other q ≡ home q) → Holds Represents linked table members new after other
       holds_transferred here beside = holds_joined holds_off i new rest on here (λ q n. beside q n ∙ sym (homeless_beside p home q n))
 
       pub transferred : Leaves j front p back (rows_of members links heads) (rows_of members mid between) × Joins i before p behind (rows_of members mid between) (rows_of members new after)
       transferred = (left k j mid others off, joined holds_off i new rest on)
 
   -- BY THE OBJECTS: `belongs` says in which collection an object is, if in any
-  module _ {T : Type 0} (belongs : T → Option ℕ) (objects : Objects T) {links : L} {heads : ℕ → H} (k : Holds Shows linked table members links heads (home_of belongs objects)) where
+  module _ {T : Type 0} (belongs : T → Option ℕ) (objects : Objects T) {links : L} {heads : ℕ → H} (k : Holds Represents linked table members links heads (home_of belongs objects)) where
     -- a vacant place is not linked,
     pub vacant_off : {p : Place} → object_at objects p ≡ None → IsUnlinked linked (table links) p
     vacant_off {p} none = k.only p (ap (home_or belongs) none)
 
     -- and an object stands in the collection where it belongs
-    pub object_stands : {p : Place} {v : T} {j : ℕ} → object_at objects p ≡ Some v → belongs v ≡ Some j → HasMember (Shows (table links) (heads j)) p
+    pub object_stands : {p : Place} {v : T} {j : ℕ} → object_at objects p ≡ Some v → belongs v ≡ Some j → HasMember (Represents (table links) (heads j)) p
     object_stands {p} {v} {j} there is = stands k j p (ap (home_or belongs) there ∙ is)
 
     -- ONE OBJECT MORE, placed and put into collection j
@@ -251,8 +246,8 @@ module _ {L E H : Type 0} {Shows : Table E → H → List Place → Type 0} {lin
       new_absent i = reading.kind.free (table links) (heads i) (rows_of members links heads i) p (k.shown i) (vacant_off places.vacant)
 
       module _ (j : ℕ) (new : L) {front back : List Place} {after : ℕ → H} (others : (i : ℕ) → i ≢ j → after i ≡ heads i) (is : belongs v ≡ Some j)
-          (e : HasJoined Shows linked (table grown) (table new) (heads j) (after j) front p back) where
-        pub holds_new : Holds Shows linked table members new after (home_of belongs more)
+          (e : HasJoined Represents linked (table grown) (table new) (heads j) (after j) front p back) where
+        pub holds_new : Holds Represents linked table members new after (home_of belongs more)
         holds_new = holds_joined (holds_grown k grown grows) j new others e (home_placed belongs places ∙ is) (homes_placed belongs places)
 
         pub new_joined : Joins j front p back (rows_of members links heads) (rows_of members new after)
@@ -260,9 +255,9 @@ module _ {L E H : Type 0} {Shows : Table E → H → List Place → Type 0} {lin
 
     -- ONE LESS, taken off collection j and out of the objects
     pub holds_freed : {less : Objects T} {p : Place} → Frees objects less p → (j : ℕ) (new : L) {front back : List Place} {after : ℕ → H} → ((i : ℕ) → i ≢ j → after i ≡ heads i)
-        → HasLeft Shows linked (table links) (table new) (heads j) (after j) front p back → Holds Shows linked table members new after (home_of belongs less)
+        → HasLeft Represents linked (table links) (table new) (heads j) (after j) front p back → Holds Represents linked table members new after (home_of belongs less)
     holds_freed frees j new others e = holds_left k j new others e (home_freed belongs frees) (homes_freed belongs frees)
 
     -- ANOTHER VALUE in the place of one, that belongs where that did
-    pub holds_changed : {new : Objects T} {p : Place} {v : T} → Puts objects new p v → belongs v ≡ home_of belongs objects p → Holds Shows linked table members links heads (home_of belongs new)
+    pub holds_changed : {new : Objects T} {p : Place} {v : T} → Puts objects new p v → belongs v ≡ home_of belongs objects p → Holds Represents linked table members links heads (home_of belongs new)
     holds_changed {new} {p} puts same = holds_same k (λ q. everywhere (λ q. home_of belongs new q ≡ home_of belongs objects q) p q (ap (home_or belongs) (put_there puts) ∙ same) (λ n. ap (home_or belongs) (put_others puts q n)))

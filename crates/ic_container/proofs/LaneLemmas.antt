@@ -1,14 +1,10 @@
 -- For callers: objects in lanes, after each kind of step, and what the step says of what stands in them.
 use Rattle.std.proofs.Common.{◌≡◌, ◌≢◌, ℕ, ◌<◌, Bool, Option, Some, None, IfSome, IfNone, List, [], refl, sym, ap, ◌∙◌, subst, drop}
-use Rattle.ic_unsafe_ref.specs.declared.place.Place.{Place}
-use Rattle.ic_unsafe_ref.specs.Objects.{Objects, Places, Frees, object_at, with_object}
+use Rattle.ic_link_ops.specs.Prelude.{Place, Objects, Places, Frees, object_at, with_object, first, Table, IsUnlinked, HasMember}
 use Rattle.ic_unsafe_ref.proofs.Placing.{puts_other, put_there, put_others}
 use Rattle.ic_link_ops.specs.Chains.{Ends, no_members}
 use Rattle.ic_link_ops.specs.DoublyEntries.{DoublyLinkOps, is_linked, neighbors_of, plain_table}
-use Rattle.ic_link_ops.specs.LinkedList.{Neighbors, Shows}
-use Rattle.ic_link_ops.specs.Positions.{HasMember}
-use Rattle.ic_link_ops.specs.Sequences.{first}
-use Rattle.ic_link_ops.specs.Tables.{Table, IsUnlinked}
+use Rattle.ic_link_ops.specs.LinkedList.{Neighbors, Represents}
 use Rattle.ic_link_ops.proofs.SequenceLemmas.{first_is, nothing_first, some_same}
 use Rattle.ic_pool.specs.Pooled.{Grows}
 use Rattle.ic_container.specs.Holds.{list_rows, members_in}
@@ -52,7 +48,7 @@ module _ {L E : Type 0} {neighbors : E → Neighbors} {linked : E → Bool} {tab
   lanes_at = lanes_in (members_in neighbors table)
 
   -- an object is a member of its lane
-  pub laned_stands : {p : Place} {v : T} → object_at objects p ≡ Some v → HasMember (Shows neighbors (table links) (lane_at lanes (lane_of v))) p
+  pub laned_stands : {p : Place} {v : T} → object_at objects p ≡ Some v → HasMember (Represents neighbors (table links) (lane_at lanes (lane_of v))) p
   laned_stands there = object_stands (list_reading k.reading) (in_lane lane_of) objects k.holds there refl
 
   pub laned_unchanged : IsUnchanged (lanes_at objects links lanes) (lanes_at objects links lanes)
@@ -71,7 +67,7 @@ module _ {L E : Type 0} {neighbors : E → Neighbors} {linked : E → Bool} {tab
       pub laned_off : IsUnlinked linked (table grown) p
       laned_off = new_off (list_reading k.reading) (in_lane lane_of) objects k.holds places grown grows
 
-      -- and goes behind all others of its lane
+      -- and goes after all others of its lane
       module _ (after : L) (ends : List Ends) {s : List Place} (e : LaneJoins neighbors linked (lane_of v) (table grown) (table after) lanes ends s p []) where
         pub laned_new : AreLaned lane_of neighbors linked table more after ends
         laned_new = record { reading = k.reading; holds = holds_new (list_reading k.reading) (in_lane lane_of) objects k.holds places grown grows (lane_of v) after e.others refl e.edit }

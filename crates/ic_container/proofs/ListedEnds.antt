@@ -1,17 +1,12 @@
--- For callers: objects that are all in one list, at both ends: how many there are, the first and the last one, and what goes behind all others.
+-- For callers: objects that are all in one list, at both ends: how many there are, the first and the last one, and what goes after all others.
 use Rattle.std.proofs.Common.{◌≡◌, Bool, true, Option, None, Some, IfSome, IsSome, List, [], ◌∷◌, ◌++◌, ◌∙◌, ap, sym, refl, subst, length, append-nil, length-append, arith, true≢false}
 use Rattle.std.proofs.lemmas.List.Elements.{filter_map-append}
 use Rattle.std.specs.FinMap as map
 use Rattle.std.specs.List.{cons_option}
-use Rattle.ic_unsafe_ref.specs.declared.place.Place.{Place}
-use Rattle.ic_unsafe_ref.specs.Objects.{Objects, Places, Frees, is_placed, object_at}
+use Rattle.ic_link_ops.specs.Prelude.{Place, Objects, Places, Frees, is_placed, object_at, first, last, IsAbsent, IsDistinct, Table, object_there, ArePlaced, RepresentsPlaced, values_at}
 use Rattle.ic_unsafe_ref.proofs.Placing.{others_left, others_placed, placed_there}
 use Rattle.ic_link_ops.specs.Chains.{Ends, no_members}
-use Rattle.ic_link_ops.specs.LinkedList.{Neighbors, Shows}
-use Rattle.ic_link_ops.specs.PlacedObjects.{ArePlaced, ShowsPlaced, values_at}
-use Rattle.ic_link_ops.specs.Positions.{object_there}
-use Rattle.ic_link_ops.specs.Sequences.{first, last, IsAbsent, IsDistinct}
-use Rattle.ic_link_ops.specs.Tables.{Table}
+use Rattle.ic_link_ops.specs.LinkedList.{Neighbors, Represents}
 use Rattle.ic_link_ops.proofs.PlacedValues.{values_beside}
 use Rattle.ic_link_ops.proofs.SequenceLemmas.{distinct_middle, none_not}
 use Rattle.ic_pool.specs.Pooled.{Grows}
@@ -53,7 +48,7 @@ module _ {T : Type 0} {o : Order T} (w : IsWhole o) where
   pub whole_count : length (values_of o) ≡ length o.order
   whole_count = as_many o.values o.order w.placed
 
-  -- ONE TAKEN OUT: where it was the first the others stand behind it, and where it was the last in front of it
+  -- ONE TAKEN OUT: where it was the first the others stand after it, and where it was the last first of it
   module _ {less : Order T} {p : Place} {out : T} (there : object_at o.values p ≡ Some out) (frees : Frees o.values less.values p) (is : Without p o.order less.order) where
     apart : IsAbsent p (is.front ++ is.back)
     apart = distinct_middle is.front is.back p (subst IsDistinct is.was w.once)
@@ -102,44 +97,44 @@ module _ {L E : Type 0} {neighbors : E → Neighbors} {linked : E → Bool} {tab
   last_is_placed e = subst (λ (o : Option Place). IfSome o (λ p. is_placed objects p ≡ true)) e (listed_last k)
 
   -- a walk is over all of them
-  pub all_walked : ShowsPlaced (Shows neighbors (table links) list) objects
+  pub all_walked : RepresentsPlaced (Represents neighbors (table links) list) objects
   all_walked = record { members = members_in neighbors table links list; shown = k.holds.shown 0; placed = listed_placed k }
 
-  -- A NEW OBJECT behind all others
+  -- A NEW OBJECT after all others
   module _ (grown : L) (grows : Grows (table links) (table grown)) {p : Place} {value : T} {new : Objects T} (places : Places objects new p value) (after : L) (ends : Ends) {s : List Place} (e : ListJoins neighbors linked (table grown) (table after) list ends s p []) where
-    pub order_behind : members_in neighbors table after ends ≡ members_in neighbors table links list ++ p ∷ []
-    order_behind = (puts_back (new_joined (list_reading k.reading) to_one objects k.holds places grown grows 0 after (alone_others no_members list ends) refl e)).is
+    pub order_after : members_in neighbors table after ends ≡ members_in neighbors table links list ++ p ∷ []
+    order_after = (puts_back (new_joined (list_reading k.reading) to_one objects k.holds places grown grows 0 after (alone_others no_members list ends) refl e)).is
 
-    pub listed_behind : IsListed neighbors linked table new after ends
-    listed_behind = record {
+    pub listed_after : IsListed neighbors linked table new after ends
+    listed_after = record {
       reading = k.reading;
       holds = holds_new (list_reading k.reading) to_one objects k.holds places grown grows 0 after (alone_others no_members list ends) refl e;
-      count = omega (arith, k.count, count_placed places, ap length order_behind, length-append (members_in neighbors table links list) (p ∷ []));
+      count = omega (arith, k.count, count_placed places, ap length order_after, length-append (members_in neighbors table links list) (p ∷ []));
     }
 
-    pub listed_values_behind : values_at new (members_in neighbors table after ends) ≡ values_at objects (members_in neighbors table links list) ++ value ∷ []
-    listed_values_behind =
-        ap (values_at new) order_behind ∙ filter_map-append (object_at new) (members_in neighbors table links list) (p ∷ [])
+    pub listed_values_after : values_at new (members_in neighbors table after ends) ≡ values_at objects (members_in neighbors table links list) ++ value ∷ []
+    listed_values_after =
+        ap (values_at new) order_after ∙ filter_map-append (object_at new) (members_in neighbors table links list) (p ∷ [])
         ∙ ap (λ (v : Option T). values_at new (members_in neighbors table links list) ++ cons_option v []) (placed_there places)
         ∙ ap (λ (l : List T). l ++ value ∷ []) (values_beside objects new p (others_placed places) (members_in neighbors table links list) (new_absent (list_reading k.reading) to_one objects k.holds places grown grows 0))
 
-  -- MOVED behind all others
+  -- MOVED after all others
   module _ {p : Place} (after : L) (ends : Ends) (e : (front : List Place) × (back : List Place) × (before : List Place) × ListMoves neighbors linked (table links) (table after) list ends front p back before []) where
-    pub listed_moved_behind : IsListed neighbors linked table objects after ends
-    listed_moved_behind = record {
+    pub listed_moved_after : IsListed neighbors linked table objects after ends
+    listed_moved_after = record {
       reading = k.reading;
       holds = holds_moved (list_reading k.reading) k.holds 0 after (alone_others no_members list ends) e.3;
       count = k.count ∙ sym (length_moved (moved (list_reading k.reading) k.holds 0 after (alone_others no_members list ends) e.3));
     }
 
-    pub order_moved_behind : (others : List Place) × Without p (members_in neighbors table links list) others × (members_in neighbors table after ends ≡ others ++ p ∷ [])
-    order_moved_behind =
+    pub order_moved_after : (others : List Place) × Without p (members_in neighbors table links list) others × (members_in neighbors table after ends ≡ others ++ p ∷ [])
+    order_moved_after =
         let t = moved (list_reading k.reading) k.holds 0 after (alone_others no_members list ends) e.3 in
         (e.2, record { front = e.0; back = e.1; was = t.was; is = sym (t.rest ∙ append-nil e.2) }, t.is)
 
-    pub listed_values_moved_behind : {value : T} → object_at objects p ≡ Some value
+    pub listed_values_moved_after : {value : T} → object_at objects p ≡ Some value
         → (rest : List T) × Without value (values_at objects (members_in neighbors table links list)) rest × (values_at objects (members_in neighbors table after ends) ≡ rest ++ value ∷ [])
-    listed_values_moved_behind {value} there =
+    listed_values_moved_after {value} there =
         let t = moved (list_reading k.reading) k.holds 0 after (alone_others no_members list ends) e.3 in (
           values_at objects e.0 ++ values_at objects e.1,
           record {

@@ -3,16 +3,11 @@ use Rattle.std.proofs.Common.{◌≡◌, ◌≢◌, ◌+◌, ◌-◌, Bool, true
 use Rattle.std.specs.FinMap as map
 use Rattle.std.specs.FinMap.{len-empty}
 use Rattle.std.specs.Ordering.{nat_cmp}
-use Rattle.ic_unsafe_ref.specs.declared.place.Place.{Place}
-use Rattle.ic_unsafe_ref.specs.Objects.{Objects, Places, Frees, object_at, is_placed}
+use Rattle.ic_link_ops.specs.Prelude.{Place, Objects, Places, Frees, object_at, is_placed, first, last, IsDistinct, Table, IsUnlinked, HasMember, object_there, ArePlaced, values_at}
 use Rattle.ic_unsafe_ref.proofs.Placing.{Puts, others_left, others_placed, placed_there}
 use Rattle.ic_container.proofs.CountLemmas.{count_freed, count_placed, count_put, length_moved}
 use Rattle.ic_link_ops.specs.Chains.{Ends, no_members}
-use Rattle.ic_link_ops.specs.LinkedList.{Neighbors, Shows}
-use Rattle.ic_link_ops.specs.PlacedObjects.{ArePlaced, values_at}
-use Rattle.ic_link_ops.specs.Positions.{HasMember, object_there}
-use Rattle.ic_link_ops.specs.Sequences.{first, last, IsDistinct}
-use Rattle.ic_link_ops.specs.Tables.{Table, IsUnlinked}
+use Rattle.ic_link_ops.specs.LinkedList.{Neighbors, Represents}
 use Rattle.ic_link_ops.proofs.SequenceLemmas.{first_is, member_split}
 use Rattle.ic_pool.specs.Pooled.{Grows}
 use Rattle.ic_container.specs.Holds.{members_in, ListJoins, ListLeaves, ListMoves}
@@ -43,7 +38,7 @@ module _ {L E : Type 0} {neighbors : E → Neighbors} {linked : E → Bool} {tab
 
 module _ {L E : Type 0} {neighbors : E → Neighbors} {linked : E → Bool} {table : L → Table E} {T : Type 0} {objects : Objects T} {links : L} {list : Ends} (k : IsListed neighbors linked table objects links list) where
   -- an object is a member,
-  pub listed_stands : {p : Place} → is_placed objects p ≡ true → HasMember (Shows neighbors (table links) list) p
+  pub listed_stands : {p : Place} → is_placed objects p ≡ true → HasMember (Represents neighbors (table links) list) p
   listed_stands {p} is = stands (list_reading k.reading) k.holds 0 p (home_one objects p is)
 
   pub listed_distinct : IsDistinct (members_in neighbors table links list)
@@ -85,7 +80,7 @@ module _ {L E : Type 0} {neighbors : E → Neighbors} {linked : E → Bool} {tab
       pub listed_off : IsUnlinked linked (table grown) p
       listed_off = new_off (list_reading k.reading) to_one objects k.holds places grown grows
 
-      -- and goes in front of all others
+      -- and goes before all others
       module _ (after : L) (ends : Ends) {s : List Place} (e : ListJoins neighbors linked (table grown) (table after) list ends [] p s) where
         pub order_new : members_in neighbors table after ends ≡ p ∷ members_in neighbors table links list
         order_new = (puts_front (new_joined (list_reading k.reading) to_one objects k.holds places grown grows 0 after (alone_others no_members list ends) refl e)).is
@@ -103,7 +98,7 @@ module _ {L E : Type 0} {neighbors : E → Neighbors} {linked : E → Bool} {tab
             (new_joined (list_reading k.reading) to_one objects k.holds places grown grows 0 after (alone_others no_members list ends) refl e)
             (new_absent (list_reading k.reading) to_one objects k.holds places grown grows 0)
 
-  -- MOVED in front of all others
+  -- MOVED before all others
   module _ {p : Place} (after : L) (ends : Ends) (e : (front : List Place) × (back : List Place) × (behind : List Place) × ListMoves neighbors linked (table links) (table after) list ends front p back [] behind) where
     pub listed_moved : IsListed neighbors linked table objects after ends
     listed_moved = record {

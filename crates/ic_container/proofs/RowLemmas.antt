@@ -2,15 +2,12 @@
 use Rattle.std.proofs.Common.{◌≡◌, ◌≢◌, ℕ, zero, suc, Option, Some, None, List, [], ◌∷◌, ◌++◌, inl, inr, refl, sym, ap, ◌∙◌, subst, append-nil, true, is_some, IsSome, true≢false}
 use Rattle.std.proofs.lemmas.Bool.Decides.{eqb_tells}
 use Rattle.std.specs.List.{AllByRecursion}
-use Rattle.ic_unsafe_ref.specs.declared.place.Place.{Place}
-use Rattle.ic_unsafe_ref.specs.Objects.{Objects, Places, Frees, object_at, is_placed}
+use Rattle.ic_link_ops.specs.Prelude.{Place, Objects, Places, Frees, object_at, is_placed, first, last, IsAbsent, IsMember, IsDisjoint, IsDistinct, ArePlaced}
 use Rattle.ic_unsafe_ref.proofs.Placing.{placed_there, others_placed, gone_there, others_left}
-use Rattle.ic_link_ops.specs.PlacedObjects.{ArePlaced}
-use Rattle.ic_link_ops.specs.Sequences.{first, last, IsAbsent, IsMember, IsDisjoint, IsDistinct}
 use Rattle.ic_link_ops.proofs.Each.{all_map, all_with, all_without}
 use Rattle.ic_link_ops.proofs.LinkedSets.{everywhere}
 use Rattle.ic_link_ops.proofs.SequenceLemmas.{absent_with, absent_without, distinct_middle, distinct_right, last_not, last_or-append, none_not, some_same, split_member}
-use Rattle.ic_container.specs.Rows.{Rows, Joins, Leaves, PutsFront, PutsBack, Moves, Stays, IsHoused, home_or, home_of, to_one, alone}
+use Rattle.ic_container.specs.Rows.{Rows, Joins, Leaves, PutsFront, PutsBack, Moves, Stays, EachInItsList, home_or, home_of, to_one, alone}
 
 -- what holds at k and at every other number holds at each
 pub at_row : (P : ℕ → Type 0) (k i : ℕ) → P k → (i ≢ k → P i) → P i
@@ -54,7 +51,7 @@ module _ {T : Type 0} (belongs : T → Option ℕ) {old new : Objects T} {p : Pl
   pub homes_freed : Frees old new p → (q : Place) → q ≢ p → home_of belongs new q ≡ home_of belongs old q
   homes_freed frees q n = ap (home_or belongs) (others_left frees q n)
 
-module _ {home : Place → Option ℕ} {rows : Rows} (h : IsHoused home rows) where
+module _ {home : Place → Option ℕ} {rows : Rows} (h : EachInItsList home rows) where
   absent_from : {i j : ℕ} → i ≢ j → (p : Place) → home p ≡ Some i → (s : List Place) → AllByRecursion (λ q. home q ≡ Some j) s → IsAbsent p s
   absent_from apart p at [] own = tt
   absent_from {i} apart p at (x ∷ s) own = (λ e. apart (some_same (sym at ∙ ap home e ∙ own.0)), absent_from apart p at s own.1)
@@ -75,7 +72,7 @@ module _ {home : Place → Option ℕ} {rows : Rows} (h : IsHoused home rows) wh
   pub member_home : (k : ℕ) (front : List Place) (p : Place) (back : List Place) → rows k ≡ front ++ p ∷ back → home p ≡ Some k
   member_home k front p back was = all_at front p back (subst (AllByRecursion (λ q. home q ≡ Some k)) was (h.own k))
 
-  pub housed_same : {other : Place → Option ℕ} → ((p : Place) → other p ≡ home p) → IsHoused other rows
+  pub housed_same : {other : Place → Option ℕ} → ((p : Place) → other p ≡ home p) → EachInItsList other rows
   housed_same same = record { own = λ i. all_map (λ q at. same q ∙ at) (rows i) (h.own i); all = λ p i at. h.all p i (sym (same p) ∙ at) }
 
   module _ {p : Place} {other : Place → Option ℕ} (beside : (q : Place) → q ≢ p → other q ≡ home q) where
@@ -85,7 +82,7 @@ module _ {home : Place → Option ℕ} {rows : Rows} (h : IsHoused home rows) wh
 
   module _ {k : ℕ} {front : List Place} {p : Place} {back : List Place} {new : Rows} {other : Place → Option ℕ} (beside : (q : Place) → q ≢ p → other q ≡ home q) where
     -- ONE PLACE MORE, that was no member
-    pub housed_joined : Joins k front p back rows new → other p ≡ Some k → ((i : ℕ) → IsAbsent p (rows i)) → IsHoused other new
+    pub housed_joined : Joins k front p back rows new → other p ≡ Some k → ((i : ℕ) → IsAbsent p (rows i)) → EachInItsList other new
     housed_joined joins here out = record {
       own = λ i. at_row (λ i. AllByRecursion (λ q. other q ≡ Some i) (new i)) k i
           (subst (AllByRecursion (λ q. other q ≡ Some k)) (sym joins.is) (all_with (λ q. other q ≡ Some k) front p back here (subst (AllByRecursion (λ q. other q ≡ Some k)) joins.was (still beside k (rows k) (out k) (h.own k)))))
@@ -98,7 +95,7 @@ module _ {home : Place → Option ℕ} {rows : Rows} (h : IsHoused home rows) wh
     }
 
     -- ONE PLACE LESS
-    pub housed_left : Leaves k front p back rows new → other p ≡ None → IsDistinct (rows k) → IsHoused other new
+    pub housed_left : Leaves k front p back rows new → other p ≡ None → IsDistinct (rows k) → EachInItsList other new
     housed_left leaves gone distinct = record {
       own = λ i. at_row (λ i. AllByRecursion (λ q. other q ≡ Some i) (new i)) k i
           (subst (AllByRecursion (λ q. other q ≡ Some k)) (sym leaves.is) (still beside k (front ++ back) (distinct_middle front back p (subst IsDistinct leaves.was distinct))
@@ -112,7 +109,7 @@ module _ {home : Place → Option ℕ} {rows : Rows} (h : IsHoused home rows) wh
     }
 
   -- ONE PLACE ELSEWHERE in its row
-  pub housed_moved : {k : ℕ} {front : List Place} {p : Place} {back before behind : List Place} {new : Rows} → Moves k front p back before behind rows new → IsHoused home new
+  pub housed_moved : {k : ℕ} {front : List Place} {p : Place} {back before behind : List Place} {new : Rows} → Moves k front p back before behind rows new → EachInItsList home new
   housed_moved {k} {front} {p} {back} {before} {behind} {new} moves =
       let at = member_home k front p back moves.was in
       record {
@@ -149,7 +146,7 @@ module _ {k : ℕ} {p : Place} {a b : Rows} (x y : Rows) (same : Stays a x) (ali
   pub leaves_seen : {front back : List Place} → Leaves k front p back a b → Leaves k front p back x y
   leaves_seen j = record { was = same k ∙ j.was; is = alike k ∙ j.is; others = λ i n. alike i ∙ j.others i n ∙ sym (same i) }
 
--- what stands first has nothing in front
+-- what stands first has nothing before
 pub no_front : (p : Place) (s : List Place) → IsDistinct s → Some p ≡ first s → (front back : List Place) → s ≡ front ++ p ∷ back → front ≡ []
 no_front p s distinct is [] back same = refl
 no_front p s distinct is (x ∷ front) back same =
@@ -157,7 +154,7 @@ no_front p s distinct is (x ∷ front) back same =
     let one : p ≡ x = some_same (is ∙ ap first same) in
     absurd (split_member front p back (subst (λ (z : Place). IsAbsent z (front ++ p ∷ back)) (sym one) d.0))
 
--- and what stands last nothing behind
+-- and what stands last nothing after
 pub without_last : {p : Place} (s : List Place) → IsDistinct s → last s ≡ Some p → (front back : List Place) → s ≡ front ++ p ∷ back → back ≡ []
 without_last s distinct is front [] same = refl
 without_last {p} s distinct is front (y ∷ back) same =

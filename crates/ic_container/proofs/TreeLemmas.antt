@@ -9,22 +9,17 @@ use Rattle.std.specs.Option.{option_copied}
 use Rattle.std.specs.Ordering.{nat_cmp, is_eq, is_lt}
 use Rattle.std.specs.declared.cmp.Ordering.{Ordering}
 use Rattle.std.specs.declared.cmp.Ordering.TheVariants.{Less, Equal, Greater}
-use Rattle.ic_unsafe_ref.specs.declared.place.Place.{Place}
-use Rattle.ic_unsafe_ref.specs.Objects.{Objects, Places, Frees, object_at, is_placed}
+use Rattle.ic_link_ops.specs.Prelude.{Place, Objects, Places, Frees, object_at, is_placed, IsDistinct, IsMember, first, Table, IsCovered, IsUnlinked, ChangesOnlyIn, LinksAlso, Unlinks, HasMember, ArePlaced, RepresentsPlaced, StandAt, values_at}
 use Rattle.ic_unsafe_ref.proofs.PlaceLemmas.{same_or_not}
 use Rattle.ic_unsafe_ref.proofs.Placing.{gone_there, leaves, others_left, others_placed, placed_there, without}
-use Rattle.ic_link_ops.specs.PlacedObjects.{ArePlaced, ShowsPlaced, StandAt, values_at}
-use Rattle.ic_link_ops.specs.Positions.{HasMember}
-use Rattle.ic_link_ops.specs.RedBlackTree.{Node, Shows}
-use Rattle.ic_link_ops.specs.Sequences.{IsDistinct, IsMember, first}
-use Rattle.ic_link_ops.specs.Tables.{Table, IsCovered, IsUnlinked, KeepsBeside, LinksAlso, Unlinks}
+use Rattle.ic_link_ops.specs.RedBlackTree.{Node, Represents}
 use Rattle.ic_link_ops.proofs.Calling.{has_member}
-use Rattle.ic_link_ops.proofs.CollectionLaws.{IsKind, kept_shown}
+use Rattle.ic_link_ops.proofs.CollectionLaws.{IsKind, kept_represented}
 use Rattle.ic_link_ops.proofs.Covering.{still_covered}
 use Rattle.ic_link_ops.proofs.Each.{all_back}
 use Rattle.ic_link_ops.proofs.PlacedValues.{stand_beside, vacant_absent}
 use Rattle.ic_link_ops.proofs.SequenceLemmas.{none_not, some_same}
-use Rattle.ic_link_ops.proofs.ShownTrees.{red_black_trees}
+use Rattle.ic_link_ops.proofs.RepresentedTrees.{red_black_trees}
 use Rattle.ic_pool.specs.Pooled.{Grows}
 use Rattle.ic_rbtree.specs.Borders.{Finds, IsBorder, IsSorted, equal_at, less_at}
 use Rattle.ic_rbtree.specs.Comparing.{answer_at, compared, order_of, own_order}
@@ -34,11 +29,11 @@ use Rattle.ic_rbtree.specs.Members.{members}
 use Rattle.ic_rbtree.specs.PlainTrees.{TreeLinkOps, is_linked, plain_table}
 use Rattle.ic_container.specs.EachLaws.{each_first, each_linked, each_ready, each_new, each_taken, vacant_free, wide_reads}
 use Rattle.ic_rbtree.proofs.Passing.{passed}
-use Rattle.ic_rbtree.proofs.Members.{members_shown}
-use Rattle.ic_rbtree.specs.SortedObjects.{ShowsSorted, key_at, key_or}
+use Rattle.ic_rbtree.proofs.Members.{members_represented}
+use Rattle.ic_rbtree.specs.SortedObjects.{RepresentsSorted, key_at, key_or}
 use Rattle.ic_rbtree.proofs.SortedAnswers.{found_first}
 use Rattle.ic_rbtree.proofs.SortedKeys.{keys_are}
-use Rattle.ic_rbtree.proofs.SortedValues.{greater_behind, own_order_is}
+use Rattle.ic_rbtree.proofs.SortedValues.{greater_after, own_order_is}
 use Rattle.ic_container.specs.Orders.{IsWhole}
 use Rattle.ic_container.specs.TreeLaws.{all_grown}
 use Rattle.ic_container.specs.Trees.{HasAll, HasAllIn, IsFound, IsFoundObject, IsUnique, LacksOne, PutsInOrder}
@@ -104,30 +99,30 @@ module _ {L E : Type 0} {node : E → Node} {linked : E → Bool} {table : L →
   all_none reads links root none empty vacant = record { values = []; each = each_first reads (nothing_linked reads links none) empty vacant }
 
   module _ {links : L} {root : Option Place} (a : HasAllIn node linked table key links root objects) where
-    abbrev kind : IsKind (Shows node) linked None
+    abbrev kind : IsKind (Represents node) linked None
     kind = red_black_trees a.each.reads.alike
 
-    are_members : (links : L) {root : Option Place} {s : List Place} → Shows node (table links) root s → members node (table links) root ≡ s
-    are_members links {root} {s} shown = members_shown (table links) (λ q is. a.each.reads.covered links q (sym (a.each.reads.alike _) ∙ is)) root s shown
+    are_members : (links : L) {root : Option Place} {s : List Place} → Represents node (table links) root s → members node (table links) root ≡ s
+    are_members links {root} {s} shown = members_represented (table links) (λ q is. a.each.reads.covered links q (sym (a.each.reads.alike _) ∙ is)) root s shown
 
     -- an object is a member, and members are placed
-    pub all_stands : (p : Place) {v : T} → object_at objects p ≡ Some v → HasMember (Shows node (table links) root) p
-    all_stands p there = has_member (Shows node (table links) root) a.each.sorted.members a.each.sorted.shown (λ absent. true≢false (sym (each_linked a.each p there) ∙ a.each.sorted.only p absent))
+    pub all_stands : (p : Place) {v : T} → object_at objects p ≡ Some v → HasMember (Represents node (table links) root) p
+    all_stands p there = has_member (Represents node (table links) root) a.each.sorted.members a.each.sorted.shown (λ absent. true≢false (sym (each_linked a.each p there) ∙ a.each.sorted.only p absent))
 
-    pub all_member : {p : Place} → is_placed objects p ≡ true → HasMember (Shows node (table links) root) p
+    pub all_member : {p : Place} → is_placed objects p ≡ true → HasMember (Represents node (table links) root) p
     all_member {p} is = by (object_at objects p) refl is where
-      by : (o : Option T) → object_at objects p ≡ o → is_some o ≡ true → HasMember (Shows node (table links) root) p
+      by : (o : Option T) → object_at objects p ≡ o → is_some o ≡ true → HasMember (Represents node (table links) root) p
       by None e h = absurd (true≢false (sym h))
       by (Some v) e h = all_stands p e
 
     -- what was taken off is covered still: `frame` is the call's clause
-    pub all_covered : (p : Place) {v : T} (new : L) → object_at objects p ≡ Some v → ((s : List Place) → Shows node (table links) root s → KeepsBeside (table links) (table new) s) → IsCovered (table new) p
+    pub all_covered : (p : Place) {v : T} (new : L) → object_at objects p ≡ Some v → ((s : List Place) → Represents node (table links) root s → ChangesOnlyIn (table links) (table new) s) → IsCovered (table new) p
     all_covered p new there frame = still_covered p (frame a.each.sorted.members a.each.sorted.shown) (a.each.reads.covered links p (each_linked a.each p there))
 
-    pub all_shown : Shows node (table links) root (members node (table links) root)
-    all_shown = subst (Shows node (table links) root) (sym (are_members links a.each.sorted.shown)) a.each.sorted.shown
+    pub all_represented : Represents node (table links) root (members node (table links) root)
+    all_represented = subst (Represents node (table links) root) (sym (are_members links a.each.sorted.shown)) a.each.sorted.shown
 
-    pub all_placed : ShowsPlaced (Shows node (table links) root) objects
+    pub all_placed : RepresentsPlaced (Represents node (table links) root) objects
     all_placed = record { members = a.each.sorted.members; shown = a.each.sorted.shown; placed = a.each.sorted.stand.placed }
 
     -- THE MEMBERS, in the order of their keys
@@ -141,9 +136,9 @@ module _ {L E : Type 0} {node : E → Node} {linked : E → Bool} {table : L →
     all_values = ap (values_at objects) all_members ∙ a.each.sorted.stand.are
 
     pub all_distinct : IsDistinct (members node (table links) root)
-    all_distinct = kind.distinct (table links) root (members node (table links) root) all_shown
+    all_distinct = kind.distinct (table links) root (members node (table links) root) all_represented
 
-    pub all_sorted : ShowsSorted key (Shows node (table links) root) objects
+    pub all_sorted : RepresentsSorted key (Represents node (table links) root) objects
     unfolding all_placed
     all_sorted = record {
       placed = all_placed;
@@ -151,10 +146,10 @@ module _ {L E : Type 0} {node : E → Node} {linked : E → Bool} {table : L →
     }
 
     pub members_grown : (grown : L) → Grows (table links) (table grown) → members node (table grown) root ≡ members node (table links) root
-    members_grown grown grows = are_members grown (kept_shown kind grows.entries all_shown)
+    members_grown grown grows = are_members grown (kept_represented kind grows.entries all_represented)
 
     -- WHAT A SEARCH FINDS: `found` is its clause
-    pub all_found : (k : ℕ) (position : Option Place) → ((s : List Place) → Shows node (table links) root s → Finds (compared (order_of nat_cmp key k) objects) s position) → IsFound key objects k position
+    pub all_found : (k : ℕ) (position : Option Place) → ((s : List Place) → Represents node (table links) root s → Finds (compared (order_of nat_cmp key k) objects) s position) → IsFound key objects k position
     all_found k position found = by position refl where
       f : Finds (compared (order_of nat_cmp key k) objects) a.each.sorted.members position
       f = found a.each.sorted.members a.each.sorted.shown
@@ -179,19 +174,19 @@ module _ {L E : Type 0} {node : E → Node} {linked : E → Bool} {table : L →
 
     -- A NEW OBJECT: members are placed still, it is not linked,
     module _ {more : Objects T} {p : Place} {v : T} (places : Places objects more p v) where
-      pub all_ready : ShowsPlaced (Shows node (table links) root) more
+      pub all_ready : RepresentsPlaced (Represents node (table links) root) more
       all_ready = each_ready a.each places
 
       pub all_off : IsUnlinked linked (table links) p
       all_off = vacant_free a.each p places.vacant
 
       -- and is inserted: `inserted` and `acquired` are the clauses of its call
-      pub all_new : (new : L) (top : Option Place) → ((s : List Place) → Shows node (table links) root s → InsertsInOrder (Shows node) (compared (own_order nat_cmp key more p) more) (table links) (table new) top s p)
+      pub all_new : (new : L) (top : Option Place) → ((s : List Place) → Represents node (table links) root s → InsertsInOrder (Represents node) (compared (own_order nat_cmp key more p) more) (table links) (table new) top s p)
           → LinksAlso linked (table links) (table new) p → HasAllIn node linked table key new top more
       all_new new top inserted acquired = let n = each_new a.each places inserted acquired in record { values = n.0; each = n.2 }
 
-      -- behind all that have its key or a lower one
-      pub order_new : (new : L) (top : Option Place) → ((s : List Place) → Shows node (table links) root s → InsertsInOrder (Shows node) (compared (own_order nat_cmp key more p) more) (table links) (table new) top s p)
+      -- after all that have its key or a lower one
+      pub order_new : (new : L) (top : Option Place) → ((s : List Place) → Represents node (table links) root s → InsertsInOrder (Represents node) (compared (own_order nat_cmp key more p) more) (table links) (table new) top s p)
           → PutsInOrder key more (members node (table links) root) (members node (table new) top) p
       order_new new top inserted =
           let x = inserted a.each.sorted.members a.each.sorted.shown in
@@ -205,28 +200,28 @@ module _ {L E : Type 0} {node : E → Node} {linked : E → Bool} {table : L →
             was = all_members ∙ sym x.same;
             is = are_members new x.inserted.shows;
             later = subst (λ (o : Option T). AllByRecursion (λ q. key_or key o < key_at key more q) x.gap.back) (sym (placed_there places))
-                (all_later key more (key v) x.gap.back (all_back (λ q. IsSome (object_at more q)) x.gap.front x.gap.back stood.placed) (greater_behind nat_cmp_total key more (key v) x.gap stood.placed rises border));
+                (all_later key more (key v) x.gap.back (all_back (λ q. IsSome (object_at more q)) x.gap.front x.gap.back stood.placed) (greater_after nat_cmp_total key more (key v) x.gap stood.placed rises border));
           }
 
     -- AN OBJECT taken off, and out
     module _ {p : Place} {out : T} (there : object_at objects p ≡ Some out) where
-      pub all_freed : (new : L) (top : Option Place) {less : Objects T} → ((front back : List Place) → Shows node (table links) root (front ++ p ∷ back) → Shows node (table new) top (front ++ back))
+      pub all_freed : (new : L) (top : Option Place) {less : Objects T} → ((front back : List Place) → Represents node (table links) root (front ++ p ∷ back) → Represents node (table new) top (front ++ back))
           → Unlinks linked (table links) (table new) p → Frees objects less p → HasAllIn node linked table key new top less
       all_freed new top removed off frees = let t = each_taken a.each p there removed off frees in record { values = t.0 ++ t.1; each = t.3 }
 
-      pub order_left : (new : L) (top : Option Place) → ((front back : List Place) → Shows node (table links) root (front ++ p ∷ back) → Shows node (table new) top (front ++ back)) → Without p (members node (table links) root) (members node (table new) top)
+      pub order_left : (new : L) (top : Option Place) → ((front back : List Place) → Represents node (table links) root (front ++ p ∷ back) → Represents node (table new) top (front ++ back)) → Without p (members node (table links) root) (members node (table new) top)
       order_left new top removed =
           let m = all_stands p there in
           record { front = m.front; back = m.back; was = are_members links m.shown; is = are_members new (removed m.front m.back m.shown) }
 
       -- ANOTHER VALUE with any key in its place: taken off, changed, and inserted where it belongs
-      pub all_less : (new : L) (top : Option Place) (value : T) → ((front back : List Place) → Shows node (table links) root (front ++ p ∷ back) → Shows node (table new) top (front ++ back))
+      pub all_less : (new : L) (top : Option Place) (value : T) → ((front back : List Place) → Represents node (table links) root (front ++ p ∷ back) → Represents node (table new) top (front ++ back))
           → Unlinks linked (table links) (table new) p → HasAllIn node linked table key new top (without objects p value)
       all_less new top value removed off = all_freed new top removed off (leaves objects p value)
 
-    -- a removal of the first is one from anywhere: `popped` says that all but the first are shown
-    pub first_removed : (new : L) (top : Option Place) {p : Place} → Some p ≡ first (members node (table links) root) → ((s : List Place) → Shows node (table links) root s → Shows node (table new) top (drop 1 s))
-        → (front back : List Place) → Shows node (table links) root (front ++ p ∷ back) → Shows node (table new) top (front ++ back)
+    -- a removal of the first is one from anywhere: `popped` says that all but the first are represented
+    pub first_removed : (new : L) (top : Option Place) {p : Place} → Some p ≡ first (members node (table links) root) → ((s : List Place) → Represents node (table links) root s → Represents node (table new) top (drop 1 s))
+        → (front back : List Place) → Represents node (table links) root (front ++ p ∷ back) → Represents node (table new) top (front ++ back)
     first_removed new top is popped [] back shown = popped (_ ∷ back) shown
     first_removed new top {p} is popped (x ∷ front) back shown =
         let never : x ∷ front ≡ [] = no_front p (members node (table links) root) all_distinct is (x ∷ front) back (are_members links shown) in absurd (cc)

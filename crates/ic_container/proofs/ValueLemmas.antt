@@ -2,19 +2,15 @@
 use Rattle.std.proofs.Common.{◌≡◌, ◌≢◌, ℕ, Option, Some, List, [], ◌∷◌, ◌++◌, refl, sym, ap, ◌∙◌, subst, Bool, true, false, is_some, IsSome, None, length, ◌≤◌, arith, length-append, true≢false, inl, inr}
 use Rattle.std.proofs.lemmas.List.Elements.{filter_map-append}
 use Rattle.std.specs.List.{cons_option}
-use Rattle.ic_unsafe_ref.specs.declared.place.Place.{Place}
-use Rattle.ic_unsafe_ref.specs.Objects.{Objects, object_at, is_placed}
+use Rattle.ic_link_ops.specs.Prelude.{Place, Objects, object_at, is_placed, last, IsAbsent, IsMember, IsDistinct, object_there, ArePlaced, values_at}
 use Rattle.ic_unsafe_ref.proofs.PlaceLemmas.{same_or_not}
-use Rattle.ic_link_ops.specs.PlacedObjects.{ArePlaced, values_at}
-use Rattle.ic_link_ops.specs.Positions.{object_there}
-use Rattle.ic_link_ops.specs.Sequences.{last, IsAbsent, IsMember, IsDistinct}
 use Rattle.ic_link_ops.proofs.PlacedValues.{values_beside}
 use Rattle.ic_link_ops.proofs.SequenceLemmas.{absent_with, distinct_middle, member_split, none_not, some_same}
 use Rattle.ic_container.specs.Rows.{Rows, Joins, Leaves, Moves}
 use Rattle.ic_container.specs.Values.{last_value, Without}
 
 module _ {T : Type 0} (objects new : Objects T) {p : Place} (same : (q : Place) → q ≢ p → object_at new q ≡ object_at objects q) where
-  -- a value in front of those of the row
+  -- a value before those of the row
   pub values_front : {k : ℕ} {back : List Place} {old after : Rows} {v : T} → object_at new p ≡ Some v → Joins k [] p back old after → IsAbsent p (old k) → values_at new (after k) ≡ v ∷ values_at objects (old k)
   values_front {k} {back} {old} {after} {v} there j out =
       ap (values_at new) (j.is ∙ ap (λ (l : List Place). p ∷ l) (sym j.was)) ∙ ap (λ (o : Option T). cons_option o (values_at new (old k))) there
@@ -39,7 +35,7 @@ module _ {T : Type 0} (objects new : Objects T) {p : Place} (same : (q : Place) 
       is = ap (values_at new) j.is ∙ values_beside objects new p same (front ++ back) (distinct_middle front back p (subst IsDistinct j.was distinct)) ∙ filter_map-append (object_at objects) front back;
     }
 
-    -- the value, or another one in its place, in front of the others
+    -- the value, or another one in its place, before the others
     pub values_moved : {k : ℕ} {front back behind : List Place} {old after : Rows} {v : T} → IsDistinct (old k) → object_at new p ≡ Some v → Moves k front p back [] behind old after
         → (rest : List T) × Without out (values_at objects (old k)) rest × (values_at new (after k) ≡ v ∷ rest)
     values_moved {k} {front} {back} {behind} {old} {v = v} distinct there j = (

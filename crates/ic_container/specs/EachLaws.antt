@@ -4,25 +4,20 @@ use Rattle.std.proofs.lemmas.Cmp.{nat_cmp_total}
 use Rattle.std.proofs.lemmas.List.Elements.{filter_map-append}
 use Rattle.std.specs.List.{AllByRecursion, cons_option}
 use Rattle.std.specs.Ordering.{nat_cmp}
-use Rattle.ic_unsafe_ref.specs.declared.place.Place.{Place}
-use Rattle.ic_unsafe_ref.specs.Places.{index_of}
-use Rattle.ic_unsafe_ref.specs.Objects.{Objects, Places, Frees, object_at, is_placed}
+use Rattle.ic_link_ops.specs.Prelude.{Place, index_of, Objects, Places, Frees, object_at, is_placed, IsAbsent, Table, IsLinked, IsUnlinked, LinksAlso, Unlinks, ArePlaced, RepresentsPlaced, StandAt, values_at}
 use Rattle.ic_unsafe_ref.proofs.Placing.{placed_there, others_placed, gone_there, others_left}
-use Rattle.ic_link_ops.specs.PlacedObjects.{ArePlaced, ShowsPlaced, StandAt, values_at}
 use Rattle.ic_link_ops.specs.EntryLaws.{linked_in_range}
 use Rattle.ic_link_ops.specs.Links.{link_of, words_of}
 use Rattle.ic_link_ops.specs.PlainTables as plain
 use Rattle.ic_link_ops.specs.PlainTables.{entries, linked_by}
-use Rattle.ic_link_ops.specs.RedBlackTree.{Node, Shows}
-use Rattle.ic_link_ops.specs.Sequences.{IsAbsent}
-use Rattle.ic_link_ops.specs.Tables.{Table, IsLinked, IsUnlinked, LinksAlso, Unlinks}
+use Rattle.ic_link_ops.specs.RedBlackTree.{Node, Represents}
 use Rattle.ic_link_ops.specs.ThreeWords.{has_link, no_words, node_in, node_of}
 use Rattle.ic_link_ops.specs.Widths.{Width, nameable, wide}
 use Rattle.ic_link_ops.proofs.CollectionLaws.{IsKind}
 use Rattle.ic_link_ops.proofs.Each.{all_back, all_without}
 use Rattle.ic_link_ops.proofs.LinkedSets.{everywhere}
 use Rattle.ic_link_ops.proofs.PlacedValues.{all_beside, values_beside, stand_put}
-use Rattle.ic_link_ops.proofs.ShownTrees.{red_black_trees}
+use Rattle.ic_link_ops.proofs.RepresentedTrees.{red_black_trees}
 use Rattle.ic_link_ops.proofs.SequenceLemmas.{absent_left, absent_right, absent_with, distinct_middle, member_split}
 use Rattle.ic_rbtree.specs.Borders.{IsSorted}
 use Rattle.ic_rbtree.specs.Comparing.{compared, own_order}
@@ -43,7 +38,7 @@ module _ {L E V : Type 0} {node : E → Node} {linked : E → Bool} {table : L �
   }
 
   module _ {values : List V} (each : HasEachIn node linked table key_of w root objects values) where
-    abbrev kind : IsKind (Shows node) linked None
+    abbrev kind : IsKind (Represents node) linked None
     kind = red_black_trees each.reads.alike
 
     -- AFTER `cover`
@@ -54,13 +49,13 @@ module _ {L E V : Type 0} {node : E → Node} {linked : E → Bool} {table : L �
     pub vacant_free : (p : Place) → object_at objects p ≡ None → IsUnlinked linked (table w) p
     vacant_free p vacant = each.exact p ∙ ap is_some vacant
 
-    pub each_ready : {more : Objects V} {p : Place} {r : V} → Places objects more p r → ShowsPlaced (Shows node (table w) root) more
+    pub each_ready : {more : Objects V} {p : Place} {r : V} → Places objects more p r → RepresentsPlaced (Represents node (table w) root) more
     each_ready {more} {p} places =
         let has = has_beside kind nat_cmp_total each.sorted {new = more} (vacant_free p places.vacant) (others_placed places) in record { members = has.members; shown = has.shown; placed = has.stand.placed }
 
     -- A NEW OBJECT, inserted in order
     pub each_new : {more : Objects V} {p : Place} {r : V} {v : L} {top : Option Place} → Places objects more p r
-        → ((s : List Place) → Shows node (table w) root s → InsertsInOrder (Shows node) (compared (own_order nat_cmp key_of more p) more) (table w) (table v) top s p)
+        → ((s : List Place) → Represents node (table w) root s → InsertsInOrder (Represents node) (compared (own_order nat_cmp key_of more p) more) (table w) (table v) top s p)
         → LinksAlso linked (table w) (table v) p → (all : List V) × InsertsValue nat_cmp key_of values r all × HasEachIn node linked table key_of v top more all
     each_new {more} {p} {r} {v} {top} places put also =
         let a = has_inserted kind nat_cmp_total each.sorted places put also in (
@@ -91,7 +86,7 @@ module _ {L E V : Type 0} {node : E → Node} {linked : E → Bool} {table : L �
       at_each P all = let m = each_member in (all_back P (values_at objects m.0) (out ∷ values_at objects m.1) (subst (AllByRecursion P) (each_value m.0 m.1 m.2) all)).0
 
       -- TAKEN OUT
-      module _ {new : Objects V} {v : L} {top : Option Place} (removed : (front back : List Place) → Shows node (table w) root (front ++ p ∷ back) → Shows node (table v) top (front ++ back))
+      module _ {new : Objects V} {v : L} {top : Option Place} (removed : (front back : List Place) → Represents node (table w) root (front ++ p ∷ back) → Represents node (table v) top (front ++ back))
           (off : Unlinks linked (table w) (table v) p) (frees : Frees objects new p) where
         pub each_taken : (front : List V) × (back : List V) × (values ≡ front ++ out ∷ back) × HasEachIn node linked table key_of v top new (front ++ back)
         each_taken = by each_member.0 each_member.1 each_member.2 where
@@ -110,10 +105,10 @@ module _ {L E V : Type 0} {node : E → Node} {linked : E → Bool} {table : L �
             is : values ≡ values_at objects front ++ out ∷ values_at objects back
             is = each_value front back at
 
-            less : HasSorted nat_cmp key_of (Shows node) linked (table v) top objects (values_at objects front ++ values_at objects back)
+            less : HasSorted nat_cmp key_of (Represents node) linked (table v) top objects (values_at objects front ++ values_at objects back)
             less = record {
               members = front ++ back;
-              shown = removed front back (subst (Shows node (table w) root) at each.sorted.shown);
+              shown = removed front back (subst (Represents node (table w) root) at each.sorted.shown);
               stand = record {
                 placed = all_without (λ q. IsSome (object_at objects q)) front p back (subst (ArePlaced objects) at each.sorted.stand.placed);
                 are = filter_map-append (object_at objects) front back;
@@ -137,7 +132,7 @@ module _ {L E V : Type 0} {node : E → Node} {linked : E → Bool} {table : L �
               reads = each.reads;
               sorted = record {
                 members = front ++ p ∷ back;
-                shown = subst (Shows node (table w) root) at each.sorted.shown;
+                shown = subst (Represents node (table w) root) at each.sorted.shown;
                 stand = subst (λ (l : List V). StandAt new (front ++ p ∷ back) (l ++ r ∷ values_at objects back)) (values_beside objects new p others front (absent_left p front back out_of))
                     (subst (λ (l : List V). StandAt new (front ++ p ∷ back) (values_at new front ++ r ∷ l)) (values_beside objects new p others back (absent_right p front back out_of)) (stand_put new p is front back placed));
                 sorted = rises;
@@ -147,7 +142,7 @@ module _ {L E V : Type 0} {node : E → Node} {linked : E → Bool} {table : L �
             },
           ) where
             out_of : IsAbsent p (front ++ back)
-            out_of = distinct_middle front back p (kind.distinct (table w) root (front ++ p ∷ back) (subst (Shows node (table w) root) at each.sorted.shown))
+            out_of = distinct_middle front back p (kind.distinct (table w) root (front ++ p ∷ back) (subst (Represents node (table w) root) at each.sorted.shown))
 
             placed : ArePlaced new (front ++ back)
             placed = all_beside objects new p others IsSome (front ++ back) out_of (all_without (λ q. IsSome (object_at objects q)) front p back (subst (ArePlaced objects) at each.sorted.stand.placed))

@@ -1,10 +1,8 @@
 -- A tree that has each of the objects, over links of either width.
 use Rattle.std.specs.Prelude.{◌≡◌, ℕ, Bool, Option, List}
 use Rattle.std.specs.Ordering.{nat_cmp}
-use Rattle.ic_unsafe_ref.specs.declared.place.Place.{Place}
-use Rattle.ic_unsafe_ref.specs.Objects.{Objects, is_placed}
-use Rattle.ic_link_ops.specs.RedBlackTree.{Node, Shows}
-use Rattle.ic_link_ops.specs.Tables.{Table, IsCovered, IsLinked}
+use Rattle.ic_link_ops.specs.Prelude.{Place, Objects, is_placed, Table, IsCovered, IsLinked}
+use Rattle.ic_link_ops.specs.RedBlackTree.{Node, Represents}
 use Rattle.ic_rbtree.specs.SortedValues.{HasSorted}
 
 module _ {L E : Type 0} (node : E → Node) (linked : E → Bool) (table : L → Table E) where
@@ -16,5 +14,5 @@ module _ {L E : Type 0} (node : E → Node) (linked : E → Bool) (table : L →
   -- THE TREE HAS EACH OBJECT: the objects, as these values, by a key; and exactly the places of objects are linked
   pub record HasEachIn {V : Type 0} (key_of : V → ℕ) (links : L) (root : Option Place) (objects : Objects V) (values : List V) : Type 0 where
     pub reads : ReadsTrees
-    pub sorted : HasSorted nat_cmp key_of (Shows node) linked (table links) root objects values
+    pub sorted : HasSorted nat_cmp key_of (Represents node) linked (table links) root objects values
     pub exact : (p : Place) → linked ((table links).entry p) ≡ is_placed objects p

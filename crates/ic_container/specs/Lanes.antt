@@ -1,14 +1,11 @@
 -- Objects in lanes: lists over one table, and a number of each object says in which list it is.
 use Rattle.std.specs.Prelude.{◌≡◌, ◌≢◌, ℕ, ◌<◌, Bool, Option, Some, None, List, [], map, refl}
 use Rattle.std.specs.Coded.{Coded, code_by, coded×, coded_list}
-use Rattle.ic_unsafe_ref.specs.Places.{place_code}
-use Rattle.ic_unsafe_ref.specs.declared.place.Place.{Place}
-use Rattle.ic_unsafe_ref.specs.Objects.{Objects, Places, Frees, object_at, objects_code, with_object}
+use Rattle.ic_link_ops.specs.Prelude.{Place, place_code, Objects, Places, Frees, object_at, objects_code, with_object, Table}
 use Rattle.ic_link_ops.specs.Chains.{Ends, no_members}
 use Rattle.ic_link_ops.specs.DoublyEntries as wide
 use Rattle.ic_link_ops.specs.DoublyEntries.{DoublyLinkOps}
 use Rattle.ic_link_ops.specs.LinkedList.{Neighbors}
-use Rattle.ic_link_ops.specs.Tables.{Table}
 use Rattle.ic_container.specs.Holds.{HoldsLists, ListJoins, ListLeaves, members_in}
 use Rattle.ic_container.specs.ListReadings.{ReadsLists}
 use Rattle.ic_container.specs.Rows.{Rows, Stays, PutsBack, Leaves, home_of, listed}
@@ -55,7 +52,7 @@ lanes_code {T} code =
 abbrev pub lane : {T : Type 0} → Lanes T → Rows
 lane l = listed [] l.lanes
 
--- as these members stand in them, and as a plain table of 8-byte words shows them
+-- as these members stand in them, and as a plain table of 8-byte words represents them
 abbrev pub lanes_in : {T L : Type 0} → (L → Ends → List Place) → Objects T → L → List Ends → Lanes T
 lanes_in members objects links lanes = record { lanes = map (λ list. members links list) lanes; values = objects }
 
@@ -73,7 +70,7 @@ pub record IsUnchanged {T : Type 0} (old new : Lanes T) : Type 0 where
   pub same_values : new.values ≡ old.values
 
 module _ {T : Type 0} (lane_of : T → ℕ) where
-  -- ONE OBJECT MORE, behind those of its lane
+  -- ONE OBJECT MORE, after those of its lane
   pub record Pushes (p : Place) (value : T) (old new : Lanes T) : Type 0 where
     pub placed : Places old.values new.values p value
     pub back : PutsBack (lane_of value) p (lane old) (lane new)

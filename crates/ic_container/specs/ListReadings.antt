@@ -1,8 +1,7 @@
 -- How a container reads the table of its lists, of whatever width.
 use Rattle.std.specs.Prelude.{◌≡◌, Bool}
-use Rattle.ic_unsafe_ref.specs.declared.place.Place.{Place}
+use Rattle.ic_link_ops.specs.Prelude.{Place, Table, IsCovered, IsLinked}
 use Rattle.ic_link_ops.specs.LinkedList.{Neighbors}
-use Rattle.ic_link_ops.specs.Tables.{Table, IsCovered, IsLinked}
 
 -- THE LAWS of such a table: an entry says in both ways alike whether its place is linked, and what is linked is covered
 pub record ReadsLists {L E : Type 0} (neighbors : E → Neighbors) (linked : E → Bool) (table : L → Table E) : Type 0 where

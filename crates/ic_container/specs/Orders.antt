@@ -2,14 +2,9 @@
 use Rattle.std.specs.Prelude.{◌≡◌, Bool, true, List, length, refl}
 use Rattle.std.specs.FinMap as map
 use Rattle.std.specs.Coded.{Coded, code_by, coded×, coded_list}
-use Rattle.ic_unsafe_ref.specs.declared.place.Place.{Place}
-use Rattle.ic_unsafe_ref.specs.Objects.{Objects, is_placed, objects_code}
-use Rattle.ic_unsafe_ref.specs.Places.{place_code}
+use Rattle.ic_link_ops.specs.Prelude.{Place, place_code, Objects, is_placed, objects_code, IsDistinct, IsMember, Table, ArePlaced, values_at}
 use Rattle.ic_link_ops.specs.Chains.{Ends, no_members}
 use Rattle.ic_link_ops.specs.LinkedList.{Neighbors}
-use Rattle.ic_link_ops.specs.PlacedObjects.{ArePlaced, values_at}
-use Rattle.ic_link_ops.specs.Sequences.{IsDistinct, IsMember}
-use Rattle.ic_link_ops.specs.Tables.{Table}
 use Rattle.ic_container.specs.Holds.{HoldsLists, members_in}
 use Rattle.ic_container.specs.ListReadings.{ReadsLists}
 use Rattle.ic_container.specs.Rows.{alone, home_of, to_one}
@@ -33,7 +28,7 @@ pub record IsWhole {T : Type 0} (o : Order T) : Type 0 where
   pub placed : ArePlaced o.values o.order
   pub all : (p : Place) → is_placed o.values p ≡ true → IsMember p o.order
 
--- as the table of a list shows them, of whatever width
+-- as the table of a list represents them, of whatever width
 abbrev pub order_of : {L E T : Type 0} → (E → Neighbors) → (L → Table E) → Objects T → L → Ends → Order T
 order_of neighbors table objects links list = record { order = members_in neighbors table links list; values = objects }
 

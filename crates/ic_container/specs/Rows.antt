@@ -1,9 +1,7 @@
 -- Rows: sequences of places by number, and where each place is at home.
 use Rattle.std.specs.Prelude.{◌≡◌, ◌≢◌, ℕ, zero, suc, Option, Some, None, List, [], ◌∷◌, ◌++◌, slice_index_or}
 use Rattle.std.specs.List.{AllByRecursion}
-use Rattle.ic_unsafe_ref.specs.declared.place.Place.{Place}
-use Rattle.ic_unsafe_ref.specs.Objects.{Objects, object_at}
-use Rattle.ic_link_ops.specs.Sequences.{IsMember}
+use Rattle.ic_link_ops.specs.Prelude.{Place, Objects, object_at, IsMember}
 
 -- a sequence of places for each number
 abbrev pub Rows : Type 0
@@ -42,7 +40,7 @@ abbrev pub Stays : Rows → Rows → Type 0
 Stays old new = (i : ℕ) → new i ≡ old i
 
 -- EACH PLACE IS AT HOME: what has a home is a member of its row, and nothing else is a member
-pub record IsHoused (home : Place → Option ℕ) (rows : Rows) : Type 0 where
+pub record EachInItsList (home : Place → Option ℕ) (rows : Rows) : Type 0 where
   pub own : (i : ℕ) → AllByRecursion (λ p. home p ≡ Some i) (rows i)
   pub all : (p : Place) (i : ℕ) → home p ≡ Some i → IsMember p (rows i)
 

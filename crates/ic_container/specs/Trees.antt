@@ -1,10 +1,8 @@
 -- What a container keeps of an index that has each of its objects, and of a tree.
 use Rattle.std.specs.Prelude.{◌≡◌, ◌≢◌, ℕ, ◌<◌, Bool, Option, Some, None, List, ◌∷◌, ◌++◌}
 use Rattle.std.specs.List.{AllByRecursion}
-use Rattle.ic_unsafe_ref.specs.declared.place.Place.{Place}
-use Rattle.ic_unsafe_ref.specs.Objects.{Objects, Places, object_at}
+use Rattle.ic_link_ops.specs.Prelude.{Place, Objects, Places, object_at, Table}
 use Rattle.ic_link_ops.specs.RedBlackTree.{Node}
-use Rattle.ic_link_ops.specs.Tables.{Table}
 use Rattle.ic_link_ops.specs.ThreeWords.{node_of}
 use Rattle.ic_container.specs.EachObject.{HasEachIn}
 use Rattle.ic_rbtree.specs.PlainTrees.{TreeLinkOps, is_linked, plain_table}
@@ -42,7 +40,7 @@ module _ {T : Type 0} (key : T → ℕ) where
   abbrev pub IsUnique : Objects T → Type 0
   IsUnique objects = (p q : Place) (v w : T) → object_at objects p ≡ Some v → object_at objects q ≡ Some w → key v ≡ key w → p ≡ q
 
-  -- ONE PLACE MORE, behind all whose objects have the key of its own or a lower one
+  -- ONE PLACE MORE, after all whose objects have the key of its own or a lower one
   pub record PutsInOrder (objects : Objects T) (old new : List Place) (p : Place) : Type 0 where
     pub front : List Place
     pub back : List Place

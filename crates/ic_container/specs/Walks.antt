@@ -1,8 +1,7 @@
 -- Walks over the objects of a container, in their order.
 use Rattle.std.specs.Prelude.{true, List}
-use Rattle.ic_unsafe_ref.specs.Objects.{Objects}
+use Rattle.ic_link_ops.specs.Prelude.{Objects, Table}
 use Rattle.ic_link_ops.specs.LinkedList.{Neighbors, IsBetween, next_of}
-use Rattle.ic_link_ops.specs.Tables.{Table}
 use Rattle.ic_chain.specs.declared.iter.Iter.{Iter}
 use Rattle.ic_chain.specs.Iter.{objects_left, CanWalk}
 

@@ -7,10 +7,8 @@
 //! ```
 
 ghost use Rattle.std.specs.Prelude.{◌≡◌, ◌<◌, [], ℕ, List, Option, Some, length};
-ghost use Rattle.ic_unsafe_ref.specs.declared.place.Place.{Place};
-ghost use Rattle.ic_link_ops.specs.LinkedList.{Shows, ShowsSome, members};
-ghost use Rattle.ic_link_ops.specs.Positions.{HasMember};
-ghost use Rattle.ic_link_ops.specs.Tables.{IsCovered, IsUnlinked};
+ghost use Rattle.ic_link_ops.specs.Prelude.{Place, IsCovered, IsUnlinked, HasMember};
+ghost use Rattle.ic_link_ops.specs.LinkedList.{Represents, RepresentsSome, members};
 ghost use Rattle.ic_container.specs.Holds.{HoldsLists};
 ghost use Rattle.ic_container.specs.Lanes.{lane_at, IsFirst, LaneJoins, LaneLeaves, LaneMoves};
 
@@ -20,7 +18,7 @@ use ic_link_ops::linked_list::LinkedListOps;
 use ic_linked_list::LinkedList;
 use ic_unsafe_ref::Place;
 
-/// Puts the object behind all others of a lane. It requires that there is this lane, that its place is covered, and that it is not
+/// Puts the object after all others of a lane. It requires that there is this lane, that its place is covered, and that it is not
 /// linked. O(1), and it takes no memory.
 pub fn push_back<T, L: LinkedListOps + AcceptsUnlinked>(
     lanes: &mut [LinkedList<T>],
@@ -31,7 +29,7 @@ pub fn push_back<T, L: LinkedListOps + AcceptsUnlinked>(
     requires lane { lane < length lanes.old }
     requires covered { IsCovered (L.table links.old) place }
     requires unlinked { IsUnlinked L.linked (L.table links.old) place }
-    requires shown { ShowsSome L.neighbors (L.table links.old) (lane_at lanes.old lane) }
+    requires shown { RepresentsSome L.neighbors (L.table links.old) (lane_at lanes.old lane) }
     ensures { LaneJoins L.neighbors L.linked lane (L.table links.old) (L.table links.new) lanes.old lanes.new (members L.neighbors (L.table links.old) (lane_at lanes.old lane)) place [] }
 {
     lists::push_back(&mut lanes[lane], links, place);
@@ -46,13 +44,13 @@ pub fn remove<T, L: LinkedListOps + AcceptsUnlinked>(
     place: Place,
 )
     requires lane { lane < length lanes.old }
-    requires member { HasMember (Shows L.neighbors (L.table links.old) (lane_at lanes.old lane)) place }
+    requires member { HasMember (Represents L.neighbors (L.table links.old) (lane_at lanes.old lane)) place }
     ensures { (front : List Place) × (back : List Place) × LaneLeaves L.neighbors L.linked lane (L.table links.old) (L.table links.new) lanes.old lanes.new front place back }
 {
     lists::remove(&mut lanes[lane], links, place);
 }
 
-/// Moves a member of a lane behind all others of another one, which may be the same. It requires that there are both lanes, and that the
+/// Moves a member of a lane after all others of another one, which may be the same. It requires that there are both lanes, and that the
 /// object is at home in the first. O(1), and it takes no memory.
 pub fn move_to_back<T, L: LinkedListOps + AcceptsUnlinked>(
     lanes: &mut [LinkedList<T>],

@@ -8,9 +8,7 @@
 
 ghost use Rattle.std.specs.Prelude.{◌≡◌, ◌≤◌, ◌↔◌, ◌^◌, ◌++◌, ◌∷◌, [], true, None, Some, Err, List, length, IfOk, IfErr, IfSome, IsTrue, MatchOption};
 ghost use Rattle.std.specs.Option.{option_copied};
-ghost use Rattle.ic_unsafe_ref.specs.declared.place.Place.{Place};
-ghost use Rattle.ic_unsafe_ref.specs.Objects.{Frees, Places, is_placed, object_at, with_object};
-ghost use Rattle.ic_link_ops.specs.Sequences.{first, last};
+ghost use Rattle.ic_link_ops.specs.Prelude.{Place, Frees, Places, is_placed, object_at, with_object, first, last};
 ghost use Rattle.ic_pool.specs.Refusals.{value_of};
 ghost use Rattle.ic_container.specs.Orders.{values_of};
 ghost use Rattle.ic_container.specs.Values.{Without};
@@ -78,7 +76,7 @@ impl<T, A: Allocator, W: PrevPlace> Listed<T, A, W> {
         }
     }
 
-    /// Adds an object in front of all others. O(1), and at most two requests for memory.
+    /// Adds an object before all others. O(1), and at most two requests for memory.
     ///
     /// Where it is refused the value comes back, and nothing has changed: with `NoPlaceLeft` exactly if no place is left, of 4,294,967,296,
     /// and else with `OutOfMemory`, also where links of 4-byte words have no name left.
@@ -96,7 +94,7 @@ impl<T, A: Allocator, W: PrevPlace> Listed<T, A, W> {
         Ok(object)
     }
 
-    /// Adds an object behind all others. Else as `place_front`.
+    /// Adds an object after all others. Else as `place_front`.
     pub fn place_back(&mut self, value: T) -> Result<UnsafeRef<T>, PlaceError<T>>
         ensures placed { IfOk result (λ object. Places self.old.values self.new.values object value) }
         ensures back { IfOk result (λ object. self.new.order ≡ self.old.order ++ object ∷ []) }
@@ -111,7 +109,7 @@ impl<T, A: Allocator, W: PrevPlace> Listed<T, A, W> {
         Ok(object)
     }
 
-    /// Puts the object in front of all others, which keep their order. It requires that an object stands at the place. O(1), and it takes
+    /// Puts the object before all others, which keep their order. It requires that an object stands at the place. O(1), and it takes
     /// no memory.
     pub fn move_to_front(&mut self, place: Place)
         requires placed { is_placed self.old.values place ≡ true }
@@ -121,7 +119,7 @@ impl<T, A: Allocator, W: PrevPlace> Listed<T, A, W> {
         lists::move_to_front(&mut self.list, &mut self.pool.links, place);
     }
 
-    /// Puts the object behind all others. Else as `move_to_front`.
+    /// Puts the object after all others. Else as `move_to_front`.
     pub fn move_to_back(&mut self, place: Place)
         requires placed { is_placed self.old.values place ≡ true }
         ensures moved { (others : List Place) × Without place self.old.order others × (self.new.order ≡ others ++ place ∷ []) }

@@ -6,10 +6,8 @@
 //! ```
 
 ghost use Rattle.std.specs.Prelude.{[], List};
-ghost use Rattle.ic_unsafe_ref.specs.declared.place.Place.{Place};
-ghost use Rattle.ic_link_ops.specs.LinkedList.{Shows, ShowsSome, members};
-ghost use Rattle.ic_link_ops.specs.Positions.{HasMember};
-ghost use Rattle.ic_link_ops.specs.Tables.{IsCovered, IsUnlinked};
+ghost use Rattle.ic_link_ops.specs.Prelude.{Place, IsCovered, IsUnlinked, HasMember};
+ghost use Rattle.ic_link_ops.specs.LinkedList.{Represents, RepresentsSome, members};
 ghost use Rattle.ic_container.specs.Holds.{ListJoins, ListLeaves, ListMoves};
 
 use ic_link_ops::AcceptsUnlinked;
@@ -17,7 +15,7 @@ use ic_link_ops::linked_list::LinkedListOps;
 use ic_linked_list::LinkedList;
 use ic_unsafe_ref::{Place, UnsafeRef};
 
-/// Puts the object in front of all others. It requires that its place is covered, and that it is not linked. O(1), and it takes no memory.
+/// Puts the object before all others. It requires that its place is covered, and that it is not linked. O(1), and it takes no memory.
 #[inline]
 pub fn push_front<T, L: LinkedListOps + AcceptsUnlinked>(
     list: &mut LinkedList<T>,
@@ -26,13 +24,13 @@ pub fn push_front<T, L: LinkedListOps + AcceptsUnlinked>(
 )
     requires covered { IsCovered (L.table links.old) place }
     requires unlinked { IsUnlinked L.linked (L.table links.old) place }
-    requires shown { ShowsSome L.neighbors (L.table links.old) list.old }
+    requires shown { RepresentsSome L.neighbors (L.table links.old) list.old }
     ensures { ListJoins L.neighbors L.linked (L.table links.old) (L.table links.new) list.old list.new [] place (members L.neighbors (L.table links.old) list.old) }
 {
     let _ = list.push_front(links, UnsafeRef::new(place)); // proved: it is not linked
 }
 
-/// Puts the object behind all others. It requires that its place is covered, and that it is not linked. O(1), and it takes no memory.
+/// Puts the object after all others. It requires that its place is covered, and that it is not linked. O(1), and it takes no memory.
 #[inline]
 pub fn push_back<T, L: LinkedListOps + AcceptsUnlinked>(
     list: &mut LinkedList<T>,
@@ -41,7 +39,7 @@ pub fn push_back<T, L: LinkedListOps + AcceptsUnlinked>(
 )
     requires covered { IsCovered (L.table links.old) place }
     requires unlinked { IsUnlinked L.linked (L.table links.old) place }
-    requires shown { ShowsSome L.neighbors (L.table links.old) list.old }
+    requires shown { RepresentsSome L.neighbors (L.table links.old) list.old }
     ensures { ListJoins L.neighbors L.linked (L.table links.old) (L.table links.new) list.old list.new (members L.neighbors (L.table links.old) list.old) place [] }
 {
     let _ = list.push_back(links, UnsafeRef::new(place)); // proved: it is not linked
@@ -54,38 +52,30 @@ pub fn remove<T, L: LinkedListOps + AcceptsUnlinked>(
     links: &mut L,
     place: Place,
 )
-    requires member { HasMember (Shows L.neighbors (L.table links.old) list.old) place }
+    requires member { HasMember (Represents L.neighbors (L.table links.old) list.old) place }
     ensures { (front : List Place) × (back : List Place) × ListLeaves L.neighbors L.linked (L.table links.old) (L.table links.new) list.old list.new front place back }
 {
     list.remove(links, &UnsafeRef::new(place));
 }
 
-/// Puts a member in front of all others, which keep their order. It requires that the object is a member. O(1), and it takes no memory.
+/// Puts a member before all others, which keep their order, and it stays linked. It requires that the object is a member. O(1), and it takes
+/// no memory.
 #[inline]
-pub fn move_to_front<T, L: LinkedListOps + AcceptsUnlinked>(
-    list: &mut LinkedList<T>,
-    links: &mut L,
-    place: Place,
-)
-    requires member { HasMember (Shows L.neighbors (L.table links.old) list.old) place }
+pub fn move_to_front<T, L: LinkedListOps>(list: &mut LinkedList<T>, links: &mut L, place: Place)
+    requires member { HasMember (Represents L.neighbors (L.table links.old) list.old) place }
     ensures { (front : List Place) × (back : List Place) × (behind : List Place)
         × ListMoves L.neighbors L.linked (L.table links.old) (L.table links.new) list.old list.new front place back [] behind }
 {
-    remove(list, links, place);
-    push_front(list, links, place);
+    list.move_to_front(links, &UnsafeRef::new(place));
 }
 
-/// Puts a member behind all others, which keep their order. It requires that the object is a member. O(1), and it takes no memory.
+/// Puts a member after all others, which keep their order, and it stays linked. It requires that the object is a member. O(1), and it takes
+/// no memory.
 #[inline]
-pub fn move_to_back<T, L: LinkedListOps + AcceptsUnlinked>(
-    list: &mut LinkedList<T>,
-    links: &mut L,
-    place: Place,
-)
-    requires member { HasMember (Shows L.neighbors (L.table links.old) list.old) place }
+pub fn move_to_back<T, L: LinkedListOps>(list: &mut LinkedList<T>, links: &mut L, place: Place)
+    requires member { HasMember (Represents L.neighbors (L.table links.old) list.old) place }
     ensures { (front : List Place) × (back : List Place) × (before : List Place)
         × ListMoves L.neighbors L.linked (L.table links.old) (L.table links.new) list.old list.new front place back before [] }
 {
-    remove(list, links, place);
-    push_back(list, links, place);
+    list.move_to_back(links, &UnsafeRef::new(place));
 }

@@ -8,9 +8,7 @@
 
 ghost use Rattle.std.specs.Prelude.{◌≡◌, true};
 ghost use Rattle.std.specs.Option.{option_copied};
-ghost use Rattle.ic_unsafe_ref.specs.declared.place.Place.{Place};
-ghost use Rattle.ic_unsafe_ref.specs.Objects.{Objects as Placed, Frees, is_placed};
-ghost use Rattle.ic_link_ops.specs.Tables.{IsCovered, IsUnlinked};
+ghost use Rattle.ic_link_ops.specs.Prelude.{Place, Objects as Placed, Frees, is_placed, IsCovered, IsUnlinked};
 ghost use Rattle.ic_rbtree.specs.Members.{members};
 ghost use Rattle.ic_rbtree.specs.Tree.{adapter_of, root_of};
 ghost use Rattle.ic_container.specs.Trees.{HasAllIn, IsFound, IsFoundObject, LacksOne, PutsInOrder};
@@ -49,7 +47,7 @@ pub fn get<'o, K: KeyAdapter<Key = u64>, L: RBTreeOps, B: Allocator>(
     objects.get(place)
 }
 
-/// Puts a new object where its key belongs, behind those with the same key. It requires that the tree has each other object, and that
+/// Puts a new object where its key belongs, after those with the same key. It requires that the tree has each other object, and that
 /// the place is covered. O(log n), and it takes no memory.
 pub fn insert<K: KeyAdapter<Key = u64>, L: RBTreeOps + AcceptsUnlinked, B: Allocator>(
     tree: &mut RBTree<K>,

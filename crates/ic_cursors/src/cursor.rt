@@ -84,16 +84,16 @@ impl<'a, C: Collection, L> Cursor<'a, C, L> {
 }
 
 impl<'a, L: LinkOps, C: CursorOps<L>> Cursor<'a, C, L> {
-    ghost use Rattle.ic_cursors.specs.Cursor.{list_of, links_of, position, site_of, IsStanding};
+    ghost use Rattle.ic_cursors.specs.Cursor.{list_of, links_of, position, site_of, IsValid};
 
     /// Moves to the next member, from null to the first one, and from the last one to null.
     ///
     /// The gap that was after the cursor is then before it.
     #[inline]
     pub fn move_next(&mut self)
-        requires stands { IsStanding C.StandsAt self.old }
-        ensures moved { MovesOn C.Shows L.table (site_of C.head_of C.Position.member self.old) (position C.Position.member self.new) }
-        ensures kept { IsStanding C.StandsAt self.new }
+        requires stands { IsValid C.IsValidAt self.old }
+        ensures moved { MovesOn C.Represents L.table (site_of C.head_of C.Position.member self.old) (position C.Position.member self.new) }
+        ensures kept { IsValid C.IsValidAt self.new }
         ensures list { list_of self.new ≡ list_of self.old }
         ensures links { links_of self.new ≡ links_of self.old }
     {
@@ -103,9 +103,9 @@ impl<'a, L: LinkOps, C: CursorOps<L>> Cursor<'a, C, L> {
     /// A cursor where [`Cursor::move_next`] would stand.
     #[inline]
     pub fn peek_next(&self) -> Cursor<'a, C, L>
-        requires stands { IsStanding C.StandsAt self.now }
-        ensures moved { MovesOn C.Shows L.table (site_of C.head_of C.Position.member self.now) (position C.Position.member result) }
-        ensures kept { IsStanding C.StandsAt result }
+        requires stands { IsValid C.IsValidAt self.now }
+        ensures moved { MovesOn C.Represents L.table (site_of C.head_of C.Position.member self.now) (position C.Position.member result) }
+        ensures kept { IsValid C.IsValidAt result }
         ensures list { list_of result ≡ list_of self.now }
         ensures links { links_of result ≡ links_of self.now }
     {
@@ -118,16 +118,16 @@ impl<'a, L: LinkOps, C: CursorOps<L>> Cursor<'a, C, L> {
 }
 
 impl<'a, L: LinkOps, C: Bidirectional<L>> Cursor<'a, C, L> {
-    ghost use Rattle.ic_cursors.specs.Cursor.{list_of, links_of, position, site_of, IsStanding};
+    ghost use Rattle.ic_cursors.specs.Cursor.{list_of, links_of, position, site_of, IsValid};
 
     /// Moves to the previous member, from null to the last one, and from the first one to null.
     ///
     /// The gap that was before the cursor is then after it.
     #[inline]
     pub fn move_prev(&mut self)
-        requires stands { IsStanding C.StandsAt self.old }
-        ensures moved { MovesBack C.Shows L.table (site_of C.head_of C.Position.member self.old) (position C.Position.member self.new) }
-        ensures kept { IsStanding C.StandsAt self.new }
+        requires stands { IsValid C.IsValidAt self.old }
+        ensures moved { MovesBack C.Represents L.table (site_of C.head_of C.Position.member self.old) (position C.Position.member self.new) }
+        ensures kept { IsValid C.IsValidAt self.new }
         ensures list { list_of self.new ≡ list_of self.old }
         ensures links { links_of self.new ≡ links_of self.old }
     {
@@ -137,9 +137,9 @@ impl<'a, L: LinkOps, C: Bidirectional<L>> Cursor<'a, C, L> {
     /// A cursor where [`Cursor::move_prev`] would stand.
     #[inline]
     pub fn peek_prev(&self) -> Cursor<'a, C, L>
-        requires stands { IsStanding C.StandsAt self.now }
-        ensures moved { MovesBack C.Shows L.table (site_of C.head_of C.Position.member self.now) (position C.Position.member result) }
-        ensures kept { IsStanding C.StandsAt result }
+        requires stands { IsValid C.IsValidAt self.now }
+        ensures moved { MovesBack C.Represents L.table (site_of C.head_of C.Position.member self.now) (position C.Position.member result) }
+        ensures kept { IsValid C.IsValidAt result }
         ensures list { list_of result ≡ list_of self.now }
         ensures links { links_of result ≡ links_of self.now }
     {

@@ -2,18 +2,13 @@
 //!
 //! ```text
 //! let mut cursor = list.front_mut(&mut links);
-//! cursor.insert_after(object)?;  // behind the first member
-//! let rest = cursor.split_after(); // the object, and all behind it
+//! cursor.insert_after(object)?;  // after the first member
+//! let rest = cursor.split_after(); // the object, and all after it
 //! ```
 
 ghost use Rattle.std.specs.Prelude.{◌≡◌, ◌↔◌, true, List, None, IsTrue};
 ghost use Rattle.std.specs.Option.{option_copied};
-ghost use Rattle.ic_unsafe_ref.specs.declared.place.Place.{Place};
-ghost use Rattle.ic_unsafe_ref.specs.Objects.{is_placed};
-ghost use Rattle.ic_link_ops.specs.Sequences.{IsAfter, IsBefore};
-ghost use Rattle.ic_link_ops.specs.Tables.{IsCovered};
-ghost use Rattle.ic_link_ops.specs.Positions.{MovesOn, MovesBack, object_there};
-ghost use Rattle.ic_link_ops.specs.PlacedObjects.{ShowsPlaced};
+ghost use Rattle.ic_link_ops.specs.Prelude.{Place, is_placed, IsAfter, IsBefore, IsCovered, MovesOn, MovesBack, object_there, RepresentsPlaced};
 ghost use Rattle.ic_link_ops.specs.EditsAt.{InsertsBeside, RemovesThere, ReplacesThere, RemovesNext, ReplacesNext, SplicesBeside, SplitsAfter, SplitsBefore, WhereApart};
 ghost use Rattle.ic_cursors.specs.Ordered.{InsertsAmong};
 
@@ -112,7 +107,7 @@ impl<'a, C: Collection, L> CursorMut<'a, C, L> {
 }
 
 impl<'a, L: LinkOps, C: CursorOps<L>> CursorMut<'a, C, L> {
-    ghost use Rattle.ic_cursors.specs.CursorMut.{list_of, links_of, position, site_of, IsStanding, Stays, Edited};
+    ghost use Rattle.ic_cursors.specs.CursorMut.{list_of, links_of, position, site_of, IsValid, Stays, Edited};
     ghost use Rattle.ic_cursors.specs.Cursor as reading;
 
     /// Moves to the next member, from null to the first one, and from the last one to null.
@@ -120,9 +115,9 @@ impl<'a, L: LinkOps, C: CursorOps<L>> CursorMut<'a, C, L> {
     /// The gap that was after the cursor is then before it.
     #[inline]
     pub fn move_next(&mut self)
-        requires stands { IsStanding C.StandsAt self.old }
-        ensures moved { MovesOn C.Shows L.table (site_of C.head_of C.Position.member self.old) (position C.Position.member self.new) }
-        ensures kept { IsStanding C.StandsAt self.new }
+        requires stands { IsValid C.IsValidAt self.old }
+        ensures moved { MovesOn C.Represents L.table (site_of C.head_of C.Position.member self.old) (position C.Position.member self.new) }
+        ensures kept { IsValid C.IsValidAt self.new }
         ensures stays { Stays self.old self.new }
     {
         self.current = self.list.next_of(&*self.links, &self.current);
@@ -131,9 +126,9 @@ impl<'a, L: LinkOps, C: CursorOps<L>> CursorMut<'a, C, L> {
     /// A cursor that reads, where [`CursorMut::move_next`] would stand.
     #[inline]
     pub fn peek_next(&self) -> Cursor<'_, C, L>
-        requires stands { IsStanding C.StandsAt self.now }
-        ensures moved { MovesOn C.Shows L.table (site_of C.head_of C.Position.member self.now) (reading.position C.Position.member result) }
-        ensures kept { reading.IsStanding C.StandsAt result }
+        requires stands { IsValid C.IsValidAt self.now }
+        ensures moved { MovesOn C.Represents L.table (site_of C.head_of C.Position.member self.now) (reading.position C.Position.member result) }
+        ensures kept { reading.IsValid C.IsValidAt result }
         ensures list { reading.list_of result ≡ list_of self.now }
         ensures links { reading.links_of result ≡ links_of self.now }
     {
@@ -141,7 +136,7 @@ impl<'a, L: LinkOps, C: CursorOps<L>> CursorMut<'a, C, L> {
         cursor.peek_next()
     }
 
-    /// Puts the object behind the cursor, and in front of the first member at null, unless its link is refused.
+    /// Puts the object after the cursor, and before the first member at null, unless its link is refused.
     ///
     /// It requires that the object's place is covered. The cursor stays where it is.
     #[inline]
@@ -150,10 +145,10 @@ impl<'a, L: LinkOps, C: CursorOps<L>> CursorMut<'a, C, L> {
         object: UnsafeRef<C::Object>,
     ) -> Result<(), AlreadyLinked<C::Object>>
         requires covered { IsCovered (L.table (links_of self.old)) object }
-        requires stands { IsStanding C.StandsAt self.old }
-        ensures inserted { InsertsBeside C.Shows L.table L.Does L.Refused IsAfter
+        requires stands { IsValid C.IsValidAt self.old }
+        ensures inserted { InsertsBeside C.Represents L.table L.Trace L.Refused IsAfter
             (site_of C.head_of C.Position.member self.old) object result (site_of C.head_of C.Position.member self.new) }
-        ensures kept { Edited C.StandsAt C.Keeps self.old self.new }
+        ensures kept { Edited C.IsValidAt C.Keeps self.old self.new }
     {
         if !self
             .list
@@ -166,7 +161,7 @@ impl<'a, L: LinkOps, C: CursorOps<L>> CursorMut<'a, C, L> {
 }
 
 impl<'a, L: LinkOps, C: Bidirectional<L>> CursorMut<'a, C, L> {
-    ghost use Rattle.ic_cursors.specs.CursorMut.{list_of, links_of, position, site_of, IsStanding, Stays, Edited};
+    ghost use Rattle.ic_cursors.specs.CursorMut.{list_of, links_of, position, site_of, IsValid, Stays, Edited};
     ghost use Rattle.ic_cursors.specs.Cursor as reading;
 
     /// Moves to the previous member, from null to the last one, and from the first one to null.
@@ -174,9 +169,9 @@ impl<'a, L: LinkOps, C: Bidirectional<L>> CursorMut<'a, C, L> {
     /// The gap that was before the cursor is then after it.
     #[inline]
     pub fn move_prev(&mut self)
-        requires stands { IsStanding C.StandsAt self.old }
-        ensures moved { MovesBack C.Shows L.table (site_of C.head_of C.Position.member self.old) (position C.Position.member self.new) }
-        ensures kept { IsStanding C.StandsAt self.new }
+        requires stands { IsValid C.IsValidAt self.old }
+        ensures moved { MovesBack C.Represents L.table (site_of C.head_of C.Position.member self.old) (position C.Position.member self.new) }
+        ensures kept { IsValid C.IsValidAt self.new }
         ensures stays { Stays self.old self.new }
     {
         self.current = self.list.prev_of(&*self.links, &self.current);
@@ -185,9 +180,9 @@ impl<'a, L: LinkOps, C: Bidirectional<L>> CursorMut<'a, C, L> {
     /// A cursor that reads, where [`CursorMut::move_prev`] would stand.
     #[inline]
     pub fn peek_prev(&self) -> Cursor<'_, C, L>
-        requires stands { IsStanding C.StandsAt self.now }
-        ensures moved { MovesBack C.Shows L.table (site_of C.head_of C.Position.member self.now) (reading.position C.Position.member result) }
-        ensures kept { reading.IsStanding C.StandsAt result }
+        requires stands { IsValid C.IsValidAt self.now }
+        ensures moved { MovesBack C.Represents L.table (site_of C.head_of C.Position.member self.now) (reading.position C.Position.member result) }
+        ensures kept { reading.IsValid C.IsValidAt result }
         ensures list { reading.list_of result ≡ list_of self.now }
         ensures links { reading.links_of result ≡ links_of self.now }
     {
@@ -195,7 +190,7 @@ impl<'a, L: LinkOps, C: Bidirectional<L>> CursorMut<'a, C, L> {
         cursor.peek_prev()
     }
 
-    /// Puts the object in front of the cursor, and behind the last member at null, unless its link is refused.
+    /// Puts the object before the cursor, and after the last member at null, unless its link is refused.
     ///
     /// It requires that the object's place is covered. The cursor stays where it is.
     #[inline]
@@ -204,10 +199,10 @@ impl<'a, L: LinkOps, C: Bidirectional<L>> CursorMut<'a, C, L> {
         object: UnsafeRef<C::Object>,
     ) -> Result<(), AlreadyLinked<C::Object>>
         requires covered { IsCovered (L.table (links_of self.old)) object }
-        requires stands { IsStanding C.StandsAt self.old }
-        ensures inserted { InsertsBeside C.Shows L.table L.Does L.Refused IsBefore
+        requires stands { IsValid C.IsValidAt self.old }
+        ensures inserted { InsertsBeside C.Represents L.table L.Trace L.Refused IsBefore
             (site_of C.head_of C.Position.member self.old) object result (site_of C.head_of C.Position.member self.new) }
-        ensures kept { Edited C.StandsAt C.Keeps self.old self.new }
+        ensures kept { Edited C.IsValidAt C.Keeps self.old self.new }
     {
         if !self
             .list
@@ -223,9 +218,9 @@ impl<'a, L: LinkOps, C: Bidirectional<L>> CursorMut<'a, C, L> {
     /// The cursor goes on to the following member, or to null.
     #[inline]
     pub fn remove(&mut self) -> Option<UnsafeRef<C::Object>>
-        requires stands { IsStanding C.StandsAt self.old }
-        ensures removed { RemovesThere C.Shows L.table L.Does (site_of C.head_of C.Position.member self.old) result (site_of C.head_of C.Position.member self.new) }
-        ensures kept { Edited C.StandsAt C.Keeps self.old self.new }
+        requires stands { IsValid C.IsValidAt self.old }
+        ensures removed { RemovesThere C.Represents L.table L.Trace (site_of C.head_of C.Position.member self.old) result (site_of C.head_of C.Position.member self.new) }
+        ensures kept { Edited C.IsValidAt C.Keeps self.old self.new }
     {
         let place = self.list.remove_at(self.links, &mut self.current)?;
         Some(UnsafeRef::new(place))
@@ -241,10 +236,10 @@ impl<'a, L: LinkOps, C: Bidirectional<L>> CursorMut<'a, C, L> {
         object: UnsafeRef<C::Object>,
     ) -> Result<UnsafeRef<C::Object>, ReplaceError<C::Object>>
         requires covered { IsCovered (L.table (links_of self.old)) object }
-        requires stands { IsStanding C.StandsAt self.old }
-        ensures replaced { ReplacesThere C.Shows L.table L.Does L.Refused
+        requires stands { IsValid C.IsValidAt self.old }
+        ensures replaced { ReplacesThere C.Represents L.table L.Trace L.Refused
             (site_of C.head_of C.Position.member self.old) object result (site_of C.head_of C.Position.member self.new) }
-        ensures kept { Edited C.StandsAt C.Keeps self.old self.new }
+        ensures kept { Edited C.IsValidAt C.Keeps self.old self.new }
     {
         let (out, place) = (self.current.get(), object.place());
         let is_acquired = self.list.replace_at(self.links, &mut self.current, place);
@@ -253,9 +248,9 @@ impl<'a, L: LinkOps, C: Bidirectional<L>> CursorMut<'a, C, L> {
 }
 
 impl<'a, L: LinkOps, C: Ordered<L>> CursorMut<'a, C, L> {
-    ghost use Rattle.ic_cursors.specs.CursorMut.{list_of, links_of, site_of, IsStanding, Edited};
+    ghost use Rattle.ic_cursors.specs.CursorMut.{list_of, links_of, site_of, IsValid, Edited};
 
-    /// Puts the object where its key belongs, behind the members that are not greater, unless its link is refused.
+    /// Puts the object where its key belongs, after the members that are not greater, unless its link is refused.
     ///
     /// It requires that the object is placed, its place covered, and all members placed. The cursor stays where it is. A refused
     /// object comes back, and nothing else has changed.
@@ -266,12 +261,12 @@ impl<'a, L: LinkOps, C: Ordered<L>> CursorMut<'a, C, L> {
         object: UnsafeRef<C::Object>,
     ) -> Result<(), AlreadyLinked<C::Object>>
         requires covered { IsCovered (L.table (links_of self.old)) object }
-        requires placed { ShowsPlaced (C.Shows (L.table (links_of self.old)) (C.head_of (list_of self.old))) (O.values objects.now) }
+        requires placed { RepresentsPlaced (C.Represents (L.table (links_of self.old)) (C.head_of (list_of self.old))) (O.values objects.now) }
         requires object { is_placed (O.values objects.now) object ≡ true }
-        requires stands { IsStanding C.StandsAt self.old }
-        ensures inserted { InsertsAmong C.Shows L.table L.Does L.Refused (C.order_of (list_of self.old) (O.values objects.now) object)
+        requires stands { IsValid C.IsValidAt self.old }
+        ensures inserted { InsertsAmong C.Represents L.table L.Trace L.Refused (C.order_of (list_of self.old) (O.values objects.now) object)
             (site_of C.head_of C.Position.member self.old) object result (site_of C.head_of C.Position.member self.new) }
-        ensures kept { Edited C.StandsAt C.Keeps self.old self.new }
+        ensures kept { Edited C.IsValidAt C.Keeps self.old self.new }
     {
         if !self
             .list
@@ -284,22 +279,22 @@ impl<'a, L: LinkOps, C: Ordered<L>> CursorMut<'a, C, L> {
 }
 
 impl<'a, L: LinkOps, C: ForwardOnly<L>> CursorMut<'a, C, L> {
-    ghost use Rattle.ic_cursors.specs.CursorMut.{links_of, site_of, IsStanding, Edited};
+    ghost use Rattle.ic_cursors.specs.CursorMut.{links_of, site_of, IsValid, Edited};
 
-    /// Removes the member behind the cursor and returns it, at null the first one; `None` where there is none.
+    /// Removes the member after the cursor and returns it, at null the first one; `None` where there is none.
     ///
     /// The cursor stays where it is.
     #[inline]
     pub fn remove_next(&mut self) -> Option<UnsafeRef<C::Object>>
-        requires stands { IsStanding C.StandsAt self.old }
-        ensures removed { RemovesNext C.Shows L.table L.Does (site_of C.head_of C.Position.member self.old) result (site_of C.head_of C.Position.member self.new) }
-        ensures kept { Edited C.StandsAt C.Keeps self.old self.new }
+        requires stands { IsValid C.IsValidAt self.old }
+        ensures removed { RemovesNext C.Represents L.table L.Trace (site_of C.head_of C.Position.member self.old) result (site_of C.head_of C.Position.member self.new) }
+        ensures kept { Edited C.IsValidAt C.Keeps self.old self.new }
     {
         let place = self.list.remove_next_at(self.links, &mut self.current)?;
         Some(UnsafeRef::new(place))
     }
 
-    /// Puts the object in the place of the member behind the cursor, at null of the first one, and returns that member.
+    /// Puts the object in the place of the member after the cursor, at null of the first one, and returns that member.
     ///
     /// It requires that the object's place is covered. Where nothing is there it returns [`ReplaceError::Null`], whether or not the
     /// object is linked. The cursor stays where it is.
@@ -309,10 +304,10 @@ impl<'a, L: LinkOps, C: ForwardOnly<L>> CursorMut<'a, C, L> {
         object: UnsafeRef<C::Object>,
     ) -> Result<UnsafeRef<C::Object>, ReplaceError<C::Object>>
         requires covered { IsCovered (L.table (links_of self.old)) object }
-        requires stands { IsStanding C.StandsAt self.old }
-        ensures replaced { ReplacesNext C.Shows L.table L.Does L.Refused
+        requires stands { IsValid C.IsValidAt self.old }
+        ensures replaced { ReplacesNext C.Represents L.table L.Trace L.Refused
             (site_of C.head_of C.Position.member self.old) object result (site_of C.head_of C.Position.member self.new) }
-        ensures kept { Edited C.StandsAt C.Keeps self.old self.new }
+        ensures kept { Edited C.IsValidAt C.Keeps self.old self.new }
     {
         let place = object.place();
         let (out, is_acquired) = self
@@ -323,18 +318,18 @@ impl<'a, L: LinkOps, C: ForwardOnly<L>> CursorMut<'a, C, L> {
 }
 
 impl<'a, L: LinkOps, C: Splice<L>> CursorMut<'a, C, L> {
-    ghost use Rattle.ic_cursors.specs.CursorMut.{list_of, links_of, site_of, IsStanding, SameBorrows, Edited};
+    ghost use Rattle.ic_cursors.specs.CursorMut.{list_of, links_of, site_of, IsValid, SameBorrows, Edited};
 
-    /// Puts all of the given collection behind the cursor, and in front of the first member at null.
+    /// Puts all of the given collection after the cursor, and before the first member at null.
     ///
-    /// It requires that the table shows the given collection too; the two share no member. The cursor stays where it is.
+    /// It requires that the table represents the given collection too; the two share no member. The cursor stays where it is.
     #[inline]
     pub fn splice_after(&mut self, given: C)
-        requires stands { IsStanding C.StandsAt self.old }
-        requires given { (s : List Place) × C.Shows (L.table (links_of self.old)) (C.head_of given) s }
-        ensures spliced { SplicesBeside C.Shows L.table L.Does IsAfter
+        requires stands { IsValid C.IsValidAt self.old }
+        requires given { (s : List Place) × C.Represents (L.table (links_of self.old)) (C.head_of given) s }
+        ensures spliced { SplicesBeside C.Represents L.table L.Trace IsAfter
             (site_of C.head_of C.Position.member self.old) (C.head_of given) (site_of C.head_of C.Position.member self.new) }
-        ensures kept { WhereApart C.Shows L.table IsAfter (site_of C.head_of C.Position.member self.old) (C.head_of given) (λ gap t. IsStanding C.StandsAt self.new) }
+        ensures kept { WhereApart C.Represents L.table IsAfter (site_of C.head_of C.Position.member self.old) (C.head_of given) (λ gap t. IsValid C.IsValidAt self.new) }
         ensures rest { C.Keeps (list_of self.old) (list_of self.new) }
         ensures borrows { SameBorrows self.old self.new }
     {
@@ -342,32 +337,32 @@ impl<'a, L: LinkOps, C: Splice<L>> CursorMut<'a, C, L> {
             .splice_after_at(self.links, &mut self.current, given);
     }
 
-    /// Hands out the members behind the cursor, and at null the whole collection.
+    /// Hands out the members after the cursor, and at null the whole collection.
     ///
     /// The cursor stays where it is.
     #[inline]
     pub fn split_after(&mut self) -> C
-        requires stands { IsStanding C.StandsAt self.old }
-        ensures split { SplitsAfter C.Shows L.table L.Does (site_of C.head_of C.Position.member self.old) (C.head_of result) (site_of C.head_of C.Position.member self.new) }
-        ensures kept { Edited C.StandsAt C.Keeps self.old self.new }
+        requires stands { IsValid C.IsValidAt self.old }
+        ensures split { SplitsAfter C.Represents L.table L.Trace (site_of C.head_of C.Position.member self.old) (C.head_of result) (site_of C.head_of C.Position.member self.new) }
+        ensures kept { Edited C.IsValidAt C.Keeps self.old self.new }
     {
         self.list.split_after_at(self.links, &mut self.current)
     }
 }
 
 impl<'a, L: LinkOps, C: BidirectionalSplice<L>> CursorMut<'a, C, L> {
-    ghost use Rattle.ic_cursors.specs.CursorMut.{list_of, links_of, site_of, IsStanding, SameBorrows, Edited};
+    ghost use Rattle.ic_cursors.specs.CursorMut.{list_of, links_of, site_of, IsValid, SameBorrows, Edited};
 
-    /// Puts all of the given collection in front of the cursor, and behind the last member at null.
+    /// Puts all of the given collection before the cursor, and after the last member at null.
     ///
-    /// It requires that the table shows the given collection too; the two share no member. The cursor stays where it is.
+    /// It requires that the table represents the given collection too; the two share no member. The cursor stays where it is.
     #[inline]
     pub fn splice_before(&mut self, given: C)
-        requires stands { IsStanding C.StandsAt self.old }
-        requires given { (s : List Place) × C.Shows (L.table (links_of self.old)) (C.head_of given) s }
-        ensures spliced { SplicesBeside C.Shows L.table L.Does IsBefore
+        requires stands { IsValid C.IsValidAt self.old }
+        requires given { (s : List Place) × C.Represents (L.table (links_of self.old)) (C.head_of given) s }
+        ensures spliced { SplicesBeside C.Represents L.table L.Trace IsBefore
             (site_of C.head_of C.Position.member self.old) (C.head_of given) (site_of C.head_of C.Position.member self.new) }
-        ensures kept { WhereApart C.Shows L.table IsBefore (site_of C.head_of C.Position.member self.old) (C.head_of given) (λ gap t. IsStanding C.StandsAt self.new) }
+        ensures kept { WhereApart C.Represents L.table IsBefore (site_of C.head_of C.Position.member self.old) (C.head_of given) (λ gap t. IsValid C.IsValidAt self.new) }
         ensures rest { C.Keeps (list_of self.old) (list_of self.new) }
         ensures borrows { SameBorrows self.old self.new }
     {
@@ -375,14 +370,14 @@ impl<'a, L: LinkOps, C: BidirectionalSplice<L>> CursorMut<'a, C, L> {
             .splice_before_at(self.links, &mut self.current, given);
     }
 
-    /// Hands out the members in front of the cursor, and at null the whole collection.
+    /// Hands out the members before the cursor, and at null the whole collection.
     ///
     /// The cursor stays where it is.
     #[inline]
     pub fn split_before(&mut self) -> C
-        requires stands { IsStanding C.StandsAt self.old }
-        ensures split { SplitsBefore C.Shows L.table L.Does (site_of C.head_of C.Position.member self.old) (C.head_of result) (site_of C.head_of C.Position.member self.new) }
-        ensures kept { Edited C.StandsAt C.Keeps self.old self.new }
+        requires stands { IsValid C.IsValidAt self.old }
+        ensures split { SplitsBefore C.Represents L.table L.Trace (site_of C.head_of C.Position.member self.old) (C.head_of result) (site_of C.head_of C.Position.member self.new) }
+        ensures kept { Edited C.IsValidAt C.Keeps self.old self.new }
     {
         self.list.split_before_at(self.links, &mut self.current)
     }

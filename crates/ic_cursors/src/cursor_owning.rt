@@ -3,17 +3,12 @@
 //! ```text
 //! let mut cursor = list.cursor_owning(); // null
 //! cursor.move_next(&links);
-//! cursor.insert_before(&mut links, object)?; // in front of the first member
+//! cursor.insert_before(&mut links, object)?; // before the first member
 //! let list = cursor.into_inner();
 //! ```
 
 ghost use Rattle.std.specs.Prelude.{◌≡◌, true, List, None};
-ghost use Rattle.ic_unsafe_ref.specs.declared.place.Place.{Place};
-ghost use Rattle.ic_unsafe_ref.specs.Objects.{is_placed};
-ghost use Rattle.ic_link_ops.specs.Sequences.{IsAfter, IsBefore};
-ghost use Rattle.ic_link_ops.specs.Tables.{IsCovered};
-ghost use Rattle.ic_link_ops.specs.Positions.{MovesOn, MovesBack};
-ghost use Rattle.ic_link_ops.specs.PlacedObjects.{ShowsPlaced};
+ghost use Rattle.ic_link_ops.specs.Prelude.{Place, is_placed, IsAfter, IsBefore, IsCovered, MovesOn, MovesBack, RepresentsPlaced};
 ghost use Rattle.ic_link_ops.specs.EditsAt.{InsertsBeside, RemovesThere, ReplacesThere, RemovesNext, ReplacesNext, SplicesBeside, SplitsAfter, SplitsBefore, WhereApart};
 ghost use Rattle.ic_cursors.specs.Ordered.{InsertsAmong};
 
@@ -100,7 +95,7 @@ impl<C: Collection> CursorOwning<C> {
 }
 
 impl<C: Collection> CursorOwning<C> {
-    ghost use Rattle.ic_cursors.specs.CursorOwning.{list_of, position, site_of, IsStanding, Edited};
+    ghost use Rattle.ic_cursors.specs.CursorOwning.{list_of, position, site_of, IsValid, Edited};
 
     /// Moves to the next member, from null to the first one, and from the last one to null.
     ///
@@ -109,15 +104,15 @@ impl<C: Collection> CursorOwning<C> {
     pub fn move_next<L: LinkOps>(&mut self, links: &L)
     where
         C: CursorOps<L>,
-        requires stands { IsStanding C.StandsAt links.now self.old }
-        ensures moved { MovesOn C.Shows L.table (site_of C.head_of C.Position.member links.now self.old) (position C.Position.member self.new) }
-        ensures kept { IsStanding C.StandsAt links.now self.new }
+        requires stands { IsValid C.IsValidAt links.now self.old }
+        ensures moved { MovesOn C.Represents L.table (site_of C.head_of C.Position.member links.now self.old) (position C.Position.member self.new) }
+        ensures kept { IsValid C.IsValidAt links.now self.new }
         ensures list { list_of self.new ≡ list_of self.old }
     {
         self.current = self.list.next_of(links, &self.current);
     }
 
-    /// Puts the object behind the cursor, and in front of the first member at null, unless its link is refused.
+    /// Puts the object after the cursor, and before the first member at null, unless its link is refused.
     ///
     /// It requires that the object's place is covered. The cursor stays where it is.
     #[inline]
@@ -129,10 +124,10 @@ impl<C: Collection> CursorOwning<C> {
     where
         C: CursorOps<L>,
         requires covered { IsCovered (L.table links.old) object }
-        requires stands { IsStanding C.StandsAt links.old self.old }
-        ensures inserted { InsertsBeside C.Shows L.table L.Does L.Refused IsAfter
+        requires stands { IsValid C.IsValidAt links.old self.old }
+        ensures inserted { InsertsBeside C.Represents L.table L.Trace L.Refused IsAfter
             (site_of C.head_of C.Position.member links.old self.old) object result (site_of C.head_of C.Position.member links.new self.new) }
-        ensures kept { Edited C.StandsAt C.Keeps self.old links.new self.new }
+        ensures kept { Edited C.IsValidAt C.Keeps self.old links.new self.new }
     {
         if !self
             .list
@@ -150,15 +145,15 @@ impl<C: Collection> CursorOwning<C> {
     pub fn move_prev<L: LinkOps>(&mut self, links: &L)
     where
         C: Bidirectional<L>,
-        requires stands { IsStanding C.StandsAt links.now self.old }
-        ensures moved { MovesBack C.Shows L.table (site_of C.head_of C.Position.member links.now self.old) (position C.Position.member self.new) }
-        ensures kept { IsStanding C.StandsAt links.now self.new }
+        requires stands { IsValid C.IsValidAt links.now self.old }
+        ensures moved { MovesBack C.Represents L.table (site_of C.head_of C.Position.member links.now self.old) (position C.Position.member self.new) }
+        ensures kept { IsValid C.IsValidAt links.now self.new }
         ensures list { list_of self.new ≡ list_of self.old }
     {
         self.current = self.list.prev_of(links, &self.current);
     }
 
-    /// Puts the object in front of the cursor, and behind the last member at null, unless its link is refused.
+    /// Puts the object before the cursor, and after the last member at null, unless its link is refused.
     ///
     /// It requires that the object's place is covered. The cursor stays where it is.
     #[inline]
@@ -170,10 +165,10 @@ impl<C: Collection> CursorOwning<C> {
     where
         C: Bidirectional<L>,
         requires covered { IsCovered (L.table links.old) object }
-        requires stands { IsStanding C.StandsAt links.old self.old }
-        ensures inserted { InsertsBeside C.Shows L.table L.Does L.Refused IsBefore
+        requires stands { IsValid C.IsValidAt links.old self.old }
+        ensures inserted { InsertsBeside C.Represents L.table L.Trace L.Refused IsBefore
             (site_of C.head_of C.Position.member links.old self.old) object result (site_of C.head_of C.Position.member links.new self.new) }
-        ensures kept { Edited C.StandsAt C.Keeps self.old links.new self.new }
+        ensures kept { Edited C.IsValidAt C.Keeps self.old links.new self.new }
     {
         if !self
             .list
@@ -191,9 +186,9 @@ impl<C: Collection> CursorOwning<C> {
     pub fn remove<L: LinkOps>(&mut self, links: &mut L) -> Option<UnsafeRef<C::Object>>
     where
         C: Bidirectional<L>,
-        requires stands { IsStanding C.StandsAt links.old self.old }
-        ensures removed { RemovesThere C.Shows L.table L.Does (site_of C.head_of C.Position.member links.old self.old) result (site_of C.head_of C.Position.member links.new self.new) }
-        ensures kept { Edited C.StandsAt C.Keeps self.old links.new self.new }
+        requires stands { IsValid C.IsValidAt links.old self.old }
+        ensures removed { RemovesThere C.Represents L.table L.Trace (site_of C.head_of C.Position.member links.old self.old) result (site_of C.head_of C.Position.member links.new self.new) }
+        ensures kept { Edited C.IsValidAt C.Keeps self.old links.new self.new }
     {
         let place = self.list.remove_at(links, &mut self.current)?;
         Some(UnsafeRef::new(place))
@@ -212,17 +207,17 @@ impl<C: Collection> CursorOwning<C> {
     where
         C: Bidirectional<L>,
         requires covered { IsCovered (L.table links.old) object }
-        requires stands { IsStanding C.StandsAt links.old self.old }
-        ensures replaced { ReplacesThere C.Shows L.table L.Does L.Refused
+        requires stands { IsValid C.IsValidAt links.old self.old }
+        ensures replaced { ReplacesThere C.Represents L.table L.Trace L.Refused
             (site_of C.head_of C.Position.member links.old self.old) object result (site_of C.head_of C.Position.member links.new self.new) }
-        ensures kept { Edited C.StandsAt C.Keeps self.old links.new self.new }
+        ensures kept { Edited C.IsValidAt C.Keeps self.old links.new self.new }
     {
         let (out, place) = (self.current.get(), object.place());
         let is_acquired = self.list.replace_at(links, &mut self.current, place);
         replaced(out, object, is_acquired)
     }
 
-    /// Puts the object where its key belongs, behind the members that are not greater, unless its link is refused.
+    /// Puts the object where its key belongs, after the members that are not greater, unless its link is refused.
     ///
     /// It requires that the object is placed, its place covered, and all members placed. The cursor stays where it is. A refused
     /// object comes back, and nothing else has changed.
@@ -236,12 +231,12 @@ impl<C: Collection> CursorOwning<C> {
     where
         C: Ordered<L>,
         requires covered { IsCovered (L.table links.old) object }
-        requires placed { ShowsPlaced (C.Shows (L.table links.old) (C.head_of (list_of self.old))) (O.values objects.now) }
+        requires placed { RepresentsPlaced (C.Represents (L.table links.old) (C.head_of (list_of self.old))) (O.values objects.now) }
         requires object { is_placed (O.values objects.now) object ≡ true }
-        requires stands { IsStanding C.StandsAt links.old self.old }
-        ensures inserted { InsertsAmong C.Shows L.table L.Does L.Refused (C.order_of (list_of self.old) (O.values objects.now) object)
+        requires stands { IsValid C.IsValidAt links.old self.old }
+        ensures inserted { InsertsAmong C.Represents L.table L.Trace L.Refused (C.order_of (list_of self.old) (O.values objects.now) object)
             (site_of C.head_of C.Position.member links.old self.old) object result (site_of C.head_of C.Position.member links.new self.new) }
-        ensures kept { Edited C.StandsAt C.Keeps self.old links.new self.new }
+        ensures kept { Edited C.IsValidAt C.Keeps self.old links.new self.new }
     {
         if !self
             .list
@@ -252,22 +247,22 @@ impl<C: Collection> CursorOwning<C> {
         Ok(())
     }
 
-    /// Removes the member behind the cursor and returns it, at null the first one; `None` where there is none.
+    /// Removes the member after the cursor and returns it, at null the first one; `None` where there is none.
     ///
     /// The cursor stays where it is.
     #[inline]
     pub fn remove_next<L: LinkOps>(&mut self, links: &mut L) -> Option<UnsafeRef<C::Object>>
     where
         C: ForwardOnly<L>,
-        requires stands { IsStanding C.StandsAt links.old self.old }
-        ensures removed { RemovesNext C.Shows L.table L.Does (site_of C.head_of C.Position.member links.old self.old) result (site_of C.head_of C.Position.member links.new self.new) }
-        ensures kept { Edited C.StandsAt C.Keeps self.old links.new self.new }
+        requires stands { IsValid C.IsValidAt links.old self.old }
+        ensures removed { RemovesNext C.Represents L.table L.Trace (site_of C.head_of C.Position.member links.old self.old) result (site_of C.head_of C.Position.member links.new self.new) }
+        ensures kept { Edited C.IsValidAt C.Keeps self.old links.new self.new }
     {
         let place = self.list.remove_next_at(links, &mut self.current)?;
         Some(UnsafeRef::new(place))
     }
 
-    /// Puts the object in the place of the member behind the cursor, at null of the first one, and returns that member.
+    /// Puts the object in the place of the member after the cursor, at null of the first one, and returns that member.
     ///
     /// It requires that the object's place is covered. Where nothing is there it returns [`ReplaceError::Null`], whether or not the
     /// object is linked. The cursor stays where it is.
@@ -280,76 +275,76 @@ impl<C: Collection> CursorOwning<C> {
     where
         C: ForwardOnly<L>,
         requires covered { IsCovered (L.table links.old) object }
-        requires stands { IsStanding C.StandsAt links.old self.old }
-        ensures replaced { ReplacesNext C.Shows L.table L.Does L.Refused
+        requires stands { IsValid C.IsValidAt links.old self.old }
+        ensures replaced { ReplacesNext C.Represents L.table L.Trace L.Refused
             (site_of C.head_of C.Position.member links.old self.old) object result (site_of C.head_of C.Position.member links.new self.new) }
-        ensures kept { Edited C.StandsAt C.Keeps self.old links.new self.new }
+        ensures kept { Edited C.IsValidAt C.Keeps self.old links.new self.new }
     {
         let place = object.place();
         let (out, is_acquired) = self.list.replace_next_at(links, &mut self.current, place);
         replaced(out, object, is_acquired)
     }
 
-    /// Puts all of the given collection behind the cursor, and in front of the first member at null.
+    /// Puts all of the given collection after the cursor, and before the first member at null.
     ///
-    /// It requires that the table shows the given collection too; the two share no member. The cursor stays where it is.
+    /// It requires that the table represents the given collection too; the two share no member. The cursor stays where it is.
     #[inline]
     pub fn splice_after<L: LinkOps>(&mut self, links: &mut L, given: C)
     where
         C: Splice<L>,
-        requires stands { IsStanding C.StandsAt links.old self.old }
-        requires given { (s : List Place) × C.Shows (L.table links.old) (C.head_of given) s }
-        ensures spliced { SplicesBeside C.Shows L.table L.Does IsAfter
+        requires stands { IsValid C.IsValidAt links.old self.old }
+        requires given { (s : List Place) × C.Represents (L.table links.old) (C.head_of given) s }
+        ensures spliced { SplicesBeside C.Represents L.table L.Trace IsAfter
             (site_of C.head_of C.Position.member links.old self.old) (C.head_of given) (site_of C.head_of C.Position.member links.new self.new) }
-        ensures kept { WhereApart C.Shows L.table IsAfter (site_of C.head_of C.Position.member links.old self.old) (C.head_of given)
-            (λ gap t. IsStanding C.StandsAt links.new self.new) }
+        ensures kept { WhereApart C.Represents L.table IsAfter (site_of C.head_of C.Position.member links.old self.old) (C.head_of given)
+            (λ gap t. IsValid C.IsValidAt links.new self.new) }
         ensures rest { C.Keeps (list_of self.old) (list_of self.new) }
     {
         self.list.splice_after_at(links, &mut self.current, given);
     }
 
-    /// Hands out the members behind the cursor, and at null the whole collection.
+    /// Hands out the members after the cursor, and at null the whole collection.
     ///
     /// The cursor stays where it is.
     #[inline]
     pub fn split_after<L: LinkOps>(&mut self, links: &mut L) -> C
     where
         C: Splice<L>,
-        requires stands { IsStanding C.StandsAt links.old self.old }
-        ensures split { SplitsAfter C.Shows L.table L.Does (site_of C.head_of C.Position.member links.old self.old) (C.head_of result) (site_of C.head_of C.Position.member links.new self.new) }
-        ensures kept { Edited C.StandsAt C.Keeps self.old links.new self.new }
+        requires stands { IsValid C.IsValidAt links.old self.old }
+        ensures split { SplitsAfter C.Represents L.table L.Trace (site_of C.head_of C.Position.member links.old self.old) (C.head_of result) (site_of C.head_of C.Position.member links.new self.new) }
+        ensures kept { Edited C.IsValidAt C.Keeps self.old links.new self.new }
     {
         self.list.split_after_at(links, &mut self.current)
     }
 
-    /// Puts all of the given collection in front of the cursor, and behind the last member at null.
+    /// Puts all of the given collection before the cursor, and after the last member at null.
     ///
-    /// It requires that the table shows the given collection too; the two share no member. The cursor stays where it is.
+    /// It requires that the table represents the given collection too; the two share no member. The cursor stays where it is.
     #[inline]
     pub fn splice_before<L: LinkOps>(&mut self, links: &mut L, given: C)
     where
         C: BidirectionalSplice<L>,
-        requires stands { IsStanding C.StandsAt links.old self.old }
-        requires given { (s : List Place) × C.Shows (L.table links.old) (C.head_of given) s }
-        ensures spliced { SplicesBeside C.Shows L.table L.Does IsBefore
+        requires stands { IsValid C.IsValidAt links.old self.old }
+        requires given { (s : List Place) × C.Represents (L.table links.old) (C.head_of given) s }
+        ensures spliced { SplicesBeside C.Represents L.table L.Trace IsBefore
             (site_of C.head_of C.Position.member links.old self.old) (C.head_of given) (site_of C.head_of C.Position.member links.new self.new) }
-        ensures kept { WhereApart C.Shows L.table IsBefore (site_of C.head_of C.Position.member links.old self.old) (C.head_of given)
-            (λ gap t. IsStanding C.StandsAt links.new self.new) }
+        ensures kept { WhereApart C.Represents L.table IsBefore (site_of C.head_of C.Position.member links.old self.old) (C.head_of given)
+            (λ gap t. IsValid C.IsValidAt links.new self.new) }
         ensures rest { C.Keeps (list_of self.old) (list_of self.new) }
     {
         self.list.splice_before_at(links, &mut self.current, given);
     }
 
-    /// Hands out the members in front of the cursor, and at null the whole collection.
+    /// Hands out the members before the cursor, and at null the whole collection.
     ///
     /// The cursor stays where it is.
     #[inline]
     pub fn split_before<L: LinkOps>(&mut self, links: &mut L) -> C
     where
         C: BidirectionalSplice<L>,
-        requires stands { IsStanding C.StandsAt links.old self.old }
-        ensures split { SplitsBefore C.Shows L.table L.Does (site_of C.head_of C.Position.member links.old self.old) (C.head_of result) (site_of C.head_of C.Position.member links.new self.new) }
-        ensures kept { Edited C.StandsAt C.Keeps self.old links.new self.new }
+        requires stands { IsValid C.IsValidAt links.old self.old }
+        ensures split { SplitsBefore C.Represents L.table L.Trace (site_of C.head_of C.Position.member links.old self.old) (C.head_of result) (site_of C.head_of C.Position.member links.new self.new) }
+        ensures kept { Edited C.IsValidAt C.Keeps self.old links.new self.new }
     {
         self.list.split_before_at(links, &mut self.current)
     }

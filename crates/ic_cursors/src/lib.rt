@@ -3,13 +3,13 @@
 //! A kind says by traits what a cursor needs of it:
 //!
 //! - [`Collection`]: what its members are objects of, and what a position is.
-//! - [`CursorOps`]: the move on, and the insert behind a position.
-//! - [`Bidirectional`]: the move back, the insert in front, the removal and the replacement.
-//! - [`ForwardOnly`]: the removal and the replacement behind a position, of a kind that does not lead back.
-//! - [`Splice`], [`BidirectionalSplice`]: splices and splits, behind a position and in front of it.
+//! - [`CursorOps`]: the move on, and the insert after a position.
+//! - [`Bidirectional`]: the move back, the insert before the cursor, the removal and the replacement.
+//! - [`ForwardOnly`]: the removal and the replacement after a position, of a kind that does not lead back.
+//! - [`Splice`], [`BidirectionalSplice`]: splices and splits, after a position and before it.
 //! - [`Ordered`]: the insert where a key belongs.
 //!
-//! [`Cursor`] reads, [`CursorMut`] edits, and [`CursorOwning`] edits and keeps its collection. [`Listing`] prints
+//! [`Cursor`] reads, [`CursorMut`] edits, and [`CursorOwning`] edits and keeps its collection. [`DebugWalk`] prints
 //! the objects of a walk. The kinds make them all.
 //!
 //! ```text
@@ -23,15 +23,15 @@ mod answers;
 mod cursor;
 mod cursor_mut;
 mod cursor_owning;
+mod debug_walk;
 mod kind;
-mod listing;
 mod position;
 
 pub use cursor::Cursor;
 pub use cursor_mut::CursorMut;
 pub use cursor_owning::CursorOwning;
+pub use debug_walk::DebugWalk;
 pub use kind::{
     Bidirectional, BidirectionalSplice, Collection, CursorOps, ForwardOnly, Ordered, Splice,
 };
-pub use listing::Listing;
 pub use position::Position;

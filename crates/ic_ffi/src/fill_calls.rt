@@ -6,13 +6,14 @@
 //! ic_list_fill(links, 64, &vacant, 0, 64); // IC_OK: 0, 1, .., 63
 //! ```
 
+ghost use Rattle.ic_raw.specs.LinkWords.{wide_words};
 ghost use Rattle.ic_raw.specs.ListCalls as lists;
 ghost use Rattle.ic_raw.specs.StackCalls as stacks;
 ghost use Rattle.ic_raw.specs.XorCalls as xor_lists;
 
 use ic_raw::{RawEnds, RawFront, RawOne, RawTwo, fill_calls};
 
-/// Puts `count` places behind all members, in the order of their numbers: `first`, `first + 1` and so on. O(count).
+/// Puts `count` places after all members, in the order of their numbers: `first`, `first + 1` and so on. O(count).
 ///
 /// Each has to be one of the table, and not linked. Where the last member is none of the table, it returns
 /// [`BROKEN`](crate::BROKEN). No place at all changes nothing.
@@ -23,12 +24,12 @@ pub extern "C" fn ic_list_fill(
     first: u32,
     count: u32,
 ) -> u32
-    ensures { lists.FillCall table.old table.new list.old list.new result first count }
+    ensures { lists.FillCall wide_words table.old table.new list.old list.new result first count }
 {
     fill_calls::fill_list(table, list, first, count)
 }
 
-/// Puts `count` places in front of all members, in the order of their numbers: `first`, `first + 1` and so on. O(count).
+/// Puts `count` places before all members, in the order of their numbers: `first`, `first + 1` and so on. O(count).
 ///
 /// Each has to be one of the table, and not linked. Where the first member is not linked, it returns
 /// [`BROKEN`](crate::BROKEN). No place at all changes nothing.
@@ -44,7 +45,7 @@ pub extern "C" fn ic_stack_fill(
     fill_calls::fill_stack(table, list, first, count)
 }
 
-/// Puts `count` places behind all members, in the order of their numbers: `first`, `first + 1` and so on. O(count).
+/// Puts `count` places after all members, in the order of their numbers: `first`, `first + 1` and so on. O(count).
 ///
 /// Each has to be one of the table, and not linked. Where the last member is none of the table, it returns
 /// [`BROKEN`](crate::BROKEN). No place at all changes nothing.

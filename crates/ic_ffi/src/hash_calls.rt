@@ -15,7 +15,7 @@ ghost use Rattle.ic_raw.specs.HashCalls.{FindCall, InsertCall, NextEqualCall, Re
 
 use ic_raw::{RawFront, RawOne, hash_calls};
 
-/// Puts a place in front of the members of its chain, which is that in bucket `hash % buckets`. O(1).
+/// Puts a place before the members of its chain, which is that in bucket `hash % buckets`. O(1).
 ///
 /// The place has to be one of the table, and not linked, and there has to be a bucket. Where the first member of the chain is not linked, it
 /// returns [`BROKEN`](crate::BROKEN).
@@ -66,7 +66,7 @@ pub extern "C" fn ic_hash_find(
     hash_calls::find(table, keys, buckets, hash, key, found)
 }
 
-/// Hands out the next member behind the member `at` with the key of that one, or returns [`NULL`](crate::NULL) where there is none, or at
+/// Hands out the next member after the member `at` with the key of that one, or returns [`NULL`](crate::NULL) where there is none, or at
 /// [`NONE`](crate::NONE). It writes nothing else. One reading for each member up to it.
 ///
 /// There has to be a key for each place of the table. Where the words lead to no end, or out of the table, it returns

@@ -24,6 +24,7 @@ mod growth_calls;
 mod hash_calls;
 mod list_calls;
 mod move_calls;
+mod narrow_list_calls;
 mod narrow_ring_calls;
 mod ring_calls;
 mod ring_check_calls;

@@ -10,27 +10,28 @@
 
 ghost use Rattle.std.specs.Prelude.{None};
 ghost use Rattle.ic_raw.specs.declared.gap.Side.TheVariants.{After, Before};
+ghost use Rattle.ic_raw.specs.LinkWords.{wide_words};
 ghost use Rattle.ic_raw.specs.Words.{place_of};
 ghost use Rattle.ic_raw.specs.ListCalls.{ClearCall, InsertCall, PopCall, RemoveCall, ReplaceCall, SpliceCall, SplitCall};
 
 use ic_raw::{NONE, RawEnds, RawTwo, Side, list_calls};
 
-/// Puts a place in front of all members. O(1).
+/// Puts a place before all members. O(1).
 ///
 /// The place has to be one of the table, and not linked.
 #[unsafe(no_mangle)]
 pub extern "C" fn ic_list_push_front(table: &mut [RawTwo], list: &mut RawEnds, place: u32) -> u32
-    ensures { InsertCall table.old table.new list.old list.new result After None (place_of place) }
+    ensures { InsertCall wide_words table.old table.new list.old list.new result After None (place_of place) }
 {
     list_calls::insert_at(table, list, Side::After, NONE, place)
 }
 
-/// Puts a place behind all members. O(1).
+/// Puts a place after all members. O(1).
 ///
 /// The place has to be one of the table, and not linked.
 #[unsafe(no_mangle)]
 pub extern "C" fn ic_list_push_back(table: &mut [RawTwo], list: &mut RawEnds, place: u32) -> u32
-    ensures { InsertCall table.old table.new list.old list.new result Before None (place_of place) }
+    ensures { InsertCall wide_words table.old table.new list.old list.new result Before None (place_of place) }
 {
     list_calls::push_back(table, list, place)
 }
@@ -42,7 +43,7 @@ pub extern "C" fn ic_list_pop_front(
     list: &mut RawEnds,
     popped: &mut u32,
 ) -> u32
-    ensures { PopCall table.old table.new list.old list.new result After popped.old popped.new }
+    ensures { PopCall wide_words table.old table.new list.old list.new result After popped.old popped.new }
 {
     list_calls::pop_front(table, list, popped)
 }
@@ -54,12 +55,12 @@ pub extern "C" fn ic_list_pop_back(
     list: &mut RawEnds,
     popped: &mut u32,
 ) -> u32
-    ensures { PopCall table.old table.new list.old list.new result Before popped.old popped.new }
+    ensures { PopCall wide_words table.old table.new list.old list.new result Before popped.old popped.new }
 {
     list_calls::pop(table, list, Side::Before, popped)
 }
 
-/// Puts a place behind the member `at`, at [`NONE`](crate::NONE) in front of all. O(1).
+/// Puts a place after the member `at`, at [`NONE`](crate::NONE) before all. O(1).
 ///
 /// The place has to be one of the table, and not linked.
 #[unsafe(no_mangle)]
@@ -69,12 +70,12 @@ pub extern "C" fn ic_list_insert_after(
     at: u32,
     place: u32,
 ) -> u32
-    ensures { InsertCall table.old table.new list.old list.new result After (place_of at) (place_of place) }
+    ensures { InsertCall wide_words table.old table.new list.old list.new result After (place_of at) (place_of place) }
 {
     list_calls::insert_at(table, list, Side::After, at, place)
 }
 
-/// Puts a place in front of the member `at`, at [`NONE`](crate::NONE) behind all. O(1).
+/// Puts a place before the member `at`, at [`NONE`](crate::NONE) after all. O(1).
 ///
 /// The place has to be one of the table, and not linked.
 #[unsafe(no_mangle)]
@@ -84,7 +85,7 @@ pub extern "C" fn ic_list_insert_before(
     at: u32,
     place: u32,
 ) -> u32
-    ensures { InsertCall table.old table.new list.old list.new result Before (place_of at) (place_of place) }
+    ensures { InsertCall wide_words table.old table.new list.old list.new result Before (place_of at) (place_of place) }
 {
     list_calls::insert_at(table, list, Side::Before, at, place)
 }
@@ -92,7 +93,7 @@ pub extern "C" fn ic_list_insert_before(
 /// Takes the member `at` off, or returns [`NULL`](crate::NULL) at [`NONE`](crate::NONE). O(1).
 #[unsafe(no_mangle)]
 pub extern "C" fn ic_list_remove(table: &mut [RawTwo], list: &mut RawEnds, at: u32) -> u32
-    ensures { RemoveCall table.old table.new list.old list.new result (place_of at) }
+    ensures { RemoveCall wide_words table.old table.new list.old list.new result (place_of at) }
 {
     list_calls::remove(table, list, at)
 }
@@ -107,12 +108,12 @@ pub extern "C" fn ic_list_replace(
     at: u32,
     place: u32,
 ) -> u32
-    ensures { ReplaceCall table.old table.new list.old list.new result (place_of at) (place_of place) }
+    ensures { ReplaceCall wide_words table.old table.new list.old list.new result (place_of at) (place_of place) }
 {
     list_calls::replace(table, list, at, place)
 }
 
-/// Puts all of the given list behind the member `at`, at [`NONE`](crate::NONE) in front of all, and leaves the given one empty. O(1).
+/// Puts all of the given list after the member `at`, at [`NONE`](crate::NONE) before all, and leaves the given one empty. O(1).
 ///
 /// A list that begins with the same member, as the list itself, is [`BROKEN`](crate::BROKEN).
 #[unsafe(no_mangle)]
@@ -122,12 +123,12 @@ pub extern "C" fn ic_list_splice_after(
     at: u32,
     given: &mut RawEnds,
 ) -> u32
-    ensures { SpliceCall table.old table.new list.old list.new result After (place_of at) given.old given.new }
+    ensures { SpliceCall wide_words table.old table.new list.old list.new result After (place_of at) given.old given.new }
 {
     list_calls::splice_at(table, list, at, given, Side::After)
 }
 
-/// Puts all of the given list in front of the member `at`, at [`NONE`](crate::NONE) behind all, and leaves the given one empty. O(1).
+/// Puts all of the given list before the member `at`, at [`NONE`](crate::NONE) after all, and leaves the given one empty. O(1).
 ///
 /// A list that begins with the same member, as the list itself, is [`BROKEN`](crate::BROKEN).
 #[unsafe(no_mangle)]
@@ -137,12 +138,12 @@ pub extern "C" fn ic_list_splice_before(
     at: u32,
     given: &mut RawEnds,
 ) -> u32
-    ensures { SpliceCall table.old table.new list.old list.new result Before (place_of at) given.old given.new }
+    ensures { SpliceCall wide_words table.old table.new list.old list.new result Before (place_of at) given.old given.new }
 {
     list_calls::splice_at(table, list, at, given, Side::Before)
 }
 
-/// Puts all of the given list behind all members, and leaves the given one empty. O(1).
+/// Puts all of the given list after all members, and leaves the given one empty. O(1).
 ///
 /// A list that begins with the same member, as the list itself, is [`BROKEN`](crate::BROKEN).
 #[unsafe(no_mangle)]
@@ -151,12 +152,12 @@ pub extern "C" fn ic_list_append(
     list: &mut RawEnds,
     given: &mut RawEnds,
 ) -> u32
-    ensures { SpliceCall table.old table.new list.old list.new result Before None given.old given.new }
+    ensures { SpliceCall wide_words table.old table.new list.old list.new result Before None given.old given.new }
 {
     list_calls::splice_at(table, list, NONE, given, Side::Before)
 }
 
-/// Hands out what stands behind the member `at`, at [`NONE`](crate::NONE) all of the list. O(1).
+/// Hands out what stands after the member `at`, at [`NONE`](crate::NONE) all of the list. O(1).
 ///
 /// Where `rest` is not empty, it returns [`BROKEN`](crate::BROKEN).
 #[unsafe(no_mangle)]
@@ -166,12 +167,12 @@ pub extern "C" fn ic_list_split_after(
     at: u32,
     rest: &mut RawEnds,
 ) -> u32
-    ensures { SplitCall table.old table.new list.old list.new result After (place_of at) rest.old rest.new }
+    ensures { SplitCall wide_words table.old table.new list.old list.new result After (place_of at) rest.old rest.new }
 {
     list_calls::split_at(table, list, at, rest, Side::After)
 }
 
-/// Hands out what stands in front of the member `at`, at [`NONE`](crate::NONE) all of the list. O(1).
+/// Hands out what stands before the member `at`, at [`NONE`](crate::NONE) all of the list. O(1).
 ///
 /// Where `rest` is not empty, it returns [`BROKEN`](crate::BROKEN).
 #[unsafe(no_mangle)]
@@ -181,7 +182,7 @@ pub extern "C" fn ic_list_split_before(
     at: u32,
     rest: &mut RawEnds,
 ) -> u32
-    ensures { SplitCall table.old table.new list.old list.new result Before (place_of at) rest.old rest.new }
+    ensures { SplitCall wide_words table.old table.new list.old list.new result Before (place_of at) rest.old rest.new }
 {
     list_calls::split_at(table, list, at, rest, Side::Before)
 }
@@ -191,7 +192,7 @@ pub extern "C" fn ic_list_split_before(
 /// Where the places do not lead from the first member to the last, and back, it returns [`BROKEN`](crate::BROKEN).
 #[unsafe(no_mangle)]
 pub extern "C" fn ic_list_clear(table: &mut [RawTwo], list: &mut RawEnds) -> u32
-    ensures { ClearCall table.old table.new list.old list.new result }
+    ensures { ClearCall wide_words table.old table.new list.old list.new result }
 {
     list_calls::clear(table, list)
 }

@@ -2,16 +2,17 @@
 //!
 //! ```text
 //! ic_list_move_to_front(links, 64, &list, 7); // IC_OK: 7 is the first member, whichever it was
-//! ic_list_move_after(links, 64, &list, 9, 7); // IC_OK: and now it is behind 9
+//! ic_list_move_after(links, 64, &list, 9, 7); // IC_OK: and now it is after 9
 //! ```
 
 ghost use Rattle.ic_raw.specs.declared.gap.Side.TheVariants.{After, Before};
+ghost use Rattle.ic_raw.specs.LinkWords.{wide_words};
 ghost use Rattle.ic_raw.specs.Words.{place_of};
 ghost use Rattle.ic_raw.specs.ListCalls.{MoveCall, MoveToEndCall};
 
 use ic_raw::{RawEnds, RawTwo, Side, move_calls};
 
-/// Moves the member `place` behind the member `at`, at [`NONE`](crate::NONE) in front of all, or returns [`NULL`](crate::NULL) where
+/// Moves the member `place` after the member `at`, at [`NONE`](crate::NONE) before all, or returns [`NULL`](crate::NULL) where
 /// `place` is [`NONE`](crate::NONE). It stays linked. O(1).
 ///
 /// Where it stands there already, as where `at` is the member itself, nothing is changed.
@@ -22,12 +23,12 @@ pub extern "C" fn ic_list_move_after(
     at: u32,
     place: u32,
 ) -> u32
-    ensures { MoveCall table.old table.new list.old list.new result After (place_of at) (place_of place) }
+    ensures { MoveCall wide_words table.old table.new list.old list.new result After (place_of at) (place_of place) }
 {
     move_calls::move_at(table, list, Side::After, at, place)
 }
 
-/// Moves the member `place` in front of the member `at`, at [`NONE`](crate::NONE) behind all, or returns [`NULL`](crate::NULL) where
+/// Moves the member `place` before the member `at`, at [`NONE`](crate::NONE) after all, or returns [`NULL`](crate::NULL) where
 /// `place` is [`NONE`](crate::NONE). It stays linked. O(1).
 ///
 /// Where it stands there already, as where `at` is the member itself, nothing is changed.
@@ -38,27 +39,27 @@ pub extern "C" fn ic_list_move_before(
     at: u32,
     place: u32,
 ) -> u32
-    ensures { MoveCall table.old table.new list.old list.new result Before (place_of at) (place_of place) }
+    ensures { MoveCall wide_words table.old table.new list.old list.new result Before (place_of at) (place_of place) }
 {
     move_calls::move_at(table, list, Side::Before, at, place)
 }
 
-/// Moves a member in front of all others, or returns [`NULL`](crate::NULL) at [`NONE`](crate::NONE). It stays linked. O(1).
+/// Moves a member before all others, or returns [`NULL`](crate::NULL) at [`NONE`](crate::NONE). It stays linked. O(1).
 ///
 /// Where it is the first already, nothing is changed.
 #[unsafe(no_mangle)]
 pub extern "C" fn ic_list_move_to_front(table: &mut [RawTwo], list: &mut RawEnds, place: u32) -> u32
-    ensures { MoveToEndCall table.old table.new list.old list.new result After (place_of place) }
+    ensures { MoveToEndCall wide_words table.old table.new list.old list.new result After (place_of place) }
 {
     move_calls::move_to_end(table, list, Side::After, place)
 }
 
-/// Moves a member behind all others, or returns [`NULL`](crate::NULL) at [`NONE`](crate::NONE). It stays linked. O(1).
+/// Moves a member after all others, or returns [`NULL`](crate::NULL) at [`NONE`](crate::NONE). It stays linked. O(1).
 ///
 /// Where it is the last already, nothing is changed.
 #[unsafe(no_mangle)]
 pub extern "C" fn ic_list_move_to_back(table: &mut [RawTwo], list: &mut RawEnds, place: u32) -> u32
-    ensures { MoveToEndCall table.old table.new list.old list.new result Before (place_of place) }
+    ensures { MoveToEndCall wide_words table.old table.new list.old list.new result Before (place_of place) }
 {
     move_calls::move_to_end(table, list, Side::Before, place)
 }

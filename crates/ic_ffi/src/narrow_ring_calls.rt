@@ -4,7 +4,7 @@
 //! ```text
 //! struct ic_link2_32 links[65] = {0};         // 64 objects, and a head at 64
 //! ic_ring32_init(links, 65, 64);             // IC_OK: a ring with no members
-//! ic_ring32_insert_before(links, 65, 64, 7); // IC_OK: in front of the head is the back
+//! ic_ring32_insert_before(links, 65, 64, 7); // IC_OK: before the head is the back
 //! ic_ring32_remove(links, 65, 7);            // IC_OK, from whichever ring it is in
 //! ```
 
@@ -26,7 +26,7 @@ pub extern "C" fn ic_ring32_init(table: &mut [RawNarrowTwo], head: u32) -> u32
     ring_calls::init(table, head)
 }
 
-/// Puts a place behind one that stands in a ring: behind a head it is the first member. O(1).
+/// Puts a place after one that stands in a ring: after a head it is the first member. O(1).
 ///
 /// The place has to be one of the table, and not linked. Linux: `list_add`.
 #[unsafe(no_mangle)]
@@ -36,7 +36,7 @@ pub extern "C" fn ic_ring32_insert_after(table: &mut [RawNarrowTwo], at: u32, pl
     ring_calls::insert(table, Side::After, at, place)
 }
 
-/// Puts a place in front of one that stands in a ring: in front of a head it is the last member. O(1).
+/// Puts a place before one that stands in a ring: before a head it is the last member. O(1).
 ///
 /// The place has to be one of the table, and not linked. Linux: `list_add_tail`.
 #[unsafe(no_mangle)]
@@ -56,9 +56,9 @@ pub extern "C" fn ic_ring32_remove(table: &mut [RawNarrowTwo], place: u32) -> u3
     ring_calls::remove(table, place)
 }
 
-/// Two places that stand in rings exchange what stands behind them. So two rings become one, and one becomes two. O(1).
+/// Two places that stand in rings exchange what stands after them. So two rings become one, and one becomes two. O(1).
 ///
-/// With the last member of one ring and the head of another, all members of the second are put behind the first. The same call again takes
+/// With the last member of one ring and the head of another, all members of the second are put after the first. The same call again takes
 /// it back.
 #[unsafe(no_mangle)]
 pub extern "C" fn ic_ring32_exchange(table: &mut [RawNarrowTwo], one: u32, other: u32) -> u32
@@ -97,7 +97,7 @@ pub extern "C" fn ic_ring32_replace(table: &mut [RawNarrowTwo], at: u32, place: 
     ring_calls::replace(table, at, place)
 }
 
-/// Moves a place, from whichever ring it stands in, behind another one: behind a head it is the first member. O(1).
+/// Moves a place, from whichever ring it stands in, after another one: after a head it is the first member. O(1).
 ///
 /// Beside itself it stays. Linux: `list_move`.
 #[unsafe(no_mangle)]
@@ -107,7 +107,7 @@ pub extern "C" fn ic_ring32_move_after(table: &mut [RawNarrowTwo], at: u32, plac
     ring_calls::move_beside(table, Side::After, at, place)
 }
 
-/// Moves a place, from whichever ring it stands in, in front of another one: in front of a head it is the last member. O(1).
+/// Moves a place, from whichever ring it stands in, before another one: before a head it is the last member. O(1).
 ///
 /// Beside itself it stays. Linux: `list_move_tail`.
 #[unsafe(no_mangle)]
@@ -117,7 +117,7 @@ pub extern "C" fn ic_ring32_move_before(table: &mut [RawNarrowTwo], at: u32, pla
     ring_calls::move_beside(table, Side::Before, at, place)
 }
 
-/// Moves all members of a head behind a place of another ring. O(1).
+/// Moves all members of a head after a place of another ring. O(1).
 ///
 /// The head stands alone then. Linux: `list_splice_init`.
 #[unsafe(no_mangle)]
@@ -127,7 +127,7 @@ pub extern "C" fn ic_ring32_splice_after(table: &mut [RawNarrowTwo], at: u32, he
     ring_calls::splice(table, Side::After, at, head)
 }
 
-/// Moves all members of a head in front of a place of another ring. O(1).
+/// Moves all members of a head before a place of another ring. O(1).
 ///
 /// The head stands alone then. Linux: `list_splice_tail_init`.
 #[unsafe(no_mangle)]

@@ -15,7 +15,7 @@ use ic_raw_lists::ring_sort_calls;
 /// Sorts the members of a head by the keys: members with equal keys keep their order. O(n log n), and no memory but the stack.
 ///
 /// There has to be a key for each place of the table. It returns [`NULL`](crate::NULL) where `head` is [`NONE`](crate::NONE), and
-/// [`BROKEN`](crate::BROKEN) where the words show no ring with this head.
+/// [`BROKEN`](crate::BROKEN) where the words represent no ring with this head.
 #[unsafe(no_mangle)]
 pub extern "C" fn ic_ring_sort(table: &mut [RawTwo], keys: &[u64], head: u32) -> u32
     ensures { RingSortCall keys.now table.old table.new result (place_of head) }
@@ -27,7 +27,7 @@ pub extern "C" fn ic_ring_sort(table: &mut [RawTwo], keys: &[u64], head: u32) ->
 ///
 /// What was in order in both is in order then, and of members with equal keys those of the head go first. There has to be a key for each place
 /// of the table. It returns [`NULL`](crate::NULL) where one of the two is [`NONE`](crate::NONE), and [`BROKEN`](crate::BROKEN) where the words
-/// show no two rings with these heads.
+/// represent no two rings with these heads.
 #[unsafe(no_mangle)]
 pub extern "C" fn ic_ring_merge(table: &mut [RawTwo], keys: &[u64], head: u32, given: u32) -> u32
     ensures { RingMergeCall keys.now table.old table.new result (place_of head) (place_of given) }

@@ -16,7 +16,7 @@ ghost use Rattle.ic_raw.specs.SearchCalls.{FindCall, PutCall};
 
 use ic_raw::{RawRoot, RawThree, Target, search_calls};
 
-/// Puts a place in behind all members with no greater key than its own. O(log n).
+/// Puts a place in after all members with no greater key than its own. O(log n).
 ///
 /// The place has to be one of the table, and not linked, and there has to be a key for each place of the table.
 #[unsafe(no_mangle)]

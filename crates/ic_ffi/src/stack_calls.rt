@@ -14,7 +14,7 @@ ghost use Rattle.ic_raw.specs.StackCalls.{ClearCall, InsertCall, PopCall, Remove
 
 use ic_raw::{RawFront, RawOne, stack_calls};
 
-/// Puts a place in front of all members. O(1).
+/// Puts a place before all members. O(1).
 ///
 /// The place has to be one of the table, and not linked. Where the first member is not linked, it returns [`BROKEN`](crate::BROKEN).
 #[unsafe(no_mangle)]
@@ -38,9 +38,9 @@ pub extern "C" fn ic_stack_pop_front(
     stack_calls::pop_front(table, list, popped)
 }
 
-/// Puts a place behind the member `at`, at [`NONE`](crate::NONE) in front of all. O(1).
+/// Puts a place after the member `at`, at [`NONE`](crate::NONE) before all. O(1).
 ///
-/// The place has to be one of the table, and not linked. Where what stands behind `at` is not linked, it returns
+/// The place has to be one of the table, and not linked. Where what stands after `at` is not linked, it returns
 /// [`BROKEN`](crate::BROKEN).
 #[unsafe(no_mangle)]
 pub extern "C" fn ic_stack_insert_after(
@@ -54,10 +54,10 @@ pub extern "C" fn ic_stack_insert_after(
     stack_calls::insert_after(table, list, at, place)
 }
 
-/// Takes the member behind `at` off, at [`NONE`](crate::NONE) the first one, and hands it out, or returns [`NULL`](crate::NULL) where there
+/// Takes the member after `at` off, at [`NONE`](crate::NONE) the first one, and hands it out, or returns [`NULL`](crate::NULL) where there
 /// is none. O(1).
 ///
-/// Where what stands behind `at` is not linked, it returns [`BROKEN`](crate::BROKEN).
+/// Where what stands after `at` is not linked, it returns [`BROKEN`](crate::BROKEN).
 #[unsafe(no_mangle)]
 pub extern "C" fn ic_stack_remove_after(
     table: &mut [RawOne],
@@ -70,10 +70,10 @@ pub extern "C" fn ic_stack_remove_after(
     stack_calls::remove_after(table, list, at, removed)
 }
 
-/// Puts a place where the member behind `at` is, at [`NONE`](crate::NONE) where the first is, and hands out that member, which is unlinked then.
+/// Puts a place where the member after `at` is, at [`NONE`](crate::NONE) where the first is, and hands out that member, which is unlinked then.
 /// Returns [`NULL`](crate::NULL) where there is none. O(1).
 ///
-/// The place has to be one of the table, and not linked. Where what stands behind `at` is not linked, it returns
+/// The place has to be one of the table, and not linked. Where what stands after `at` is not linked, it returns
 /// [`BROKEN`](crate::BROKEN).
 #[unsafe(no_mangle)]
 pub extern "C" fn ic_stack_replace_after(
@@ -88,9 +88,9 @@ pub extern "C" fn ic_stack_replace_after(
     stack_calls::replace_after(table, list, at, place, replaced)
 }
 
-/// Puts all of the given list behind the member `at`, at [`NONE`](crate::NONE) in front of all, and leaves the given one empty.
+/// Puts all of the given list after the member `at`, at [`NONE`](crate::NONE) before all, and leaves the given one empty.
 ///
-/// One reading for each of its members. Where what stands behind `at` is not linked, it returns [`BROKEN`](crate::BROKEN), and so it does
+/// One reading for each of its members. Where what stands after `at` is not linked, it returns [`BROKEN`](crate::BROKEN), and so it does
 /// of a given list that begins with the same member, as the list itself, or whose places lead to no end.
 #[unsafe(no_mangle)]
 pub extern "C" fn ic_stack_splice_after(
@@ -104,9 +104,9 @@ pub extern "C" fn ic_stack_splice_after(
     stack_calls::splice_after(table, list, at, given)
 }
 
-/// Hands out what stands behind the member `at`, at [`NONE`](crate::NONE) all of the list. O(1).
+/// Hands out what stands after the member `at`, at [`NONE`](crate::NONE) all of the list. O(1).
 ///
-/// Where `rest` is not empty, or what stands behind `at` is not linked, it returns [`BROKEN`](crate::BROKEN).
+/// Where `rest` is not empty, or what stands after `at` is not linked, it returns [`BROKEN`](crate::BROKEN).
 #[unsafe(no_mangle)]
 pub extern "C" fn ic_stack_split_after(
     table: &mut [RawOne],

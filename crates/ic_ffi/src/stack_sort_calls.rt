@@ -10,7 +10,7 @@
 
 ghost use Rattle.ic_link_ops.specs.SinglyLinkedList.{list_from};
 ghost use Rattle.std.specs.Prelude.{None};
-ghost use Rattle.ic_raw.specs.Singly.{Shows, list_of};
+ghost use Rattle.ic_raw.specs.Singly.{Represents, list_of};
 ghost use Rattle.ic_raw.specs.SortCalls.{MergeCall, SortCall};
 ghost use Rattle.ic_raw.specs.Words.{no_word};
 ghost use Rattle.ic_raw_lists.specs.Stacks.{word_of};
@@ -20,10 +20,10 @@ use ic_raw_lists::stack_sort_calls;
 
 /// Sorts the list by the keys: members with equal keys keep their order. O(n log n), and no memory but the stack.
 ///
-/// There has to be a key for each place of the table. Where the words show no list, it returns [`BROKEN`](crate::BROKEN).
+/// There has to be a key for each place of the table. Where the words represent no list, it returns [`BROKEN`](crate::BROKEN).
 #[unsafe(no_mangle)]
 pub extern "C" fn ic_stack_sort(table: &mut [RawOne], keys: &[u64], list: &mut RawFront) -> u32
-    ensures { SortCall Shows no_word list_of word_of (list_from None) keys.now table.old table.new list.old list.new result }
+    ensures { SortCall Represents no_word list_of word_of (list_from None) keys.now table.old table.new list.old list.new result }
 {
     stack_sort_calls::sort(table, keys, list)
 }
@@ -31,7 +31,7 @@ pub extern "C" fn ic_stack_sort(table: &mut [RawOne], keys: &[u64], list: &mut R
 /// Merges the given list into this one, by the keys, and leaves the given one empty. O(n).
 ///
 /// What was in order in both is in order then, and of members with equal keys those of this list go first. There has to be a key for each
-/// place of the table. Where the words show no two lists, or both end with the same member, as lists do that share one, it returns
+/// place of the table. Where the words represent no two lists, or both end with the same member, as lists do that share one, it returns
 /// [`BROKEN`](crate::BROKEN).
 #[unsafe(no_mangle)]
 pub extern "C" fn ic_stack_merge(
@@ -40,7 +40,7 @@ pub extern "C" fn ic_stack_merge(
     list: &mut RawFront,
     given: &mut RawFront,
 ) -> u32
-    ensures { MergeCall Shows no_word list_of word_of (list_from None) keys.now table.old table.new list.old list.new result given.old given.new }
+    ensures { MergeCall Represents no_word list_of word_of (list_from None) keys.now table.old table.new list.old list.new result given.old given.new }
 {
     stack_sort_calls::merge(table, keys, list, given)
 }

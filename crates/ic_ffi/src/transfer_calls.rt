@@ -5,6 +5,7 @@
 //! ```
 
 ghost use Rattle.ic_raw.specs.declared.gap.Side.TheVariants.{After, Before};
+ghost use Rattle.ic_raw.specs.LinkWords.{wide_words};
 ghost use Rattle.ic_raw.specs.Words.{place_of};
 ghost use Rattle.ic_raw_lists.specs.TransferCalls.{TransferCall};
 
@@ -23,7 +24,7 @@ pub extern "C" fn ic_list_transfer_after(
     given: &mut RawEnds,
     place: u32,
 ) -> u32
-    ensures { TransferCall table.old table.new list.old list.new result After (place_of at) given.old given.new (place_of place) }
+    ensures { TransferCall wide_words table.old table.new list.old list.new result After (place_of at) given.old given.new (place_of place) }
 {
     transfer_calls::transfer_at(table, list, Side::After, at, given, place)
 }
@@ -40,7 +41,7 @@ pub extern "C" fn ic_list_transfer_before(
     given: &mut RawEnds,
     place: u32,
 ) -> u32
-    ensures { TransferCall table.old table.new list.old list.new result Before (place_of at) given.old given.new (place_of place) }
+    ensures { TransferCall wide_words table.old table.new list.old list.new result Before (place_of at) given.old given.new (place_of place) }
 {
     transfer_calls::transfer_at(table, list, Side::Before, at, given, place)
 }

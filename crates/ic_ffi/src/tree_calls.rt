@@ -4,7 +4,7 @@
 //! struct ic_link3 links[64] = {0};
 //! struct ic_tree tree = {0};
 //! ic_tree_insert_left(links, 64, &tree, IC_NONE, 7); // IC_OK: the only member
-//! ic_tree_insert_right(links, 64, &tree, 7, 8);      // IC_OK: behind it
+//! ic_tree_insert_right(links, 64, &tree, 7, 8);      // IC_OK: after it
 //! ic_tree_remove(links, 64, &tree, 7);               // IC_OK
 //! ```
 
@@ -15,7 +15,7 @@ ghost use Rattle.ic_raw.specs.TreeCalls.{ClearCall, InsertCall, RemoveCall, Repl
 use ic_link_ops::Side;
 use ic_raw::{RawRoot, RawThree, tree_calls};
 
-/// Puts a place in as the left child of the member `at`, in front of it, at [`NONE`](crate::NONE) as the only member. O(log n).
+/// Puts a place in as the left child of the member `at`, before it, at [`NONE`](crate::NONE) as the only member. O(log n).
 ///
 /// The place has to be one of the table, and not linked. Where the member has a left child, or at none the tree a member, it returns
 /// [`BROKEN`](crate::BROKEN).
@@ -31,7 +31,7 @@ pub extern "C" fn ic_tree_insert_left(
     tree_calls::insert_at(table, tree, Side::Left, at, place)
 }
 
-/// Puts a place in as the right child of the member `at`, behind it, at [`NONE`](crate::NONE) as the only member. O(log n).
+/// Puts a place in as the right child of the member `at`, after it, at [`NONE`](crate::NONE) as the only member. O(log n).
 ///
 /// The place has to be one of the table, and not linked. Where the member has a right child, or at none the tree a member, it
 /// returns [`BROKEN`](crate::BROKEN).
@@ -70,7 +70,7 @@ pub extern "C" fn ic_tree_replace(
     tree_calls::replace(table, tree, at, place)
 }
 
-/// Hands out the member behind the member `at`, from [`NONE`](crate::NONE) the first one, or returns [`NULL`](crate::NULL) where
+/// Hands out the member after the member `at`, from [`NONE`](crate::NONE) the first one, or returns [`NULL`](crate::NULL) where
 /// there is none. It writes nothing else. O(log n), and O(1) on average over a walk.
 #[unsafe(no_mangle)]
 pub extern "C" fn ic_tree_next(
@@ -84,7 +84,7 @@ pub extern "C" fn ic_tree_next(
     tree_calls::step_at(table, tree, Side::Right, at, found)
 }
 
-/// Hands out the member in front of the member `at`, from [`NONE`](crate::NONE) the last one, or returns [`NULL`](crate::NULL) where
+/// Hands out the member before the member `at`, from [`NONE`](crate::NONE) the last one, or returns [`NULL`](crate::NULL) where
 /// there is none. It writes nothing else. O(log n), and O(1) on average over a walk.
 #[unsafe(no_mangle)]
 pub extern "C" fn ic_tree_prev(

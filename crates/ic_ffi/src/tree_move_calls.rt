@@ -17,7 +17,7 @@ use ic_raw_trees::tree_move_calls;
 /// Moves all members of `given` after those of `tree`, in their order, and leaves `given` empty. O(n): it checks both trees first. In Rattle,
 /// where types vouch for the links, it takes O(log n).
 ///
-/// It looks at no key. If the words do not show two trees that share no member, it returns [`BROKEN`](crate::BROKEN).
+/// It looks at no key. If the words do not represent two trees that share no member, it returns [`BROKEN`](crate::BROKEN).
 #[unsafe(no_mangle)]
 pub extern "C" fn ic_tree_append(
     table: &mut [RawThree],
@@ -32,7 +32,7 @@ pub extern "C" fn ic_tree_append(
 /// Inserts a place after all members of `tree`, and moves all of `given` after it. `given` is empty then. O(n): it checks both trees first. In
 /// Rattle, where types vouch for the links, it takes O(log n).
 ///
-/// It looks at no key. The place has to be one of the table, and not linked. If the words do not show two trees that share no member, it
+/// It looks at no key. The place has to be one of the table, and not linked. If the words do not represent two trees that share no member, it
 /// returns [`BROKEN`](crate::BROKEN).
 #[unsafe(no_mangle)]
 pub extern "C" fn ic_tree_join(
@@ -49,7 +49,7 @@ pub extern "C" fn ic_tree_join(
 /// Keeps the members before the member `at`, and moves `at` and all after it to `rest`, which has to be empty. At [`NONE`](crate::NONE) it
 /// returns [`NULL`](crate::NULL). O(n): it checks the tree first. In Rattle, where types vouch for the links, it takes O(log n).
 ///
-/// It looks at no key. If the words do not show a tree of which `at` is a member, or if `rest` has members, it returns
+/// It looks at no key. If the words do not represent a tree of which `at` is a member, or if `rest` has members, it returns
 /// [`BROKEN`](crate::BROKEN).
 #[unsafe(no_mangle)]
 pub extern "C" fn ic_tree_split(

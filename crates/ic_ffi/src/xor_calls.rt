@@ -9,19 +9,18 @@
 //! ```
 
 ghost use Rattle.std.specs.Prelude.{◌≡◌, List, reverse, None};
-ghost use Rattle.ic_unsafe_ref.specs.declared.place.Place.{Place};
-ghost use Rattle.ic_link_ops.specs.Tables.{Table};
+ghost use Rattle.ic_link_ops.specs.Prelude.{Place, Table};
 ghost use Rattle.ic_raw.specs.declared.gap.Side.TheVariants.{After, Before};
 ghost use Rattle.ic_raw.specs.declared.status.TheConstants.{OK};
 ghost use Rattle.ic_raw.specs.declared.words.RawOne.{RawOne};
 ghost use Rattle.ic_raw.specs.Words.{place_of};
 ghost use Rattle.ic_raw.specs.Doubly.{ends_of};
-ghost use Rattle.ic_raw.specs.Xor.{Shows};
+ghost use Rattle.ic_raw.specs.Xor.{Represents};
 ghost use Rattle.ic_raw.specs.XorCalls.{AppendCall, ClearCall, InsertCall, PopCall, PushCall, RemoveCall, ReplaceCall, SpliceCall, SplitCall};
 
 use ic_raw::{RawEnds, RawOne, xor_calls};
 
-/// Puts a place in front of all members. O(1).
+/// Puts a place before all members. O(1).
 ///
 /// The place has to be one of the table, and not linked. Where the first member is none of the table, it returns [`BROKEN`](crate::BROKEN).
 #[unsafe(no_mangle)]
@@ -31,7 +30,7 @@ pub extern "C" fn ic_xor_push_front(table: &mut [RawOne], list: &mut RawEnds, pl
     xor_calls::push_front(table, list, place)
 }
 
-/// Puts a place behind all members. O(1).
+/// Puts a place after all members. O(1).
 ///
 /// The place has to be one of the table, and not linked. Where the last member is none of the table, it returns [`BROKEN`](crate::BROKEN).
 #[unsafe(no_mangle)]
@@ -81,7 +80,7 @@ pub extern "C" fn ic_xor_insert_between(
     xor_calls::insert_between(table, list, before, place, behind)
 }
 
-/// Takes the member `at` off, in front of which `before` stands, or returns [`NULL`](crate::NULL) at [`NONE`](crate::NONE). O(1).
+/// Takes the member `at` off, before which `before` stands, or returns [`NULL`](crate::NULL) at [`NONE`](crate::NONE). O(1).
 ///
 /// Where the words tell of no such member, it returns [`BROKEN`](crate::BROKEN).
 #[unsafe(no_mangle)]
@@ -96,7 +95,7 @@ pub extern "C" fn ic_xor_remove(
     xor_calls::remove(table, list, before, at)
 }
 
-/// Puts a place where the member `at` is, in front of which `before` stands, or returns [`NULL`](crate::NULL) at [`NONE`](crate::NONE). The member is
+/// Puts a place where the member `at` is, before which `before` stands, or returns [`NULL`](crate::NULL) at [`NONE`](crate::NONE). The member is
 /// unlinked then. O(1).
 ///
 /// The place has to be one of the table, and not linked. Where the words tell of no such member, it returns [`BROKEN`](crate::BROKEN).
@@ -130,7 +129,7 @@ pub extern "C" fn ic_xor_splice_between(
     xor_calls::splice_between(table, list, before, given, behind)
 }
 
-/// Puts all of the given list behind all members, and leaves the given one empty. O(1).
+/// Puts all of the given list after all members, and leaves the given one empty. O(1).
 ///
 /// A list that begins with the same member, as the list itself, is [`BROKEN`](crate::BROKEN), and so are two whose ends are none of the table.
 #[unsafe(no_mangle)]
@@ -144,7 +143,7 @@ pub extern "C" fn ic_xor_append(
     xor_calls::append(table, list, given)
 }
 
-/// Cuts the list between the neighbors `before` and `behind`, and hands out what stands behind the cut. O(1).
+/// Cuts the list between the neighbors `before` and `behind`, and hands out what stands after the cut. O(1).
 ///
 /// Where the words tell of no gap between the two, and where `rest` is not empty, it returns [`BROKEN`](crate::BROKEN).
 #[unsafe(no_mangle)]
@@ -174,7 +173,7 @@ pub extern "C" fn ic_xor_clear(table: &mut [RawOne], list: &mut RawEnds) -> u32
 #[unsafe(no_mangle)]
 pub extern "C" fn ic_xor_reverse(list: &mut RawEnds) -> u32
     ensures ok { result ≡ OK }
-    ensures reversed { (t : Table RawOne) (s : List Place) → Shows t (ends_of list.old) s → Shows t (ends_of list.new) (reverse s) }
+    ensures reversed { (t : Table RawOne) (s : List Place) → Represents t (ends_of list.old) s → Represents t (ends_of list.new) (reverse s) }
     ensures words { list.new ≡ record { head = list.old.tail; tail = list.old.head } }
 {
     xor_calls::reverse(list)

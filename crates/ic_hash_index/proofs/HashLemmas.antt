@@ -4,25 +4,20 @@ use Rattle.std.proofs.lemmas.Bool.{false_from_ne_true}
 use Rattle.std.proofs.lemmas.List.Sums.{sum_by-cons}
 use Rattle.std.specs.Bool.{⊤, OnTrue}
 use Rattle.std.specs.List.{AllByRecursion, cons_option}
-use Rattle.ic_unsafe_ref.specs.declared.place.Place.{Place}
-use Rattle.ic_unsafe_ref.specs.Places.{index_of}
-use Rattle.ic_unsafe_ref.specs.Objects.{Objects, Places, Frees, object_at, is_placed}
+use Rattle.ic_link_ops.specs.Prelude.{Place, index_of, Objects, Places, Frees, object_at, is_placed, IsAbsent, IsDistinct, IsMember, Table, IsCovered, IsLinked, IsUnlinked, LinksAlso, Unlinks, values_at}
 use Rattle.ic_unsafe_ref.proofs.Placing.{gone_there, others_left, others_placed, placed_there}
 use Rattle.ic_link_ops.specs.declared.table.PlainTable.{PlainTable}
 use Rattle.ic_link_ops.specs.EntryLaws.{linked_in_range}
 use Rattle.ic_link_ops.specs.Links.{link_of}
-use Rattle.ic_link_ops.specs.PlacedObjects.{values_at}
 use Rattle.ic_link_ops.specs.PlainTables.{entries, linked_by, table}
-use Rattle.ic_link_ops.specs.Sequences.{IsAbsent, IsDistinct, IsMember}
 use Rattle.ic_link_ops.specs.SinglyLinkedList.{Successor}
-use Rattle.ic_link_ops.specs.Tables.{Table, IsCovered, IsLinked, IsUnlinked, LinksAlso, Unlinks}
 use Rattle.ic_link_ops.specs.Widths.{Width, nameable}
 use Rattle.ic_link_ops.proofs.LinkedSets.{everywhere}
 use Rattle.ic_link_ops.proofs.PlacedValues.{all_beside, vacant_absent}
 use Rattle.ic_link_ops.proofs.SequenceLemmas.{absent_left, absent_right, absent_with, absent_without, distinct_left, distinct_middle, distinct_right, member_split, none_not, split_member}
 use Rattle.ic_hash_table.specs.declared.slots.Slots.{Slots}
 use Rattle.ic_hash_table.specs.declared.table.HashTable.{HashTable}
-use Rattle.ic_hash_table.specs.Chains.{AreChained, ShowsFrom}
+use Rattle.ic_hash_table.specs.Chains.{AreChained, RepresentsFrom}
 use Rattle.ic_hash_table.specs.HashTable.{front_at, BelongsIn, Holds, HoldsWith, IsNew}
 use Rattle.ic_hash_table.specs.Searches.{matches, passes, Finds, StopsAt}
 use Rattle.ic_hash_table.specs.Slots.{slot_of}
@@ -187,7 +182,7 @@ module _ {E A B T : Type 0} {succ : E → Successor} {linked : E → Bool} (alik
           absurd (omega (arith, one, values_counted test objects order, filter_none (matches test objects) order beside))
 
     -- the chain where a hash belongs
-    pub hash_chain : (h : ℕ) → (chain : List Place) × ShowsFrom succ t (front_at fronts table (slot_of table.slots h)) chain
+    pub hash_chain : (h : ℕ) → (chain : List Place) × RepresentsFrom succ t (front_at fronts table (slot_of table.slots h)) chain
         × ((order : List Place) → IsOrderOf objects order → length chain ≤ count_by (λ v. nat_eq (slot_of table.slots (hash table.adapter v)) (slot_of table.slots h)) (values_at objects order))
         × ((order : List Place) → IsOrderOf objects order → 1 ≤ count_by (λ v. nat_eq (slot_of table.slots (hash table.adapter v)) (slot_of table.slots h)) (values_at objects order) → 1 ≤ length chain)
     hash_chain h =

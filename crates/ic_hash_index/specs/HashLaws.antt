@@ -1,12 +1,9 @@
 -- Laws of a hash table that has each object.
 use Rattle.std.proofs.Common.{◌≡◌, ℕ, Bool, true, None, Some, Option, IsSome, is_some, List, [], ◌∷◌, sym, ap, ◌∙◌}
 use Rattle.std.specs.List.{AllByRecursion}
-use Rattle.ic_unsafe_ref.specs.declared.place.Place.{Place}
-use Rattle.ic_unsafe_ref.specs.Objects.{Objects, object_at, is_placed}
+use Rattle.ic_link_ops.specs.Prelude.{Place, Objects, object_at, is_placed, IsDisjoint, IsMember, Table, IsUnlinked}
 use Rattle.ic_unsafe_ref.proofs.Placing.{Puts, put_others, put_there}
-use Rattle.ic_link_ops.specs.Sequences.{IsDisjoint, IsMember}
 use Rattle.ic_link_ops.specs.SinglyLinkedList.{Successor}
-use Rattle.ic_link_ops.specs.Tables.{Table, IsUnlinked}
 use Rattle.ic_link_ops.proofs.LinkedSets.{everywhere}
 use Rattle.ic_link_ops.proofs.SequenceLemmas.{none_not, some_same}
 use Rattle.ic_hash_table.specs.declared.table.HashTable.{HashTable}

@@ -11,7 +11,7 @@ ghost use Rattle.std.specs.List.{AllByRecursion};
 ghost use Rattle.ic_hash_table.specs.HashTable.{number};
 ghost use Rattle.ic_link_ops.specs.PlainTables.{linked_by, table};
 ghost use Rattle.ic_link_ops.specs.Readings.{successor_of};
-ghost use Rattle.ic_hash_index.specs.HashIndex.{mixed, table_of, chains_of, HoldsAll, IsFewInChain, IsNewIndex};
+ghost use Rattle.ic_hash_index.specs.HashIndex.{mixed, table_of, chains_of, HoldsAll, WithinChainBound, IsNewIndex};
 ghost use Rattle.ic_hash_index.specs.HashLaws.{hash_grown, hash_alike};
 
 use crate::ByHash;
@@ -25,9 +25,9 @@ use std::alloc::{Allocator, Global};
 
 /// A hash table as the index of a container.
 ///
-/// A clause sees how many chains it has (`chains_of`), and whether it is new (`IsNewIndex`). `B`: its buckets, which need room for each place that the links can name. So narrow
-/// links can have buckets of 4 bytes or of 8, and wide ones have buckets of 8. `W`: the words of its links, `O`: those of the links of the
-/// order beside it.
+/// A clause sees how many chains it has (`chains_of`), and whether it is new (`IsNewIndex`). `B`: its buckets, which need room for each place that
+/// the links can name. So narrow links can have buckets of 4 bytes or of 8, and wide ones have buckets of 8. `W`: the words of its links, `O`: those
+/// of the links of the order beside it.
 #[derive(Drop)]
 pub struct HashIndex<T, B, W = OneWord<Singly>, O = TwoWords> {
     table: HashTable<ByHash<T, W, O>, B>,
@@ -90,7 +90,7 @@ impl<
 
     ghost parts = { λ index. chains_of index };
 
-    ghost IsFew = { IsFewInChain (λ value. T.key_of value) };
+    ghost IsFew = { WithinChainBound (λ value. T.key_of value) };
 
     fn new_links(&self, alloc: A) -> PlainTable<W, A> {
         PlainTable::new(alloc)

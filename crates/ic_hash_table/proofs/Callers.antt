@@ -1,14 +1,11 @@
 -- For callers: what is held after a call.
 use Rattle.std.proofs.Common.{◌≡◌, ◌↔◌, ℕ, Bool, true, false, IsTrue, Option, Some, List, [], ◌∷◌, ◌++◌, refl, subst, ◌∙◌}
 use Rattle.std.specs.Bool.{OnFalse, ⊤}
-use Rattle.ic_unsafe_ref.specs.declared.place.Place.{Place}
-use Rattle.ic_unsafe_ref.specs.Objects.{Objects}
-use Rattle.ic_link_ops.specs.Sequences.{IsMember}
-use Rattle.ic_link_ops.specs.Tables.{Table}
+use Rattle.ic_link_ops.specs.Prelude.{Place, Objects, IsMember, Table}
 use Rattle.ic_link_ops.specs.SinglyLinkedList.{Successor}
 use Rattle.ic_link_ops.proofs.SequenceLemmas.{member_split}
 use Rattle.ic_hash_table.specs.declared.table.HashTable.{HashTable}
-use Rattle.ic_hash_table.specs.HashTable.{BelongsIn, Holds, HoldsSome, IsNew, IsShown}
+use Rattle.ic_hash_table.specs.HashTable.{BelongsIn, Holds, HoldsSome, IsNew, IsRepresented}
 use Rattle.ic_hash_table.specs.Searches.{Finds}
 use Rattle.ic_hash_table.proofs.Chains.{chains_nothing, chains_one, chains_weakened}
 
@@ -27,21 +24,21 @@ new_held successor hash fronts t table objects new = (
   },
 )
 
--- what is held is shown, as `clear` asks
-pub held_shown : {E A B V : Type 0} {successor : E → Successor} {hash : A → V → ℕ} {fronts : B → List (Option Place)} {t : Table E} {table : HashTable A B} {objects : Objects V} {s : List Place}
-    → Holds successor hash fronts t table objects s → IsShown successor fronts t table s
-held_shown {successor = successor} {hash = hash} {fronts = fronts} {t = t} {table = table} {objects = objects} {s = s} held = record {
+-- what is held is represented, as `clear` asks
+pub held_represented : {E A B V : Type 0} {successor : E → Successor} {hash : A → V → ℕ} {fronts : B → List (Option Place)} {t : Table E} {table : HashTable A B} {objects : Objects V} {s : List Place}
+    → Holds successor hash fronts t table objects s → IsRepresented successor fronts t table s
+held_represented {successor = successor} {hash = hash} {fronts = fronts} {t = t} {table = table} {objects = objects} {s = s} held = record {
   distinct = held.distinct;
   chained = chains_weakened successor (BelongsIn table.slots (hash table.adapter) objects) (λ i p. ⊤) (λ i p b. tt) t 0 (fronts table.buckets) s held.chained;
   well_formed = held.well_formed;
   enough = held.enough;
 }
 
--- AND NO OTHER MEMBERS are shown: so what an edit leaves of the links can be said of either
-pub shown_is_held : {E A B V : Type 0} {successor : E → Successor} {hash : A → V → ℕ} {fronts : B → List (Option Place)} {t : Table E} {table : HashTable A B} {objects : Objects V} {s u : List Place}
-    → Holds successor hash fronts t table objects s → IsShown successor fronts t table u → s ≡ u
-shown_is_held {successor = successor} {fronts = fronts} {t = t} {table = table} {s = s} {u = u} held shown =
-    chains_one successor (λ i p. ⊤) t 0 (fronts table.buckets) s u (held_shown held).chained shown.chained
+-- AND NO OTHER MEMBERS are represented: so what an edit leaves of the links can be said of either
+pub represented_is_held : {E A B V : Type 0} {successor : E → Successor} {hash : A → V → ℕ} {fronts : B → List (Option Place)} {t : Table E} {table : HashTable A B} {objects : Objects V} {s u : List Place}
+    → Holds successor hash fronts t table objects s → IsRepresented successor fronts t table u → s ≡ u
+represented_is_held {successor = successor} {fronts = fronts} {t = t} {table = table} {s = s} {u = u} held shown =
+    chains_one successor (λ i p. ⊤) t 0 (fronts table.buckets) s u (held_represented held).chained shown.chained
 
 -- AFTER `remove`, whatever it answered: P is held before, Q after
 pub removed_some : (P Q : List Place → Type 0) {Same : Type 0} (answer : Bool) {p : Place} (s : List Place) → P s → (IsTrue answer ↔ IsMember p s)

@@ -2,11 +2,9 @@
 use Rattle.std.proofs.Common.{◌≡◌, ◌≢◌, inl, inr, Bool, true, false, Option, Some, None, List, [], ◌∷◌, ◌++◌, drop, length, refl, sym, ap, ◌∙◌, subst, arith, append_assoc, append-nil}
 use Rattle.std.specs.List.{AllByRecursion}
 use Rattle.std.specs.Cmp.{IsPartialEquivalence}
-use Rattle.ic_unsafe_ref.specs.declared.place.Place.{Place}
+use Rattle.ic_link_ops.specs.Prelude.{Place, IsAbsent, IsMember, IsDistinct, Table}
 use Rattle.ic_unsafe_ref.proofs.PlaceLemmas.{same_or_not}
 use Rattle.ic_link_ops.specs.Chains.{IsChain}
-use Rattle.ic_link_ops.specs.Sequences.{IsAbsent, IsMember, IsDistinct}
-use Rattle.ic_link_ops.specs.Tables.{Table}
 use Rattle.ic_link_ops.specs.SinglyLinkedList.{Successor, IsFollowed}
 use Rattle.ic_link_ops.proofs.Chains.{chain_cut}
 use Rattle.ic_link_ops.proofs.Each.{all_back}
@@ -14,8 +12,8 @@ use Rattle.ic_link_ops.proofs.SequenceLemmas.{absent_left, absent_right, absent_
 use Rattle.ic_hash_table.specs.Growth.{AreTurned, IsParted}
 use Rattle.ic_hash_table.specs.SideBySide.{AreSideBySide}
 use Rattle.ic_hash_table.proofs.SideBySideSequences.{spans}
-use Rattle.ic_hash_table.specs.Chains.{ShowsFrom}
-use Rattle.ic_link_ops.proofs.ShownLists.{shows_beside}
+use Rattle.ic_hash_table.specs.Chains.{RepresentsFrom}
+use Rattle.ic_link_ops.proofs.RepresentedLists.{represents_beside}
 
 -- what holds of each member holds of one, and of all that are among them
 pub of_member : (P : Place → Type 0) (s : List Place) (q : Place) → AllByRecursion P s → IsMember q s → P q
@@ -28,10 +26,10 @@ of_members P s [] within all = tt
 of_members P s (x ∷ u) within all = (of_member P s x all (λ out. (within x out).0 refl), of_members P s u (λ q out. (within q out).1) all)
 
 module _ {E : Type 0} {successor : E → Successor} where
-  -- BEHIND A MEMBER a chain is shown from what stands there
-  pub shows_behind : {t : Table E} {front next : Option Place} (c1 c2 : List Place) (p : Place) → ShowsFrom successor t front (c1 ++ p ∷ c2) → next ≡ (successor (t.entry p)).next
-      → ShowsFrom successor t next c2
-  shows_behind {t} c1 c2 p shown is =
+  -- BEHIND A MEMBER a chain is represented from what stands there
+  pub represents_after : {t : Table E} {front next : Option Place} (c1 c2 : List Place) (p : Place) → RepresentsFrom successor t front (c1 ++ p ∷ c2) → next ≡ (successor (t.entry p)).next
+      → RepresentsFrom successor t next c2
+  represents_after {t} c1 c2 p shown is =
       let cut = (chain_cut (IsFollowed successor) t.entry None c1 (p ∷ c2) None shown.chain).1 in
       record { distinct = (distinct_right c1 (p ∷ c2) shown.distinct).1; chain = whatever c2 cut.1; head = is ∙ cut.0.next; tail = refl }
     where
@@ -39,19 +37,19 @@ module _ {E : Type 0} {successor : E → Successor} where
       whatever [] c = tt
       whatever (x ∷ s) c = (record { linked = c.0.linked; next = c.0.next }, c.1)
 
-  pub nothing_shown : (t : Table E) → ShowsFrom successor t None []
-  nothing_shown t = record { distinct = tt; chain = tt; head = refl; tail = refl }
+  pub nothing_represented : (t : Table E) → RepresentsFrom successor t None []
+  nothing_represented t = record { distinct = tt; chain = tt; head = refl; tail = refl }
 
   module _ {is : Place → Bool} where
     -- at first all are left
-    pub part_none : {t : Table E} {front : Option Place} {chain : List Place} → ShowsFrom successor t front chain → IsParted successor is t chain front None None
+    pub part_none : {t : Table E} {front : Option Place} {chain : List Place} → RepresentsFrom successor t front chain → IsParted successor is t chain front None None
     part_none {t} {front} {chain} shown = record {
       left = chain;
       staying = [];
       moving = [];
-      shows_left = shown;
-      shows_staying = nothing_shown t;
-      shows_moving = nothing_shown t;
+      represents_left = shown;
+      represents_staying = nothing_represented t;
+      represents_moving = nothing_represented t;
       distinct = rw (append-nil chain) shown.distinct;
       stay = tt;
       move = tt;
@@ -67,13 +65,13 @@ module _ {E : Type 0} {successor : E → Successor} where
     module _ {old : Table E} {chain : List Place} {stays moves : Option Place} {p : Place} (k : IsParted successor is old chain (Some p) stays moves) where
       -- the first that is left
       pub left_is : k.left ≡ p ∷ drop 1 k.left
-      left_is = first_is k.left k.shows_left.head
+      left_is = first_is k.left k.represents_left.head
 
       left_distinct : IsDistinct (p ∷ drop 1 k.left ++ (k.staying ++ k.moving))
       left_distinct = subst (λ l. IsDistinct (l ++ (k.staying ++ k.moving))) left_is k.distinct
 
-      left_shown : ShowsFrom successor old (Some p) (p ∷ drop 1 k.left)
-      left_shown = subst (ShowsFrom successor old (Some p)) left_is k.shows_left
+      left_represented : RepresentsFrom successor old (Some p) (p ∷ drop 1 k.left)
+      left_represented = subst (RepresentsFrom successor old (Some p)) left_is k.represents_left
 
       left_all : (q : Place) → q ≢ p → IsAbsent q (drop 1 k.left ++ (k.staying ++ k.moving)) → IsAbsent q chain
       left_all q n out = k.all q (subst (λ l. IsAbsent q (l ++ (k.staying ++ k.moving))) (sym left_is) (n, out))
@@ -82,16 +80,16 @@ module _ {E : Type 0} {successor : E → Successor} where
       left_within q out = subst (λ l. IsAbsent q (l ++ (k.staying ++ k.moving))) left_is (k.within q out)
 
       pub left_linked : (successor (old.entry p)).linked ≡ true
-      left_linked = left_shown.chain.0.linked
+      left_linked = left_represented.chain.0.linked
 
       -- it has passed
-      cut_behind : chain ≡ (k.passed ++ p ∷ []) ++ drop 1 k.left
-      cut_behind = k.cut ∙ ap (λ l. k.passed ++ l) left_is ∙ sym (append_assoc k.passed (p ∷ []) (drop 1 k.left))
+      cut_after : chain ≡ (k.passed ++ p ∷ []) ++ drop 1 k.left
+      cut_after = k.cut ∙ ap (λ l. k.passed ++ l) left_is ∙ sym (append_assoc k.passed (p ∷ []) (drop 1 k.left))
 
       passed_absent : (q : Place) → IsAbsent q (k.passed ++ p ∷ []) → (q ≢ p) × IsAbsent q (k.staying ++ k.moving)
       passed_absent q out = ((absent_right q k.passed (p ∷ []) out).0, k.among q (absent_left q k.passed (p ∷ []) out))
 
-      -- it is put in front of those among the passed that go where it goes, and in front of no others
+      -- it is put before those among the passed that go where it goes, and before no others
       module _ {alike : Place → Place → Bool} (laws : IsPartialEquivalence alike) (side : AreSideBySide alike chain) where
         turned_on : {out : List Place} → AreTurned alike k.left out → ((q : Place) → IsAbsent q k.passed → IsAbsent q out) → AreTurned alike (drop 1 k.left) (p ∷ out)
         turned_on {out} t among = record {
@@ -115,7 +113,7 @@ module _ {E : Type 0} {successor : E → Successor} where
 
       module _ {new : Table E} {next : Option Place} (others : (q : Place) → q ≢ p → new.entry q ≡ old.entry q) (is_next : next ≡ (successor (old.entry p)).next) where
         -- it stays
-        pub part_stays : {stays' : Option Place} → is p ≡ false → ((s : List Place) → ShowsFrom successor old stays s → IsAbsent p s → ShowsFrom successor new stays' (p ∷ s))
+        pub part_stays : {stays' : Option Place} → is p ≡ false → ((s : List Place) → RepresentsFrom successor old stays s → IsAbsent p s → RepresentsFrom successor new stays' (p ∷ s))
             → IsParted successor is new chain next stays' moves
         part_stays fails put =
             let l = drop 1 k.left in
@@ -125,9 +123,9 @@ module _ {E : Type 0} {successor : E → Successor} where
               left = l;
               staying = p ∷ k.staying;
               moving = k.moving;
-              shows_left = shows_beside (shows_behind [] l p left_shown is_next) (absent_left p l (k.staying ++ k.moving) out) others;
-              shows_staying = put k.staying k.shows_staying (absent_left p k.staying k.moving out_parts);
-              shows_moving = shows_beside k.shows_moving (absent_right p k.staying k.moving out_parts) others;
+              represents_left = represents_beside (represents_after [] l p left_represented is_next) (absent_left p l (k.staying ++ k.moving) out) others;
+              represents_staying = put k.staying k.represents_staying (absent_left p k.staying k.moving out_parts);
+              represents_moving = represents_beside k.represents_moving (absent_right p k.staying k.moving out_parts) others;
               distinct = distinct_insert l (k.staying ++ k.moving) p left_distinct.1 out;
               stay = (fails, k.stay);
               move = k.move;
@@ -135,7 +133,7 @@ module _ {E : Type 0} {successor : E → Successor} where
               all = λ q absent. left_all q (absent_right q l (p ∷ k.staying ++ k.moving) absent).0 (absent_without l (k.staying ++ k.moving) p q absent);
               count = omega (arith, k.count, ap length left_is);
               passed = k.passed ++ p ∷ [];
-              cut = cut_behind;
+              cut = cut_after;
               among = λ q absent. passed_absent q absent;
               beside = λ alike laws side.
                   let b = k.beside alike laws side in
@@ -143,7 +141,7 @@ module _ {E : Type 0} {successor : E → Successor} where
             }
 
         -- it moves
-        pub part_moves : {moves' : Option Place} → is p ≡ true → ((s : List Place) → ShowsFrom successor old moves s → IsAbsent p s → ShowsFrom successor new moves' (p ∷ s))
+        pub part_moves : {moves' : Option Place} → is p ≡ true → ((s : List Place) → RepresentsFrom successor old moves s → IsAbsent p s → RepresentsFrom successor new moves' (p ∷ s))
             → IsParted successor is new chain next stays moves'
         part_moves passes put =
             let l = drop 1 k.left in
@@ -155,9 +153,9 @@ module _ {E : Type 0} {successor : E → Successor} where
               left = l;
               staying = k.staying;
               moving = p ∷ k.moving;
-              shows_left = shows_beside (shows_behind [] l p left_shown is_next) (absent_left p l (k.staying ++ k.moving) out) others;
-              shows_staying = shows_beside k.shows_staying (absent_left p k.staying k.moving out_parts) others;
-              shows_moving = put k.moving k.shows_moving (absent_right p k.staying k.moving out_parts);
+              represents_left = represents_beside (represents_after [] l p left_represented is_next) (absent_left p l (k.staying ++ k.moving) out) others;
+              represents_staying = represents_beside k.represents_staying (absent_left p k.staying k.moving out_parts) others;
+              represents_moving = put k.moving k.represents_moving (absent_right p k.staying k.moving out_parts);
               distinct = subst IsDistinct with (distinct_insert (l ++ k.staying) k.moving p (subst IsDistinct (sym without) left_distinct.1) (subst (IsAbsent p) (sym without) out));
               stay = k.stay;
               move = (passes, k.move);
@@ -167,7 +165,7 @@ module _ {E : Type 0} {successor : E → Successor} where
                   left_all q (absent_right q (l ++ k.staying) (p ∷ k.moving) a).0 (subst (IsAbsent q) without (absent_without (l ++ k.staying) k.moving p q a));
               count = omega (arith, k.count, ap length left_is);
               passed = k.passed ++ p ∷ [];
-              cut = cut_behind;
+              cut = cut_after;
               among = λ q absent. let a = passed_absent q absent in absent_with k.staying k.moving p q a.0 a.1;
               beside = λ alike laws side.
                   let b = k.beside alike laws side in
@@ -176,8 +174,8 @@ module _ {E : Type 0} {successor : E → Successor} where
 
         -- whichever it does
         pub part_either : {stays' moves' : Option Place} (b : Bool) → is p ≡ b
-            → (b ≡ false → (moves' ≡ moves) × ((s : List Place) → ShowsFrom successor old stays s → IsAbsent p s → ShowsFrom successor new stays' (p ∷ s)))
-            → (b ≡ true → (stays' ≡ stays) × ((s : List Place) → ShowsFrom successor old moves s → IsAbsent p s → ShowsFrom successor new moves' (p ∷ s)))
+            → (b ≡ false → (moves' ≡ moves) × ((s : List Place) → RepresentsFrom successor old stays s → IsAbsent p s → RepresentsFrom successor new stays' (p ∷ s)))
+            → (b ≡ true → (stays' ≡ stays) × ((s : List Place) → RepresentsFrom successor old moves s → IsAbsent p s → RepresentsFrom successor new moves' (p ∷ s)))
             → (more : IsParted successor is new chain next stays' moves') × (k.left ≡ p ∷ more.left)
         unfolding part_stays part_moves
         part_either {stays'} {moves'} true passes stay move =

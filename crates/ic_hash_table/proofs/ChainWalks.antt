@@ -1,11 +1,7 @@
 -- A walk along a chain to the first member that passes a test.
 use Rattle.std.proofs.Common.{◌≡◌, ◌+◌, ◌≤◌, Bool, true, false, Option, Some, None, IsSome, List, [], ◌∷◌, drop, length, length-append, refl, sym, ap, ◌∙◌, subst, arith}
 use Rattle.std.specs.List.{AllByRecursion}
-use Rattle.ic_unsafe_ref.specs.declared.place.Place.{Place}
-use Rattle.ic_unsafe_ref.specs.Objects.{Objects, object_at}
-use Rattle.ic_link_ops.specs.PlacedObjects.{ArePlaced}
-use Rattle.ic_link_ops.specs.Sequences.{IsDistinct, first, last}
-use Rattle.ic_link_ops.specs.Tables.{Table}
+use Rattle.ic_link_ops.specs.Prelude.{Place, Objects, object_at, IsDistinct, first, last, Table, ArePlaced}
 use Rattle.ic_link_ops.specs.Chains.{IsChain}
 use Rattle.ic_link_ops.proofs.Clearing.{Releases, releases_none, releases_more}
 use Rattle.ic_link_ops.proofs.Each.{all_back, all_both}
@@ -13,7 +9,7 @@ use Rattle.ic_link_ops.proofs.SequenceLemmas.{last_of_push, first_is, nothing_fi
 use Rattle.ic_hash_table.specs.Searches.{StopsAt}
 
 module _ {E : Type 0} (between : E → Option Place → Option Place → Type 0) (is : Place → Bool) where
-  -- no member in front of `current` passes, and `before` is the last of these
+  -- no member before `current` passes, and `before` is the last of these
   pub record HasPassed (t : Table E) (s : List Place) (before current : Option Place) : Type 0 where
     pub walk : Releases between t t s current
     pub keeps : before ≡ last walk.done

@@ -1,23 +1,21 @@
 -- The chains of a hash table: kept, told apart, and one of them seen between the others.
 use Rattle.std.proofs.Common.{◌≡◌, ◌≢◌, ℕ, zero, suc, ◌+◌, ◌<◌, Bool, false, Option, None, List, [], ◌∷◌, ◌++◌, drop, length, slice_index_or, slice_set, refl, sym, ap, ◌∙◌, subst, arith, append_assoc}
 use Rattle.std.specs.List.{AllByRecursion}
-use Rattle.ic_unsafe_ref.specs.declared.place.Place.{Place}
-use Rattle.ic_link_ops.specs.Sequences.{IsAbsent, IsDisjoint}
-use Rattle.ic_link_ops.specs.Tables.{Table}
-use Rattle.ic_link_ops.specs.SinglyLinkedList.{Front, Shows, Successor}
+use Rattle.ic_link_ops.specs.Prelude.{Place, IsAbsent, IsDisjoint, Table}
+use Rattle.ic_link_ops.specs.SinglyLinkedList.{Front, Represents, Successor}
 use Rattle.ic_link_ops.proofs.Each.{all_both, all_map}
 use Rattle.ic_link_ops.proofs.SequenceLemmas.{absent_both, nothing_first}
-use Rattle.ic_link_ops.proofs.ShownLists.{free_absent, shows_frame, shows_one}
+use Rattle.ic_link_ops.proofs.RepresentedLists.{free_absent, represents_frame, represents_one}
 use Rattle.ic_link_ops.proofs.SinglyLists.{followed_linked, followed_one}
-use Rattle.ic_hash_table.specs.Chains.{AreChained, ShowsFrom}
+use Rattle.ic_hash_table.specs.Chains.{AreChained, RepresentsFrom}
 
 module _ {E : Type 0} {successor : E → Successor} {t : Table E} where
   -- A CHAIN HAS ONE SEQUENCE, not two
-  pub chain_one : {front : Option Place} {s u : List Place} → ShowsFrom successor t front s → ShowsFrom successor t front u → s ≡ u
-  chain_one shown other = shows_one (followed_one {s = successor}) shown other
+  pub chain_one : {front : Option Place} {s u : List Place} → RepresentsFrom successor t front s → RepresentsFrom successor t front u → s ≡ u
+  chain_one shown other = represents_one (followed_one {s = successor}) shown other
 
-  -- what is shown for a list is shown for the chain from its first member on
-  pub chain_of_list : {list : Front} {s : List Place} → Shows successor t list s → ShowsFrom successor t list.head s
+  -- what is represented for a list is represented for the chain from its first member on
+  pub chain_of_list : {list : Front} {s : List Place} → Represents successor t list s → RepresentsFrom successor t list.head s
   chain_of_list shown = record { distinct = shown.distinct; chain = shown.chain; head = shown.head; tail = refl }
 
 -- the parts of what shares no member with t share none with it either
@@ -25,9 +23,9 @@ pub disjoint_ahead : (s r t : List Place) → IsDisjoint (s ++ r) t → IsDisjoi
 disjoint_ahead [] r t d = tt
 disjoint_ahead (x ∷ s) r t d = (d.0, disjoint_ahead s r t d.1)
 
-pub disjoint_behind : (s r t : List Place) → IsDisjoint (s ++ r) t → IsDisjoint r t
-disjoint_behind [] r t d = d
-disjoint_behind (x ∷ s) r t d = disjoint_behind s r t d.1
+pub disjoint_after : (s r t : List Place) → IsDisjoint (s ++ r) t → IsDisjoint r t
+disjoint_after [] r t d = d
+disjoint_after (x ∷ s) r t d = disjoint_after s r t d.1
 
 module _ {E : Type 0} (successor : E → Successor) (Belongs : ℕ → Place → Type 0) where
   -- CHAINS STAY where nothing but entries of places is changed that are no members
@@ -39,9 +37,9 @@ module _ {E : Type 0} (successor : E → Successor) (Belongs : ℕ → Place →
         chain,
         rest,
         is,
-        shows_frame touched shown (disjoint_ahead chain rest touched d) same,
+        represents_frame touched shown (disjoint_ahead chain rest touched d) same,
         own,
-        chains_frame old new touched (suc i) fs rest more (disjoint_behind chain rest touched d) same,
+        chains_frame old new touched (suc i) fs rest more (disjoint_after chain rest touched d) same,
       )
 
   -- what is not linked is a member of none
@@ -74,7 +72,7 @@ chains_weakened successor Belongs Weaker weaken t i (f ∷ fs) s (chain, rest, i
 abbrev pub Elsewhere : (ℕ → Place → Type 0) → ℕ → Place → Type 0
 Elsewhere Belongs n p = (j : ℕ) × (j ≢ n) × Belongs j p
 
--- one that belongs in a chain in front of n, and one in a chain behind it
+-- one that belongs in a chain before n, and one in a chain after it
 abbrev pub Below : (ℕ → Place → Type 0) → ℕ → Place → Type 0
 Below Belongs n p = (j : ℕ) × (j < n) × Belongs j p
 
@@ -82,40 +80,40 @@ abbrev pub Above : (ℕ → Place → Type 0) → ℕ → Place → Type 0
 Above Belongs n p = (j : ℕ) × (n < j) × Belongs j p
 
 module _ {E : Type 0} (successor : E → Successor) (Belongs : ℕ → Place → Type 0) where
-  -- ONE CHAIN, number n, seen between the others, of which none is number n. What is shown with another front in its place
+  -- ONE CHAIN, number n, seen between the others, of which none is number n. What is represented with another front in its place
   pub record Between (t : Table E) (i k n : ℕ) (fronts : List (Option Place)) (s : List Place) : Type 1 where
     pub ahead : List Place
     pub chain : List Place
     pub behind : List Place
     pub parts : s ≡ ahead ++ (chain ++ behind)
-    pub shown : ShowsFrom successor t (slice_index_or fronts k None) chain
+    pub shown : RepresentsFrom successor t (slice_index_or fronts k None) chain
     pub own : AllByRecursion (Belongs n) chain
     pub ahead_others : AllByRecursion (Elsewhere Belongs n) ahead
-    pub behind_others : AllByRecursion (Elsewhere Belongs n) behind
+    pub after_others : AllByRecursion (Elsewhere Belongs n) behind
     pub ahead_below : AllByRecursion (Below Belongs n) ahead
-    pub behind_above : AllByRecursion (Above Belongs n) behind
+    pub after_above : AllByRecursion (Above Belongs n) behind
     pub put : {new : Table E} (Other : ℕ → Place → Type 0) → ((j : ℕ) (p : Place) → j ≢ n → Belongs j p → Other j p) → (front : Option Place) (instead touched : List Place)
-        → ShowsFrom successor new front instead → AllByRecursion (Other n) instead
+        → RepresentsFrom successor new front instead → AllByRecursion (Other n) instead
         → IsDisjoint ahead touched → IsDisjoint behind touched → ((q : Place) → IsAbsent q touched → new.entry q ≡ t.entry q)
         → AreChained successor Other new i (slice_set fronts k front) (ahead ++ (instead ++ behind))
-    -- the members behind it are those of the chains behind
+    -- the members after it are those of the chains after
     pub more : AreChained successor Belongs t (suc n) (drop (suc k) fronts) behind
-    -- where the chains in front are empty, nothing is ahead
+    -- where the chains before are empty, nothing is ahead
     pub none_ahead : ((j : ℕ) → j < k → slice_index_or fronts j None ≡ None) → ahead ≡ []
 
 module _ {E : Type 0} (successor : E → Successor) (Belongs : ℕ → Place → Type 0) where
-  -- members of the chains behind belong elsewhere
-  behind_elsewhere : (t : Table E) (n i : ℕ) (fronts : List (Option Place)) (s : List Place) → AreChained successor Belongs t i fronts s → n < i → AllByRecursion (Elsewhere Belongs n) s
-  behind_elsewhere t n i [] s h less = subst (AllByRecursion (Elsewhere Belongs n)) (sym h) tt
-  behind_elsewhere t n i (f ∷ fs) s (chain, rest, is, shown, own, more) less =
+  -- members of the chains after belong elsewhere
+  after_elsewhere : (t : Table E) (n i : ℕ) (fronts : List (Option Place)) (s : List Place) → AreChained successor Belongs t i fronts s → n < i → AllByRecursion (Elsewhere Belongs n) s
+  after_elsewhere t n i [] s h less = subst (AllByRecursion (Elsewhere Belongs n)) (sym h) tt
+  after_elsewhere t n i (f ∷ fs) s (chain, rest, is, shown, own, more) less =
       subst (AllByRecursion (Elsewhere Belongs n)) (sym is)
-      (all_both (Elsewhere Belongs n) chain rest (all_map (λ p b. (i, (λ e. absurd (omega (arith, less, e))), b)) chain own) (behind_elsewhere t n (suc i) fs rest more (omega (arith, less))))
+      (all_both (Elsewhere Belongs n) chain rest (all_map (λ p b. (i, (λ e. absurd (omega (arith, less, e))), b)) chain own) (after_elsewhere t n (suc i) fs rest more (omega (arith, less))))
 
-  behind_beyond : (t : Table E) (n i : ℕ) (fronts : List (Option Place)) (s : List Place) → AreChained successor Belongs t i fronts s → n < i → AllByRecursion (Above Belongs n) s
-  behind_beyond t n i [] s h less = subst (AllByRecursion (Above Belongs n)) (sym h) tt
-  behind_beyond t n i (f ∷ fs) s (chain, rest, is, shown, own, more) less =
+  after_beyond : (t : Table E) (n i : ℕ) (fronts : List (Option Place)) (s : List Place) → AreChained successor Belongs t i fronts s → n < i → AllByRecursion (Above Belongs n) s
+  after_beyond t n i [] s h less = subst (AllByRecursion (Above Belongs n)) (sym h) tt
+  after_beyond t n i (f ∷ fs) s (chain, rest, is, shown, own, more) less =
       subst (AllByRecursion (Above Belongs n)) (sym is)
-      (all_both (Above Belongs n) chain rest (all_map (λ p b. (i, less, b)) chain own) (behind_beyond t n (suc i) fs rest more (omega (arith, less))))
+      (all_both (Above Belongs n) chain rest (all_map (λ p b. (i, less, b)) chain own) (after_beyond t n (suc i) fs rest more (omega (arith, less))))
 
   -- and by another measure, which agrees on them
   chains_above : (t : Table E) (n : ℕ) (Other : ℕ → Place → Type 0) → ((j : ℕ) (p : Place) → j ≢ n → Belongs j p → Other j p)
@@ -124,7 +122,7 @@ module _ {E : Type 0} (successor : E → Successor) (Belongs : ℕ → Place →
   chains_above t n Other other i (f ∷ fs) s less (chain, rest, is, shown, own, more) =
       (chain, rest, is, shown, all_map (λ p b. other i p (λ e. absurd (omega (arith, less, e))) b) chain own, chains_above t n Other other (suc i) fs rest (omega (arith, less)) more)
 
-  empty_chain : {t : Table E} {f : Option Place} (chain : List Place) → f ≡ None → ShowsFrom successor t f chain → chain ≡ []
+  empty_chain : {t : Table E} {f : Option Place} (chain : List Place) → f ≡ None → RepresentsFrom successor t f chain → chain ≡ []
   empty_chain chain none shown = nothing_first chain (sym none ∙ shown.head)
 
   pub chain_at : (t : Table E) (i k n : ℕ) (fronts : List (Option Place)) (s : List Place) → n ≡ i + k → k < length fronts → AreChained successor Belongs t i fronts s
@@ -139,9 +137,9 @@ module _ {E : Type 0} (successor : E → Successor) (Belongs : ℕ → Place →
         shown = shown;
         own = subst (λ j. AllByRecursion (Belongs j) chain) here own;
         ahead_others = tt;
-        behind_others = behind_elsewhere t n (suc i) fs rest more (omega (arith, here));
+        after_others = after_elsewhere t n (suc i) fs rest more (omega (arith, here));
         ahead_below = tt;
-        behind_above = behind_beyond t n (suc i) fs rest more (omega (arith, here));
+        after_above = after_beyond t n (suc i) fs rest more (omega (arith, here));
         more = subst (λ j. AreChained successor Belongs t (suc j) fs rest) here more;
         none_ahead = λ none. refl;
         put = λ {new} Other other front instead touched shows belongs _ apart same. (
@@ -162,17 +160,17 @@ module _ {E : Type 0} (successor : E → Successor) (Belongs : ℕ → Place →
         shown = r.shown;
         own = r.own;
         ahead_others = all_both (Elsewhere Belongs n) chain r.ahead (all_map (λ p b. (i, (λ e. absurd (omega (arith, is_n, e))), b)) chain own) r.ahead_others;
-        behind_others = r.behind_others;
+        after_others = r.after_others;
         ahead_below = all_both (Below Belongs n) chain r.ahead (all_map (λ p b. (i, (omega (arith, is_n)), b)) chain own) r.ahead_below;
-        behind_above = r.behind_above;
+        after_above = r.after_above;
         more = r.more;
         none_ahead = λ none. ap (λ l. l ++ r.ahead) (empty_chain chain (none 0 (omega arith)) shown) ∙ r.none_ahead (λ j less. none (suc j) (omega (arith, less)));
-        put = λ {new} Other other front instead touched shows belongs apart_ahead apart_behind same. (
+        put = λ {new} Other other front instead touched shows belongs apart_ahead apart_after same. (
           chain,
           r.ahead ++ (instead ++ r.behind),
           append_assoc chain r.ahead (instead ++ r.behind),
-          shows_frame touched shown (disjoint_ahead chain r.ahead touched apart_ahead) same,
+          represents_frame touched shown (disjoint_ahead chain r.ahead touched apart_ahead) same,
           all_map (λ p b. other i p (λ e. absurd (omega (arith, is_n, e))) b) chain own,
-          r.put Other other front instead touched shows belongs (disjoint_behind chain r.ahead touched apart_ahead) apart_behind same,
+          r.put Other other front instead touched shows belongs (disjoint_after chain r.ahead touched apart_ahead) apart_after same,
         );
       }

@@ -4,28 +4,25 @@ use Rattle.std.specs.Bool.{⊤}
 use Rattle.std.specs.List.{AllByRecursion}
 use Rattle.std.proofs.Math.Nat.{eq-or-lt_of_le}
 use Rattle.std.proofs.lemmas.List.{get_or-set_same, get_or-set_other}
-use Rattle.ic_unsafe_ref.specs.declared.place.Place.{Place}
-use Rattle.ic_link_ops.specs.LinkSteps.{LinkStep, releases_each}
-use Rattle.ic_link_ops.specs.Sequences.{IsAbsent, IsDistinct, IsDisjoint}
-use Rattle.ic_link_ops.specs.Tables.{Table, KeepsBeside}
+use Rattle.ic_link_ops.specs.Prelude.{Place, IsAbsent, IsDistinct, IsDisjoint, Table, ChangesOnlyIn, LinkStep, releases_each}
 use Rattle.ic_link_ops.specs.SinglyLinkedList.{Successor}
 use Rattle.ic_link_ops.proofs.SequenceLemmas.{absent_left, absent_right, disjoint_sym, distinct_disjoint, distinct_right}
 use Rattle.ic_link_ops.proofs.StepLemmas.{releases_append}
 use Rattle.ic_hash_table.specs.Chains.{AreChained}
 use Rattle.ic_hash_table.proofs.Chains.{Between, chain_at, chains_one, chains_nothing}
 
-module _ {L E : Type 0} (successor : E → Successor) (table : L → Table E) (Does : L → L → List LinkStep → Type 0) where
+module _ {L E : Type 0} (successor : E → Successor) (table : L → Table E) (Trace : L → L → List LinkStep → Type 0) where
   -- the chains below `at` are empty; of the members s some are unlinked, in their order, and the others are chained still
   pub record Empties (old new : L) (at : ℕ) (fronts : List (Option Place)) (s : List Place) : Type 0 where
     pub done : List Place
     pub rest : List Place
     pub parts : s ≡ done ++ rest
     pub chained : AreChained successor (λ i p. ⊤) (table new) 0 fronts rest
-    pub steps : Does old new (releases_each done)
-    pub frame : KeepsBeside (table old) (table new) s
+    pub steps : Trace old new (releases_each done)
+    pub frame : ChangesOnlyIn (table old) (table new) s
 
   -- at first none is unlinked
-  pub empties_none : (does_nothing : (t : L) → Does t t []) (t : L) (fronts : List (Option Place)) (s : List Place) → AreChained successor (λ i p. ⊤) (table t) 0 fronts s → Empties t t 0 fronts s
+  pub empties_none : (does_nothing : (t : L) → Trace t t []) (t : L) (fronts : List (Option Place)) (s : List Place) → AreChained successor (λ i p. ⊤) (table t) 0 fronts s → Empties t t 0 fronts s
   empties_none does_nothing t fronts s chained = record {
     done = [];
     rest = s;
@@ -41,8 +38,8 @@ module _ {L E : Type 0} (successor : E → Successor) (table : L → Table E) (D
     next_chain = chain_at successor (λ i p. ⊤) (table mid) 0 at at fronts k.rest (omega arith) within k.chained
 
     -- ONE CHAIN MORE is emptied
-    pub empties_more : (does_on : (a b c : L) (r u : List LinkStep) → Does a b r → Does b c u → Does a c (r ++ u)) (new : L) (none : (j : ℕ) → j < at → slice_index_or fronts j None ≡ None) → IsDistinct s
-        → Does mid new (releases_each next_chain.chain) → KeepsBeside (table mid) (table new) next_chain.chain → Empties old new (at + 1) (slice_set fronts at None) s
+    pub empties_more : (does_on : (a b c : L) (r u : List LinkStep) → Trace a b r → Trace b c u → Trace a c (r ++ u)) (new : L) (none : (j : ℕ) → j < at → slice_index_or fronts j None ≡ None) → IsDistinct s
+        → Trace mid new (releases_each next_chain.chain) → ChangesOnlyIn (table mid) (table new) next_chain.chain → Empties old new (at + 1) (slice_set fronts at None) s
     empties_more does_on new none distinct steps frame =
         let c = next_chain in
         let rest : k.rest ≡ c.chain ++ c.behind = c.parts ∙ ap (λ l. l ++ (c.chain ++ c.behind)) (c.none_ahead none) in
@@ -53,7 +50,7 @@ module _ {L E : Type 0} (successor : E → Successor) (table : L → Table E) (D
           parts = k.parts ∙ ap (λ l. k.done ++ l) rest ∙ sym (append_assoc k.done c.chain c.behind);
           chained = subst (λ l. AreChained successor (λ i p. ⊤) (table new) 0 (slice_set fronts at None) (l ++ c.behind)) (c.none_ahead none)
               (c.put (λ i p. ⊤) (λ j p n b. tt) None [] c.chain (record { distinct = tt; chain = tt; head = refl; tail = refl }) tt (subst (λ l. IsDisjoint l c.chain) (sym (c.none_ahead none)) tt) (disjoint_sym c.chain c.behind (distinct_disjoint c.chain c.behind d)) frame.others);
-          steps = subst (Does old new) (sym (releases_append k.done c.chain)) (does_on old mid new (releases_each k.done) (releases_each c.chain) k.steps steps);
+          steps = subst (Trace old new) (sym (releases_append k.done c.chain)) (does_on old mid new (releases_each k.done) (releases_each c.chain) k.steps steps);
           frame = record {
             extent = frame.extent ∙ k.frame.extent;
             others = λ q out. frame.others q (absent_left q c.chain c.behind (subst (IsAbsent q) rest (absent_right q k.done k.rest (subst (IsAbsent q) k.parts out)))) ∙ k.frame.others q out;
@@ -74,10 +71,10 @@ all_none [] none = tt
 all_none (f ∷ fs) none = (none 0 (omega arith), all_none fs (λ j less. none (suc j) (omega (arith, less))))
 
 -- and all are done
-module _ {L E : Type 0} {successor : E → Successor} {table : L → Table E} {Does : L → L → List LinkStep → Type 0} {old new : L} {at : ℕ} {fronts : List (Option Place)} {s : List Place} where
-  pub all_done : (k : Empties successor table Does old new at fronts s) → AllByRecursion (λ front. front ≡ None) fronts → Does old new (releases_each s)
+module _ {L E : Type 0} {successor : E → Successor} {table : L → Table E} {Trace : L → L → List LinkStep → Type 0} {old new : L} {at : ℕ} {fronts : List (Option Place)} {s : List Place} where
+  pub all_done : (k : Empties successor table Trace old new at fronts s) → AllByRecursion (λ front. front ≡ None) fronts → Trace old new (releases_each s)
   all_done k none =
-      subst (λ l. Does old new (releases_each l)) (sym (k.parts ∙ ap (λ l. k.done ++ l) (no_members (table new) 0 fronts k.rest none k.chained) ∙ append-nil k.done)) k.steps
+      subst (λ l. Trace old new (releases_each l)) (sym (k.parts ∙ ap (λ l. k.done ++ l) (no_members (table new) 0 fronts k.rest none k.chained) ∙ append-nil k.done)) k.steps
     where
       no_members : (t : Table E) (i : ℕ) (fronts : List (Option Place)) (s : List Place) → AllByRecursion (λ front. front ≡ None) fronts → AreChained successor (λ i p. ⊤) t i fronts s → s ≡ []
       no_members t i fronts s none chained = chains_one successor (λ i p. ⊤) t i fronts s [] chained (chains_nothing successor (λ i p. ⊤) t i fronts none)

@@ -1,12 +1,7 @@
 -- What a search of one chain tells of all members.
 use Rattle.std.proofs.Common.{◌≡◌, ◌≢◌, ℕ, ◌<◌, Bool, true, false, Option, Some, None, IsSome, IfSome, is_some, drop, eqb-true, eq-eqb, true≢false, List, [], ◌∷◌, ◌++◌, slice_index_or, refl, sym, ap, ◌∙◌, subst, arith, append_assoc}
 use Rattle.std.specs.List.{AllByRecursion}
-use Rattle.ic_unsafe_ref.specs.declared.place.Place.{Place}
-use Rattle.ic_unsafe_ref.specs.Objects.{Objects, object_at}
-use Rattle.ic_unsafe_ref.specs.Places.{same_word}
-use Rattle.ic_link_ops.specs.Sequences.{IsAbsent, last}
-use Rattle.ic_link_ops.specs.Tables.{Table}
-use Rattle.ic_link_ops.specs.PlacedObjects.{ShowsPlaced}
+use Rattle.ic_link_ops.specs.Prelude.{Place, same_word, Objects, object_at, IsAbsent, last, Table, RepresentsPlaced}
 use Rattle.ic_link_ops.specs.SinglyLinkedList.{Successor}
 use Rattle.ic_link_ops.proofs.Each.{all_both, all_front, all_back, all_map}
 use Rattle.ic_link_ops.proofs.SequenceLemmas.{nothing_first, first_is}
@@ -16,7 +11,7 @@ use Rattle.ic_hash_table.specs.Slots.{slot_of}
 use Rattle.ic_hash_table.specs.HashTable.{BelongsIn, Holds}
 use Rattle.ic_hash_table.specs.Searches.{passes, matches, is_place, Finds, StopsAt}
 use Rattle.ic_hash_table.proofs.Chains.{Elsewhere, Between, chain_at}
-use Rattle.ic_hash_table.specs.Chains.{ShowsFrom}
+use Rattle.ic_hash_table.specs.Chains.{RepresentsFrom}
 
 module _ {E A B V : Type 0} {successor : E → Successor} {hash : A → V → ℕ} {fronts : B → List (Option Place)} {t : Table E} {table : HashTable A B} {objects : Objects V} {s : List Place}
     (held : Holds successor hash fronts t table objects s) (k : ℕ) (used : k < table.slots.used) where
@@ -25,7 +20,7 @@ module _ {E A B V : Type 0} {successor : E → Successor} {hash : A → V → �
   chain_of = chain_at successor (BelongsIn table.slots (hash table.adapter) objects) t 0 k k (fronts table.buckets) s (omega arith) (omega (arith, used, held.enough)) held.chained
 
   -- its members are placed
-  pub chain_placed : ShowsPlaced (ShowsFrom successor t (slice_index_or (fronts table.buckets) k None)) objects
+  pub chain_placed : RepresentsPlaced (RepresentsFrom successor t (slice_index_or (fronts table.buckets) k None)) objects
   chain_placed =
       let c = chain_of in record {
         members = c.chain;
@@ -48,13 +43,13 @@ module _ {V : Type 0} (slots : Slots) (hash : V → ℕ) (objects : Objects V) {
 -- A WALK ALONG A CHAIN FINDS IT, among members of which no other passes
 pub finds_among : {is : Place → Bool} (ahead chain behind : List Place) → AllByRecursion (λ p. is p ≡ false) ahead → AllByRecursion (λ p. is p ≡ false) behind
     → {before : Option Place} (at : Option Place) → StopsAt is chain before at → Finds is (ahead ++ (chain ++ behind)) at
-finds_among {is = is} ahead chain behind none_ahead none_behind None stop =
+finds_among {is = is} ahead chain behind none_ahead none_after None stop =
     let P : Place → Type 0 = λ p. is p ≡ false in
     let none : AllByRecursion P chain =
     subst (AllByRecursion P) stop.whole
     (all_both P stop.gap.front stop.gap.back stop.passed (subst (AllByRecursion P) (sym (nothing_first stop.gap.back stop.here)) tt)) in
-    all_both P ahead (chain ++ behind) none_ahead (all_both P chain behind none none_behind)
-finds_among {is = is} ahead chain behind none_ahead none_behind (Some p) stop =
+    all_both P ahead (chain ++ behind) none_ahead (all_both P chain behind none none_after)
+finds_among {is = is} ahead chain behind none_ahead none_after (Some p) stop =
     let f = stop.gap.front in
     let rest = drop 1 stop.gap.back in
     let whole : chain ≡ f ++ p ∷ rest = sym stop.whole ∙ ap (λ l. f ++ l) (first_is stop.gap.back stop.here) in (
@@ -70,19 +65,19 @@ pub finds : {E : Type 0} {successor : E → Successor} {Belongs : ℕ → Place 
     → (c : Between successor Belongs t 0 k k fronts s) → ((p : Place) → Elsewhere Belongs k p → is p ≡ false)
     → {before : Option Place} (at : Option Place) → StopsAt is c.chain before at → Finds is s at
 finds {is = is} c elsewhere at stop =
-    subst (λ l. Finds is l at) (sym c.parts) (finds_among c.ahead c.chain c.behind (all_map elsewhere c.ahead c.ahead_others) (all_map elsewhere c.behind c.behind_others) at stop)
+    subst (λ l. Finds is l at) (sym c.parts) (finds_among c.ahead c.chain c.behind (all_map elsewhere c.ahead c.ahead_others) (all_map elsewhere c.behind c.after_others) at stop)
 
--- where it stopped at a member, that stands behind the one before
+-- where it stopped at a member, that stands after the one before
 pub stops_at : {E : Type 0} {successor : E → Successor} {t : Table E} {front : Option Place} {chain : List Place} {is : Place → Bool} {before : Option Place} {p : Place} → StopsAt is chain before (Some p)
-    → ShowsFrom successor t front chain → (ahead back : List Place) × ShowsFrom successor t front (ahead ++ p ∷ back) × (before ≡ last ahead)
+    → RepresentsFrom successor t front chain → (ahead back : List Place) × RepresentsFrom successor t front (ahead ++ p ∷ back) × (before ≡ last ahead)
 stops_at {successor = successor} {t = t} {front = front} {p = p} stop shown =
     let whole = sym stop.whole ∙ ap (λ l. stop.gap.front ++ l) (first_is stop.gap.back stop.here) in
-    (stop.gap.front, drop 1 stop.gap.back, subst (ShowsFrom successor t front) whole shown, stop.after)
+    (stop.gap.front, drop 1 stop.gap.back, subst (RepresentsFrom successor t front) whole shown, stop.after)
 
 -- and so where it may have come to the end
 pub stops_some : {E : Type 0} {successor : E → Successor} {t : Table E} {front : Option Place} {chain : List Place} {is : Place → Bool} {before : Option Place} (at : Option Place)
-    → StopsAt is chain before at → ShowsFrom successor t front chain
-    → IfSome at (λ p. (ahead back : List Place) × ShowsFrom successor t front (ahead ++ p ∷ back) × (before ≡ last ahead))
+    → StopsAt is chain before at → RepresentsFrom successor t front chain
+    → IfSome at (λ p. (ahead back : List Place) × RepresentsFrom successor t front (ahead ++ p ∷ back) × (before ≡ last ahead))
 stops_some None stop shown = tt
 stops_some (Some p) stop shown = stops_at stop shown
 
@@ -126,8 +121,8 @@ nowhere {s = s} p c elsewhere at stop none =
 
 -- and where it stops, the place stands there
 pub stops_place : {E : Type 0} {successor : E → Successor} {t : Table E} {front : Option Place} {chain : List Place} {before : Option Place} {p : Place} (at : Option Place) → StopsAt (is_place p) chain before at
-    → is_some at ≡ true → ShowsFrom successor t front chain → (ahead back : List Place) × ShowsFrom successor t front (ahead ++ p ∷ back) × (before ≡ last ahead)
+    → is_some at ≡ true → RepresentsFrom successor t front chain → (ahead back : List Place) × RepresentsFrom successor t front (ahead ++ p ∷ back) × (before ≡ last ahead)
 stops_place {successor = successor} {t = t} {front = front} {before = before} {p = p} at stop some shown =
     let q = some_of at some in
     let stop' = subst (StopsAt (is_place p) _ before) q.1 stop in
-    subst (λ (x : Place). (ahead back : List Place) × ShowsFrom successor t front (ahead ++ x ∷ back) × (before ≡ last ahead)) (same_if_place p q.0 stop'.stops) (stops_at stop' shown)
+    subst (λ (x : Place). (ahead back : List Place) × RepresentsFrom successor t front (ahead ++ x ∷ back) × (before ≡ last ahead)) (same_if_place p q.0 stop'.stops) (stops_at stop' shown)

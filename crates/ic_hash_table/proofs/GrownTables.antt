@@ -3,10 +3,7 @@ use Rattle.std.proofs.Common.{◌≡◌, ◌≢◌, ℕ, ◌<◌, Bool, true, fa
 use Rattle.std.specs.List.{AllByRecursion}
 use Rattle.std.specs.Cmp.{IsPartialEquivalence}
 use Rattle.std.proofs.lemmas.List.{get_or-set_other, length-set}
-use Rattle.ic_unsafe_ref.specs.declared.place.Place.{Place}
-use Rattle.ic_unsafe_ref.specs.Objects.{Objects, object_at}
-use Rattle.ic_link_ops.specs.Sequences.{IsAbsent, IsDistinct, IsDisjoint, first}
-use Rattle.ic_link_ops.specs.Tables.{Table, KeepsBeside}
+use Rattle.ic_link_ops.specs.Prelude.{Place, Objects, object_at, IsAbsent, IsDistinct, IsDisjoint, first, Table, ChangesOnlyIn}
 use Rattle.ic_link_ops.specs.SinglyLinkedList.{Successor}
 use Rattle.ic_link_ops.proofs.Each.{all_front, all_back, all_map}
 use Rattle.ic_link_ops.proofs.SequenceLemmas.{absent_both, absent_left, absent_right, absent_swap, disjoint_both, disjoint_left, disjoint_right, disjoint_sym, distinct_disjoint, distinct_left, distinct_right, distinct_splice, distinct_remove, disjoint_nothing, nothing_first}
@@ -89,9 +86,9 @@ module _ {E A B V : Type 0} (successor : E → Successor) (hash : A → V → �
 
     module _ {new : Table E} (middle buckets : B) {stays moves : Option Place} (well_formed : IsWellFormed slots)
         (first_set : fronts middle ≡ slice_set (fronts table.buckets) (split_of slots table.slots.used) stays) (second_set : fronts buckets ≡ slice_set (fronts middle) table.slots.used moves)
-        (part : IsParted successor (matches (belongs_at slots (hash table.adapter) table.slots.used) objects) new parted_chain.chain None stays moves) (frame : KeepsBeside old new parted_chain.chain) where
+        (part : IsParted successor (matches (belongs_at slots (hash table.adapter) table.slots.used) objects) new parted_chain.chain None stays moves) (frame : ChangesOnlyIn old new parted_chain.chain) where
       no_left : part.left ≡ []
-      no_left = nothing_first part.left part.shows_left.head
+      no_left = nothing_first part.left part.represents_left.head
 
       distinct_parts : IsDistinct (part.staying ++ part.moving)
       distinct_parts = subst (λ l. IsDistinct (l ++ (part.staying ++ part.moving))) no_left part.distinct
@@ -110,7 +107,7 @@ module _ {E A B V : Type 0} (successor : E → Successor) (hash : A → V → �
       chained_stays =
           let c = parted_chain in
           let own = of_members (BelongsIn table.slots (hash table.adapter) objects (split_of slots table.slots.used)) c.chain part.staying (λ q out. absent_left q part.staying part.moving (within_parts q out)) c.own in
-          c.put (BelongsIn slots (hash table.adapter) objects) (others_belong table.slots slots (hash table.adapter) objects split) stays part.staying c.chain part.shows_staying
+          c.put (BelongsIn slots (hash table.adapter) objects) (others_belong table.slots slots (hash table.adapter) objects split) stays part.staying c.chain part.represents_staying
           (all_two (stays_belong table.slots slots (hash table.adapter) objects split) part.staying part.stay own)
           (disjoint_left c.ahead c.chain c.behind (distinct_disjoint c.ahead (c.chain ++ c.behind) whole)) (disjoint_sym c.chain c.behind (distinct_disjoint c.chain c.behind (distinct_right c.ahead (c.chain ++ c.behind) whole))) frame.others
 
@@ -130,7 +127,7 @@ module _ {E A B V : Type 0} (successor : E → Successor) (hash : A → V → �
       chained_moves : AreChained successor (BelongsIn slots (hash table.adapter) objects) new 0 (fronts buckets) (new_chain.ahead ++ (part.moving ++ new_chain.behind))
       chained_moves =
           rw (second_set, first_set)
-          (new_chain.put (BelongsIn slots (hash table.adapter) objects) (λ j p n b. b) moves part.moving [] part.shows_moving
+          (new_chain.put (BelongsIn slots (hash table.adapter) objects) (λ j p n b. b) moves part.moving [] part.represents_moving
           (all_map (moves_belong table.slots slots (hash table.adapter) objects split) part.moving part.move) (disjoint_nothing new_chain.ahead) (disjoint_nothing new_chain.behind) (λ q out. refl))
 
       moving_apart : IsDisjoint part.moving (parted_chain.ahead ++ (part.staying ++ parted_chain.behind))
@@ -215,10 +212,10 @@ module _ {E A B V : Type 0} (successor : E → Successor) (hash : A → V → �
           let turned = part.beside alike laws (front_beside alike c.chain c.behind rest) in
           let own = of_members (Old (split_of slots table.slots.used)) c.chain part.staying (λ q out. absent_left q part.staying part.moving (within_parts q out)) c.own in
           let stays = middle_beside Old alike together (split_of slots table.slots.used) c.ahead part.staying c.behind (front_beside alike c.ahead (c.chain ++ c.behind) whole) turned.0.side
-          (back_beside alike c.chain c.behind rest) c.ahead_below own c.behind_above in
+          (back_beside alike c.chain c.behind rest) c.ahead_below own c.after_above in
           let again = subst (AreSideBySide alike) new_parts stays in (
             grown,
             grown_holds,
             middle_beside New alike together_new table.slots.used n.ahead part.moving n.behind (front_beside alike n.ahead n.behind again) turned.1.side (back_beside alike n.ahead n.behind again)
-                n.ahead_below (all_map (moves_belong table.slots slots (hash table.adapter) objects split) part.moving part.move) n.behind_above,
+                n.ahead_below (all_map (moves_belong table.slots slots (hash table.adapter) objects split) part.moving part.move) n.after_above,
           )

@@ -2,18 +2,15 @@
 use Rattle.std.proofs.Common.{◌≡◌, ℕ, ◌+◌, ◌<◌, ◌≤◌, Bool, Option, Some, None, IsSome, IfSome, Result, Ok, Err, OnOk, List, [], ◌∷◌, ◌++◌, length, length-append, slice_index_or, slice_set, refl, sym, ap, ◌∙◌, subst, arith, append_assoc}
 use Rattle.std.specs.List.{AllByRecursion}
 use Rattle.std.proofs.lemmas.List.{length-set}
-use Rattle.ic_unsafe_ref.specs.declared.place.Place.{Place}
-use Rattle.ic_unsafe_ref.specs.Objects.{Objects, object_at}
-use Rattle.ic_link_ops.specs.Sequences.{Cut, join, insert, first, IsAbsent, IsMember, IsDistinct, IsDisjoint}
-use Rattle.ic_link_ops.specs.Tables.{Table, KeepsBeside}
+use Rattle.ic_link_ops.specs.Prelude.{Place, Objects, object_at, Cut, join, insert, first, IsAbsent, IsMember, IsDistinct, IsDisjoint, Table, ChangesOnlyIn}
 use Rattle.ic_link_ops.specs.SinglyLinkedList.{Successor}
 use Rattle.ic_link_ops.proofs.CollectionLaws.{IsKind}
 use Rattle.ic_link_ops.proofs.Each.{all_with, all_without, all_both, all_map, all_front}
 use Rattle.ic_link_ops.proofs.SequenceLemmas.{absent_left, absent_right, disjoint_cons, disjoint_left, disjoint_sym, distinct_disjoint, distinct_right, distinct_insert, distinct_remove, none_not, split_member}
 use Rattle.ic_hash_table.specs.declared.table.HashTable.{HashTable}
 use Rattle.ic_hash_table.specs.Slots.{slot_of}
-use Rattle.ic_hash_table.specs.Chains.{AreChained, ShowsFrom}
-use Rattle.ic_hash_table.specs.HashTable.{BelongsIn, Holds, HoldsAt, HoldsInFront, HoldsWith, IsNew}
+use Rattle.ic_hash_table.specs.Chains.{AreChained, RepresentsFrom}
+use Rattle.ic_hash_table.specs.HashTable.{BelongsIn, Holds, HoldsAt, HoldsBefore, HoldsWith, IsNew}
 use Rattle.ic_hash_table.specs.Searches.{Finds, StopsAt}
 use Rattle.ic_hash_table.specs.declared.slots.Slots.{Slots}
 use Rattle.ic_hash_table.proofs.ChainParts.{of_member}
@@ -39,8 +36,8 @@ one_cut (x ∷ a) b (y ∷ c) d p distinct e =
 pub middle_ahead : (a m b : List Place) → IsDistinct (a ++ (m ++ b)) → IsDisjoint a m
 middle_ahead a m b d = disjoint_left a m b (distinct_disjoint a (m ++ b) d)
 
-pub middle_behind : (a m b : List Place) → IsDistinct (a ++ (m ++ b)) → IsDisjoint b m
-middle_behind a m b d = disjoint_sym m b (distinct_disjoint m b (distinct_right a (m ++ b) d))
+pub middle_after : (a m b : List Place) → IsDistinct (a ++ (m ++ b)) → IsDisjoint b m
+middle_after a m b d = disjoint_sym m b (distinct_disjoint m b (distinct_right a (m ++ b) d))
 
 -- four parts in two pairs, or the two in the middle as one
 regrouped : (a f y z : List Place) → (a ++ f) ++ (y ++ z) ≡ a ++ ((f ++ y) ++ z)
@@ -65,8 +62,8 @@ module _ {E A B V : Type 0} (successor : E → Successor) (hash : A → V → �
       (set : fronts buckets ≡ slice_set (fronts table.buckets) k front) where
     -- ONE MORE, at a gap of chain k
     pub held_put : {s : List Place} → Holds successor hash fronts old table objects s → IsSome (object_at objects p) → ((v : V) → object_at objects p ≡ Some v → slot_of table.slots (hash table.adapter v) ≡ k)
-        → IsAbsent p s → (gap : Cut) → ShowsFrom successor old (slice_index_or (fronts table.buckets) k None) (join gap) → ShowsFrom successor new front (insert gap p)
-        → KeepsBeside old new (p ∷ join gap) → len ≡ table.len + 1 → HoldsAt successor hash fronts new (with_buckets table buckets len) objects s gap p
+        → IsAbsent p s → (gap : Cut) → RepresentsFrom successor old (slice_index_or (fronts table.buckets) k None) (join gap) → RepresentsFrom successor new front (insert gap p)
+        → ChangesOnlyIn old new (p ∷ join gap) → len ≡ table.len + 1 → HoldsAt successor hash fronts new (with_buckets table buckets len) objects s gap p
     held_put {s} held placed belongs out gap was shows frame counted =
         let c = chain_of held k used in
         let f = gap.front in
@@ -88,7 +85,7 @@ module _ {E A B V : Type 0} (successor : E → Successor) (hash : A → V → �
                 (subst (AreChained successor (BelongsIn table.slots (hash table.adapter) objects) new 0 (slice_set (fronts table.buckets) k front)) (sym (regrouped c.ahead f (p ∷ b) c.behind))
                 (c.put (BelongsIn table.slots (hash table.adapter) objects) (λ j q n own. own) front (f ++ p ∷ b) (p ∷ (f ++ b)) shows (all_with Own f p b belongs (subst (AllByRecursion Own) is c.own))
                 (disjoint_cons p c.ahead (f ++ b) (absent_left p c.ahead ((f ++ b) ++ c.behind) out') (middle_ahead c.ahead (f ++ b) c.behind d))
-                (disjoint_cons p c.behind (f ++ b) (absent_right p (f ++ b) c.behind (absent_right p c.ahead ((f ++ b) ++ c.behind) out')) (middle_behind c.ahead (f ++ b) c.behind d))
+                (disjoint_cons p c.behind (f ++ b) (absent_right p (f ++ b) c.behind (absent_right p c.ahead ((f ++ b) ++ c.behind) out')) (middle_after c.ahead (f ++ b) c.behind d))
                 frame.others));
             placed = all_with Placed (c.ahead ++ f) p (b ++ c.behind) placed (subst (AllByRecursion Placed) flat held.placed);
             counted = omega (arith, counted, held.counted, ap length flat, length-append (c.ahead ++ f) (b ++ c.behind), length-append (c.ahead ++ f) (p ∷ (b ++ c.behind)));
@@ -100,15 +97,15 @@ module _ {E A B V : Type 0} (successor : E → Successor) (hash : A → V → �
               (all_map (λ q j. (j.0, omega (arith, j.1), j.2)) c.ahead c.ahead_below)
               (all_map (λ q b. (k, (omega arith), b)) f (all_front Own f b (subst (AllByRecursion Own) is c.own))) in
               let one = of_member (UpTo table.slots (hash table.adapter) objects k) (c.ahead ++ f) x up_to member in
-              let other = of_member (Above (BelongsIn table.slots (hash table.adapter) objects) k) c.behind y c.behind_above behind in
+              let other = of_member (Above (BelongsIn table.slots (hash table.adapter) objects) k) c.behind y c.after_above behind in
               let e : one.0 ≡ other.0 = sym (one.2 v at_x) ∙ ap (slot_of table.slots) same ∙ other.2 w at_y in
               absurd (omega (arith, one.1, other.1, e));
         }
 
     -- ONE LESS, wherever it stood in chain k
     pub held_taken : (a b : List Place) → Holds successor hash fronts old table objects (a ++ p ∷ b)
-        → (ahead back : List Place) → ShowsFrom successor old (slice_index_or (fronts table.buckets) k None) (ahead ++ p ∷ back) → ShowsFrom successor new front (ahead ++ back)
-        → KeepsBeside old new (ahead ++ p ∷ back) → table.len ≡ len + 1 → Holds successor hash fronts new (with_buckets table buckets len) objects (a ++ b)
+        → (ahead back : List Place) → RepresentsFrom successor old (slice_index_or (fronts table.buckets) k None) (ahead ++ p ∷ back) → RepresentsFrom successor new front (ahead ++ back)
+        → ChangesOnlyIn old new (ahead ++ p ∷ back) → table.len ≡ len + 1 → Holds successor hash fronts new (with_buckets table buckets len) objects (a ++ b)
     held_taken a b held ahead back was shows frame counted =
         let c = chain_of held k used in
         let is : c.chain ≡ ahead ++ p ∷ back = chain_one c.shown was in
@@ -123,7 +120,7 @@ module _ {E A B V : Type 0} (successor : E → Successor) (hash : A → V → �
           chained = subst (λ l. AreChained successor (BelongsIn table.slots (hash table.adapter) objects) new 0 l (a ++ b)) (sym set)
               (subst (AreChained successor (BelongsIn table.slots (hash table.adapter) objects) new 0 (slice_set (fronts table.buckets) k front)) rest
               (c.put (BelongsIn table.slots (hash table.adapter) objects) (λ j q n b. b) front (ahead ++ back) (ahead ++ p ∷ back) shows (all_without (BelongsIn table.slots (hash table.adapter) objects k) ahead p back (subst (AllByRecursion (BelongsIn table.slots (hash table.adapter) objects k)) is c.own))
-              (middle_ahead c.ahead (ahead ++ p ∷ back) c.behind d) (middle_behind c.ahead (ahead ++ p ∷ back) c.behind d) frame.others));
+              (middle_ahead c.ahead (ahead ++ p ∷ back) c.behind d) (middle_after c.ahead (ahead ++ p ∷ back) c.behind d) frame.others));
           placed = all_without (λ q. IsSome (object_at objects q)) a p b held.placed;
           counted = omega (arith, counted, held.counted, length-append a (p ∷ b), length-append a b);
           well_formed = held.well_formed;
@@ -136,17 +133,17 @@ module _ {E : Type 0} {successor : E → Successor} {Belongs : ℕ → Place →
   absent_chain q out = absent_left q c.chain c.behind (absent_right q c.ahead (c.chain ++ c.behind) (subst (IsAbsent q) c.parts out))
 
   -- and a member of it is one of all
-  pub of_chain : (ahead back : List Place) (q : Place) → ShowsFrom successor t (slice_index_or fronts k None) (ahead ++ q ∷ back) → IsMember q s
+  pub of_chain : (ahead back : List Place) (q : Place) → RepresentsFrom successor t (slice_index_or fronts k None) (ahead ++ q ∷ back) → IsMember q s
   of_chain ahead back q was out = split_member ahead q back (subst (IsAbsent q) (chain_one c.shown was) (absent_chain q out))
 
-  pub frame_put : {new : Table E} {p : Place} → KeepsBeside t new (p ∷ c.chain) → KeepsBeside t new (p ∷ s)
+  pub frame_put : {new : Table E} {p : Place} → ChangesOnlyIn t new (p ∷ c.chain) → ChangesOnlyIn t new (p ∷ s)
   frame_put frame = record { extent = frame.extent; others = λ q out. frame.others q (out.0, absent_chain q out.1) }
 
   -- where that chain is seen at a gap
-  pub frame_at : {new : Table E} {p : Place} (gap : Cut) → ShowsFrom successor t (slice_index_or fronts k None) (join gap) → KeepsBeside t new (p ∷ join gap) → KeepsBeside t new (p ∷ s)
-  frame_at {new} {p} gap was frame = frame_put (subst (λ l. KeepsBeside t new (p ∷ l)) (sym (chain_one c.shown was)) frame)
+  pub frame_at : {new : Table E} {p : Place} (gap : Cut) → RepresentsFrom successor t (slice_index_or fronts k None) (join gap) → ChangesOnlyIn t new (p ∷ join gap) → ChangesOnlyIn t new (p ∷ s)
+  frame_at {new} {p} gap was frame = frame_put (subst (λ l. ChangesOnlyIn t new (p ∷ l)) (sym (chain_one c.shown was)) frame)
 
-  pub frame_taken : {new : Table E} {chain : List Place} → ShowsFrom successor t (slice_index_or fronts k None) chain → KeepsBeside t new chain → KeepsBeside t new s
+  pub frame_taken : {new : Table E} {chain : List Place} → RepresentsFrom successor t (slice_index_or fronts k None) chain → ChangesOnlyIn t new chain → ChangesOnlyIn t new s
   frame_taken {chain = chain} was frame = record { extent = frame.extent; others = λ q out. frame.others q (subst (IsAbsent q) (chain_one c.shown was) (absent_chain q out)) }
 
 -- put in at a gap of a chain, it is put in somewhere
@@ -154,11 +151,11 @@ pub held_with : {E A B V : Type 0} {successor : E → Successor} {hash : A → V
     → HoldsAt successor hash fronts t table objects s gap p → HoldsWith successor hash fronts t table objects s p
 held_with {gap = gap} h = (record { front = h.ahead ++ gap.front; back = gap.back ++ h.behind }, sym h.parts, h.holds)
 
--- where a walk along its chain stopped, it is put in in front of the first member that passes
-pub held_in_front : {E A B V : Type 0} {successor : E → Successor} {hash : A → V → ℕ} {fronts : B → List (Option Place)} {t : Table E} {table : HashTable A B} {objects : Objects V} {is : Place → Bool}
+-- where a walk along its chain stopped, it is put in before the first member that passes
+pub held_before : {E A B V : Type 0} {successor : E → Successor} {hash : A → V → ℕ} {fronts : B → List (Option Place)} {t : Table E} {table : HashTable A B} {objects : Objects V} {is : Place → Bool}
     {s chain : List Place} {p : Place} {before : Option Place} (found : Option Place) (stop : StopsAt is chain before found) → Finds is s found
-    → HoldsAt successor hash fronts t table objects s stop.gap p → HoldsInFront successor hash fronts t table objects is s p
-held_in_front found stop finds h = record {
+    → HoldsAt successor hash fronts t table objects s stop.gap p → HoldsBefore successor hash fronts t table objects is s p
+held_before found stop finds h = record {
   gap = record { front = h.ahead ++ stop.gap.front; back = stop.gap.back ++ h.behind };
   whole = sym h.parts;
   holds = h.holds;
@@ -175,7 +172,7 @@ on_ok (Err e) follows holds = tt
 -- where a chain has a member, one at least is counted
 pub some_counted : {E A B V : Type 0} {successor : E → Successor} {hash : A → V → ℕ} {fronts : B → List (Option Place)} {t : Table E} {table : HashTable A B} {objects : Objects V} {s : List Place}
     → (held : Holds successor hash fronts t table objects s) (k : ℕ) (used : k < table.slots.used) (ahead back : List Place) (p : Place)
-    → ShowsFrom successor t (slice_index_or (fronts table.buckets) k None) (ahead ++ p ∷ back) → 1 ≤ table.len
+    → RepresentsFrom successor t (slice_index_or (fronts table.buckets) k None) (ahead ++ p ∷ back) → 1 ≤ table.len
 some_counted held k used ahead back p was =
     let c = chain_of held k used in
     omega (arith, held.counted, ap length c.parts, length-append c.ahead (c.chain ++ c.behind), length-append c.chain c.behind, ap length (chain_one c.shown was), length-append ahead (p ∷ back))

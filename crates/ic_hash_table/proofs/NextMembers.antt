@@ -3,26 +3,21 @@ use Rattle.std.proofs.Common.{◌≡◌, ℕ, zero, suc, ◌/◌, ◌<◌, ◌�
 use Rattle.std.specs.Bool.{⊤}
 use Rattle.std.specs.List.{AllByRecursion}
 use Rattle.std.proofs.Math.Seq.{drop-cons}
-use Rattle.ic_unsafe_ref.specs.declared.place.Place.{Place}
-use Rattle.ic_link_ops.specs.Sequences.{Cut, join, first, last, but_last, IsDistinct}
-use Rattle.ic_link_ops.specs.PlacedObjects.{ArePlaced}
-use Rattle.ic_link_ops.specs.Tables.{Table}
+use Rattle.ic_link_ops.specs.Prelude.{Place, Objects, object_at, Cut, join, first, last, but_last, IsDistinct, IsAbsent, IsMember, Table, ArePlaced}
 use Rattle.ic_link_ops.specs.SinglyLinkedList.{Successor, IsFollowed}
 use Rattle.ic_link_ops.proofs.SequenceLemmas.{split_last, nothing_first}
-use Rattle.ic_link_ops.specs.Sequences.{IsAbsent, IsMember}
-use Rattle.ic_unsafe_ref.specs.Objects.{Objects, object_at}
 use Rattle.ic_link_ops.proofs.Each.{all_front, all_map, all_back}
-use Rattle.ic_link_ops.proofs.ShownLists.{shows_middle}
+use Rattle.ic_link_ops.proofs.RepresentedLists.{represents_middle}
 use Rattle.ic_hash_table.specs.declared.slots.Slots.{Slots}
 use Rattle.ic_hash_table.specs.Slots.{slot_of}
 use Rattle.ic_hash_table.proofs.SlotLemmas.{slot_used}
 use Rattle.ic_link_ops.proofs.SequenceLemmas.{absent_both, member_split, split_member, some_same}
 use Rattle.ic_hash_table.specs.declared.table.HashTable.{HashTable}
-use Rattle.ic_hash_table.specs.Chains.{AreChained, ShowsFrom}
+use Rattle.ic_hash_table.specs.Chains.{AreChained, RepresentsFrom}
 use Rattle.ic_hash_table.specs.HashTable.{BelongsIn, Holds}
 use Rattle.ic_hash_table.specs.Searches.{matches, Finds, StopsAt}
 use Rattle.ic_hash_table.proofs.Chains.{Elsewhere, chains_weakened}
-use Rattle.ic_hash_table.proofs.ChainParts.{shows_behind}
+use Rattle.ic_hash_table.proofs.ChainParts.{represents_after}
 use Rattle.ic_hash_table.proofs.FoundMembers.{chain_of, finds_among, none_elsewhere, place_absent, place_elsewhere}
 use Rattle.ic_hash_table.proofs.HeldTables.{one_cut}
 
@@ -72,9 +67,9 @@ all_chained {successor = successor} {hash = hash} {fronts = fronts} {t = t} {tab
 -- where a place belongs, there it stands
 module _ {E A B V : Type 0} {successor : E → Successor} {hash : A → V → ℕ} {fronts : B → List (Option Place)} {t : Table E} {table : HashTable A B} {objects : Objects V} {s : List Place}
     (held : Holds successor hash fronts t table objects s) (k : ℕ) (used : k < table.slots.used) where
-  -- the members behind one chain, as the chains from there on
-  pub behind_chained : AreChained successor (λ i p. ⊤) t (suc k) (drop (suc k) (fronts table.buckets)) (chain_of held k used).behind
-  behind_chained =
+  -- the members after one chain, as the chains from there on
+  pub after_chained : AreChained successor (λ i p. ⊤) t (suc k) (drop (suc k) (fronts table.buckets)) (chain_of held k used).behind
+  after_chained =
       chains_weakened successor (BelongsIn table.slots (hash table.adapter) objects) (λ i p. ⊤) (λ i p b. tt) t (suc k) (drop (suc k) (fronts table.buckets)) (chain_of held k used).behind (chain_of held k used).more
 
   module _ (place : Place) (placed : IsSome (object_at objects place)) (belongs : BelongsIn table.slots (hash table.adapter) objects k place) where
@@ -84,22 +79,22 @@ module _ {E A B V : Type 0} {successor : E → Successor} {hash : A → V → �
     pub in_chain : IsMember place s → IsMember place (chain_of held k used).chain
     in_chain member out =
         let c = chain_of held k used in
-        member (subst (IsAbsent place) (sym c.parts) (absent_both place c.ahead (c.chain ++ c.behind) (none_aside c.ahead c.ahead_others) (absent_both place c.chain c.behind out (none_aside c.behind c.behind_others))))
+        member (subst (IsAbsent place) (sym c.parts) (absent_both place c.ahead (c.chain ++ c.behind) (none_aside c.ahead c.ahead_others) (absent_both place c.chain c.behind out (none_aside c.behind c.after_others))))
 
-    -- the members behind it: those of its chain, and those of the chains behind
-    pub behind_place : (front back : List Place) → s ≡ front ++ place ∷ back → (c1 c2 : List Place) × ((chain_of held k used).chain ≡ c1 ++ place ∷ c2) × (back ≡ c2 ++ (chain_of held k used).behind)
-    behind_place front back is =
+    -- the members after it: those of its chain, and those of the chains after
+    pub after_place : (front back : List Place) → s ≡ front ++ place ∷ back → (c1 c2 : List Place) × ((chain_of held k used).chain ≡ c1 ++ place ∷ c2) × (back ≡ c2 ++ (chain_of held k used).behind)
+    after_place front back is =
         let c = chain_of held k used in
         let m = member_split place c.chain (in_chain (λ out. split_member front place back (subst (IsAbsent place) is out))) in
         let whole : front ++ place ∷ back ≡ (c.ahead ++ m.0) ++ place ∷ (m.1 ++ c.behind) =
         sym is ∙ c.parts ∙ ap (λ l. c.ahead ++ (l ++ c.behind)) m.2 ∙ ap (λ l. c.ahead ++ l) (append_assoc m.0 (place ∷ m.1) c.behind) ∙ sym (append_assoc c.ahead m.0 (place ∷ m.1 ++ c.behind)) in
         (m.0, m.1, m.2, (one_cut front back (c.ahead ++ m.0) (m.1 ++ c.behind) place (subst IsDistinct is held.distinct) whole).1)
 
--- a gap behind a place
-pub gap_behind : (gap : Cut) (place : Place) → Some place ≡ last gap.front → join gap ≡ but_last gap.front ++ place ∷ gap.back
-gap_behind gap place after = ap (λ l. l ++ gap.back) (split_last gap.front (sym after)) ∙ append_assoc (but_last gap.front) (place ∷ []) gap.back
+-- a gap after a place
+pub gap_after : (gap : Cut) (place : Place) → Some place ≡ last gap.front → join gap ≡ but_last gap.front ++ place ∷ gap.back
+gap_after gap place after = ap (λ l. l ++ gap.back) (split_last gap.front (sym after)) ∙ append_assoc (but_last gap.front) (place ∷ []) gap.back
 
--- the first behind it: that of the chain, or where its chain ends that of the others
+-- the first after it: that of the chain, or where its chain ends that of the others
 pub first_is_chains : (next : Option Place) (c2 behind : List Place) → next ≡ first c2 → is_some next ≡ true → next ≡ first (c2 ++ behind)
 first_is_chains next [] behind is some = absurd (true≢false (sym some ∙ ap is_some is))
 first_is_chains next (x ∷ c2) behind is some = is
@@ -118,22 +113,22 @@ module _ {V : Type 0} (slots : Slots) (hash : V → ℕ) (objects : Objects V) (
   pub slot_of_place : (p : Place) → IsSome (object_at objects p) → (k : ℕ) × (k < slots.used) × BelongsIn slots hash objects k p
   slot_of_place p placed = own_slot p (object_at objects p) refl placed
 
--- HOW A MEMBER STANDS: its entry names what stands behind it in its chain
+-- HOW A MEMBER STANDS: its entry names what stands after it in its chain
 module _ {E A B V : Type 0} {successor : E → Successor} {hash : A → V → ℕ} {fronts : B → List (Option Place)} {t : Table E} {table : HashTable A B} {objects : Objects V}
     (gap : Cut) (held : Holds successor hash fronts t table objects (join gap)) (place : Place) (after : Some place ≡ last gap.front) where
   pub place_placed : IsSome (object_at objects place)
   place_placed =
-      let all = subst (AllByRecursion (λ p. IsSome (object_at objects p))) (gap_behind gap place after) held.placed in
+      let all = subst (AllByRecursion (λ p. IsSome (object_at objects p))) (gap_after gap place after) held.placed in
       (all_back (λ p. IsSome (object_at objects p)) (but_last gap.front) (place ∷ gap.back) all).0
 
   module _ (k : ℕ) (used : k < table.slots.used) (belongs : BelongsIn table.slots (hash table.adapter) objects k place) where
     pub stands_in : (c2 : List Place) × IsFollowed successor (t.entry place) None (first c2) × (gap.back ≡ c2 ++ (chain_of held k used).behind)
     stands_in =
-        let b = behind_place held k used place place_placed belongs (but_last gap.front) gap.back (gap_behind gap place after) in
-        let e = shows_middle b.0 b.1 ((subst (ShowsFrom successor t (slice_index_or (fronts table.buckets) k None)) b.2 (chain_of held k used).shown)) in
+        let b = after_place held k used place place_placed belongs (but_last gap.front) gap.back (gap_after gap place after) in
+        let e = represents_middle b.0 b.1 ((subst (RepresentsFrom successor t (slice_index_or (fronts table.buckets) k None)) b.2 (chain_of held k used).shown)) in
         (b.1, record { linked = e.linked; next = e.next }, b.3)
 
--- THE REST OF A CHAIN behind the member p, of the members behind it: none of the others belongs in that chain
+-- THE REST OF A CHAIN after the member p, of the members after it: none of the others belongs in that chain
 pub record RestOfChain {E A B V : Type 0} (successor : E → Successor) (hash : A → V → ℕ) (t : Table E) (table : HashTable A B) (objects : Objects V) (p : Place) (back : List Place) : Type 0 where
   pub slot : ℕ
   pub rest : List Place
@@ -141,7 +136,7 @@ pub record RestOfChain {E A B V : Type 0} (successor : E → Successor) (hash : 
   pub linked : (successor (t.entry p)).linked ≡ true
   pub belongs : BelongsIn table.slots (hash table.adapter) objects slot p
   pub parts : back ≡ rest ++ others
-  pub shown : ShowsFrom successor t (successor (t.entry p)).next rest
+  pub shown : RepresentsFrom successor t (successor (t.entry p)).next rest
   pub placed : ArePlaced objects rest
   pub elsewhere : AllByRecursion (Elsewhere (BelongsIn table.slots (hash table.adapter) objects) slot) others
 
@@ -151,24 +146,24 @@ rest_of_chain {successor = successor} {hash = hash} {fronts = fronts} {t = t} {t
     let placed = all_back (λ q. IsSome (object_at objects q)) front (p ∷ back) held.placed in
     let k = slot_of_place table.slots (hash table.adapter) objects (omega (arith, held.well_formed.half)) p placed.0 in
     let c = chain_of held k.0 k.1 in
-    let b = behind_place held k.0 k.1 p placed.0 k.2 front back refl in
-    let shown = subst (ShowsFrom successor t (slice_index_or (fronts table.buckets) k.0 None)) b.2 c.shown in
+    let b = after_place held k.0 k.1 p placed.0 k.2 front back refl in
+    let shown = subst (RepresentsFrom successor t (slice_index_or (fronts table.buckets) k.0 None)) b.2 c.shown in
     record {
       slot = k.0;
       rest = b.1;
       others = c.behind;
-      linked = (shows_middle b.0 b.1 shown).linked;
+      linked = (represents_middle b.0 b.1 shown).linked;
       belongs = k.2;
       parts = b.3;
-      shown = shows_behind b.0 b.1 p shown refl;
+      shown = represents_after b.0 b.1 p shown refl;
       placed = all_front (λ q. IsSome (object_at objects q)) b.1 c.behind (subst (AllByRecursion (λ q. IsSome (object_at objects q))) b.3 placed.1);
-      elsewhere = c.behind_others;
+      elsewhere = c.after_others;
     }
 
--- A WALK ALONG THAT REST FINDS what equals the object of the member, among all members behind it
-pub finds_behind : {E A B V : Type 0} {successor : E → Successor} {hash : A → V → ℕ} {t : Table E} {table : HashTable A B} {objects : Objects V} {p : Place} {back : List Place} {equal : V → Bool}
+-- A WALK ALONG THAT REST FINDS what equals the object of the member, among all members after it
+pub finds_after : {E A B V : Type 0} {successor : E → Successor} {hash : A → V → ℕ} {t : Table E} {table : HashTable A B} {objects : Objects V} {p : Place} {back : List Place} {equal : V → Bool}
     → (r : RestOfChain successor hash t table objects p back) → ((v : V) → equal v ≡ true → slot_of table.slots (hash table.adapter v) ≡ r.slot)
     → {before : Option Place} (at : Option Place) → StopsAt (matches equal objects) r.rest before at → Finds (matches equal objects) back at
-finds_behind {hash = hash} {table = table} {objects = objects} {equal = equal} r alike at stop =
+finds_after {hash = hash} {table = table} {objects = objects} {equal = equal} r alike at stop =
     subst (λ l. Finds (matches equal objects) l at) (sym r.parts)
     (finds_among [] r.rest r.others tt (all_map (none_elsewhere table.slots (hash table.adapter) objects alike) r.others r.elsewhere) at stop)

@@ -3,43 +3,39 @@ use Rattle.std.proofs.Common.{◌≡◌, ℕ, suc, true, eq-eqb, cond, Bor, Opti
 use Rattle.std.specs.Option.{option_copied}
 use Rattle.std.specs.List.{cons_option}
 use Rattle.std.specs.Iterator.{MakesProgress, item_count}
-use Rattle.ic_unsafe_ref.specs.declared.place.Place.{Place}
-use Rattle.ic_unsafe_ref.specs.Objects.{Objects, object_at}
-use Rattle.ic_link_ops.specs.Sequences.{Cut, join, but_last, IsDistinct, IsAfter, IsBefore}
-use Rattle.ic_link_ops.specs.Tables.{Table, IsCovered}
+use Rattle.ic_link_ops.specs.Prelude.{Place, Objects, object_at, Cut, join, but_last, IsDistinct, IsAfter, IsBefore, Table, IsCovered, ArePlaced, values_at}
 use Rattle.ic_link_ops.specs.SinglyLinkedList.{Successor, list_from}
-use Rattle.ic_link_ops.specs.PlacedObjects.{ArePlaced, values_at}
 use Rattle.ic_link_ops.specs.Walk.{GivesFirst}
 use Rattle.ic_link_ops.proofs.Each.{all_back}
 use Rattle.ic_link_ops.proofs.PlacedEnds.{first_placed}
 use Rattle.ic_link_ops.proofs.SequenceLemmas.{absent_right, first_is, last_of_push, nothing_first, nothing_last}
-use Rattle.ic_link_ops.proofs.SinglyLists.{members_shown}
+use Rattle.ic_link_ops.proofs.SinglyLists.{members_represented}
 use Rattle.ic_link_ops.proofs.Walks.{yields_placed, makes_progress}
 use Rattle.ic_hash_table.specs.declared.iter.Iter.{Iter}
 use Rattle.ic_hash_table.specs.Chains.{AreChained}
 use Rattle.ic_hash_table.specs.HashTable.{BelongsIn, Holds}
 use Rattle.ic_hash_table.specs.Iter.{members_of, behind, objects_left, CanWalk}
 use Rattle.ic_hash_table.proofs.FoundMembers.{not_place}
-use Rattle.ic_hash_table.proofs.NextMembers.{gap_behind}
+use Rattle.ic_hash_table.proofs.NextMembers.{gap_after}
 
 -- THE ENTRIES LEAD THROUGH ALL MEMBERS
 pub members_are : {E : Type 0} (successor : E → Successor) (t : Table E) → ((q : Place) → (successor (t.entry q)).linked ≡ true → IsCovered t q)
     → (Belongs : ℕ → Place → Type 0) (i : ℕ) (fronts : List (Option Place)) (s : List Place) → AreChained successor Belongs t i fronts s → members_of successor t fronts ≡ s
 members_are successor t covered Belongs i [] s h = sym h
 members_are successor t covered Belongs i (f ∷ fs) s (chain, rest, is, shown, own, more) =
-    ap (λ c. c ++ members_of successor t fs) (members_shown t covered (list_from f) chain shown) ∙ ap (λ r. chain ++ r) (members_are successor t covered Belongs (suc i) fs rest more) ∙ sym is
+    ap (λ c. c ++ members_of successor t fs) (members_represented t covered (list_from f) chain shown) ∙ ap (λ r. chain ++ r) (members_are successor t covered Belongs (suc i) fs rest more) ∙ sym is
 
--- BEHIND A MEMBER stands what follows it, and behind a gap its back
-pub behind_member : (front back : List Place) (p : Place) → IsDistinct (front ++ p ∷ back) → behind (Some p) (front ++ p ∷ back) ≡ back
-behind_member [] back p d = ap (λ b. cond b back (behind (Some p) back)) (eq-eqb p.word p.word refl)
-behind_member (x ∷ front) back p d =
-    ap (λ b. cond b (front ++ p ∷ back) (behind (Some p) (front ++ p ∷ back))) (not_place p x (λ e. (absent_right x front (p ∷ back) d.0).0 (sym e))) ∙ behind_member front back p d.1
+-- BEHIND A MEMBER stands what follows it, and after a gap its back
+pub after_member : (front back : List Place) (p : Place) → IsDistinct (front ++ p ∷ back) → behind (Some p) (front ++ p ∷ back) ≡ back
+after_member [] back p d = ap (λ b. cond b back (behind (Some p) back)) (eq-eqb p.word p.word refl)
+after_member (x ∷ front) back p d =
+    ap (λ b. cond b (front ++ p ∷ back) (behind (Some p) (front ++ p ∷ back))) (not_place p x (λ e. (absent_right x front (p ∷ back) d.0).0 (sym e))) ∙ after_member front back p d.1
 
-behind_gap : (gap : Cut) (at : Option Place) → IsDistinct (join gap) → IsAfter gap at → behind at (join gap) ≡ gap.back
-behind_gap gap None d after = ap (λ l. l ++ gap.back) (nothing_last gap.front after)
-behind_gap gap (Some p) d after =
-    let is = gap_behind gap p after in
-    ap (behind (Some p)) is ∙ behind_member (but_last gap.front) gap.back p (subst IsDistinct is d)
+after_gap : (gap : Cut) (at : Option Place) → IsDistinct (join gap) → IsAfter gap at → behind at (join gap) ≡ gap.back
+after_gap gap None d after = ap (λ l. l ++ gap.back) (nothing_last gap.front after)
+after_gap gap (Some p) d after =
+    let is = gap_after gap p after in
+    ap (behind (Some p)) is ∙ after_member (but_last gap.front) gap.back p (subst IsDistinct is d)
 
 -- what follows is placed
 pub back_placed : {A B L O V K E : Type 0} (successor : E → Successor) (table : L → Table E) (hash : A → V → ℕ) (fronts : B → List (Option Place)) (values : O → Objects V)
@@ -49,19 +45,19 @@ back_placed successor table hash fronts values t can = all_back (λ p. IsSome (o
 -- `law`: only covered places are linked. The walk t stands in the gap `can.0`
 module _ {A B L O V K E : Type 0} (successor : E → Successor) (table : L → Table E) (hash : A → V → ℕ) (fronts : B → List (Option Place)) (values : O → Objects V)
     (law : (t : L) (q : Place) → (successor ((table t).entry q)).linked ≡ true → IsCovered (table t) q) where
-  -- what is left is what stands at the members behind the gap
+  -- what is left is what stands at the members after the gap
   pub left_is : (t : Iter A B L O V K) (can : CanWalk successor table hash fronts values t) → objects_left successor table fronts values t ≡ values_at (values t.objects.now) can.0.back
   left_is t can =
       let own = BelongsIn t.table.now.slots (hash t.table.now.adapter) (values t.objects.now) in
       ap (λ s. values_at (values t.objects.now) (behind t.at s)) (members_are successor (table t.links.now) (law t.links.now) own 0 (fronts t.table.now.buckets) (join can.0) can.1.chained)
-      ∙ ap (values_at (values t.objects.now)) (behind_gap can.0 t.at can.1.distinct can.2)
+      ∙ ap (values_at (values t.objects.now)) (after_gap can.0 t.at can.1.distinct can.2)
 
   -- where nothing follows, nothing is left
   pub none_left : (t : Iter A B L O V K) (can : CanWalk successor table hash fronts values t) → IsBefore can.0 None → objects_left successor table fronts values t ≡ []
   none_left t can at = left_is t can ∙ ap (values_at (values t.objects.now)) (nothing_first can.0.back at)
 
   module _ (t : Iter A B L O V K) (p : Place) (can : CanWalk successor table hash fronts values t) (is : IsBefore can.0 (Some p)) where
-    -- behind it the walk can go on
+    -- after it the walk can go on
     walks_on : CanWalk successor table hash fronts values (record t { at = Some p })
     walks_on = (
       record { front = can.0.front ++ p ∷ []; back = drop 1 can.0.back },

@@ -1,10 +1,6 @@
 -- A walk that takes out what fails a test: a turn of it, and its end.
 use Rattle.std.proofs.Common.{◌≡◌, ◌<◌, arith, ℕ, Bool, true, false, Option, None, Some, List, [], ◌∷◌, ◌++◌, drop, length, refl, sym, ap, ◌∙◌, subst, append_assoc, append-nil}
-use Rattle.ic_unsafe_ref.specs.declared.place.Place.{Place}
-use Rattle.ic_unsafe_ref.specs.Objects.{Objects}
-use Rattle.ic_link_ops.specs.LinkSteps.{LinkStep, releases, releases_each}
-use Rattle.ic_link_ops.specs.Sequences.{first, IsAbsent, IsDistinct}
-use Rattle.ic_link_ops.specs.Tables.{Table, IsCovered, KeepsBeside}
+use Rattle.ic_link_ops.specs.Prelude.{Place, Objects, first, IsAbsent, IsDistinct, Table, IsCovered, ChangesOnlyIn, LinkStep, releases, releases_each}
 use Rattle.ic_link_ops.specs.SinglyLinkedList.{Successor}
 use Rattle.ic_link_ops.proofs.SequenceLemmas.{absent_without, first_is, none_not, nothing_first, some_same}
 use Rattle.ic_link_ops.proofs.StepLemmas.{releases_append}
@@ -12,7 +8,7 @@ use Rattle.ic_hash_table.specs.declared.table.HashTable.{HashTable}
 use Rattle.ic_hash_table.specs.HashTable.{BelongsIn, Holds}
 use Rattle.ic_hash_table.specs.Iter.{members_of, behind}
 use Rattle.ic_hash_table.specs.Retained.{TellsAt, AreAnswers, passing, failing}
-use Rattle.ic_hash_table.proofs.RemainingMembers.{members_are, behind_member}
+use Rattle.ic_hash_table.proofs.RemainingMembers.{members_are, after_member}
 
 -- the members of s from this one on, and of none none
 abbrev pub ahead_of : Option Place → List Place → List Place
@@ -24,9 +20,9 @@ ahead_is front [] None d here = refl
 ahead_is front [] (Some p) d here = absurd (none_not p (sym here))
 ahead_is front (x ∷ back) None d here = absurd (none_not x here)
 ahead_is front (x ∷ back) (Some p) d here =
-    subst (λ y. y ∷ behind (Some y) (front ++ x ∷ back) ≡ x ∷ back) (sym (some_same here)) (ap (λ l. x ∷ l) (behind_member front back x d))
+    subst (λ y. y ∷ behind (Some y) (front ++ x ∷ back) ≡ x ∷ back) (sym (some_same here)) (ap (λ l. x ∷ l) (after_member front back x d))
 
-module _ {L E A B V F : Type 0} (successor : E → Successor) (table : L → Table E) (Does : L → L → List LinkStep → Type 0) (hash : A → V → ℕ) (fronts : B → List (Option Place)) (objects : Objects V)
+module _ {L E A B V F : Type 0} (successor : E → Successor) (table : L → Table E) (Trace : L → L → List LinkStep → Type 0) (hash : A → V → ℕ) (fronts : B → List (Option Place)) (objects : Objects V)
     (tells : F → V → Bool → F → Type 0) where
   -- the walk over s has come to `at`, and has kept and let go as the test told, which is `asked` by now: what it answers of those ahead
   -- completes its answers of s
@@ -39,14 +35,14 @@ module _ {L E A B V F : Type 0} (successor : E → Successor) (table : L → Tab
     pub said : (later : List Bool) (last : F) → AreAnswers tells objects asked ahead later last
         → (answers : List Bool) × AreAnswers tells objects test s answers last × (passing answers s ≡ kept ++ passing later ahead) × (failing answers s ≡ gone ++ failing later ahead)
     pub within : (q : Place) → IsAbsent q s → IsAbsent q (kept ++ ahead)
-    pub steps : Does start now (releases_each gone)
-    pub frame : KeepsBeside (table start) (table now) s
+    pub steps : Trace start now (releases_each gone)
+    pub frame : ChangesOnlyIn (table start) (table now) s
 
-module _ {L E A B V F : Type 0} {successor : E → Successor} {table : L → Table E} {Does : L → L → List LinkStep → Type 0} {hash : A → V → ℕ} {fronts : B → List (Option Place)} {objects : Objects V}
+module _ {L E A B V F : Type 0} {successor : E → Successor} {table : L → Table E} {Trace : L → L → List LinkStep → Type 0} {hash : A → V → ℕ} {fronts : B → List (Option Place)} {objects : Objects V}
     {tells : F → V → Bool → F → Type 0} where
   -- at first all are ahead
-  pub retains_none : {start : L} {held : HashTable A B} {s : List Place} {at : Option Place} (test : F) → ((t : L) → Does t t []) → Holds successor hash fronts (table start) held objects s → at ≡ first s
-      → Retains successor table Does hash fronts objects tells start start held s at test test
+  pub retains_none : {start : L} {held : HashTable A B} {s : List Place} {at : Option Place} (test : F) → ((t : L) → Trace t t []) → Holds successor hash fronts (table start) held objects s → at ≡ first s
+      → Retains successor table Trace hash fronts objects tells start start held s at test test
   retains_none {start} {s = s} test does_nothing holds here = record {
     kept = [];
     gone = [];
@@ -61,28 +57,28 @@ module _ {L E A B V F : Type 0} {successor : E → Successor} {table : L → Tab
 
   -- how many are ahead, as the entries tell
   ahead_count : ((t : L) (q : Place) → (successor ((table t).entry q)).linked ≡ true → IsCovered (table t) q) → {start now : L} {held : HashTable A B} {s : List Place} {at : Option Place} {test asked : F}
-      → (r : Retains successor table Does hash fronts objects tells start now held s at test asked) → length (ahead_of at (members_of successor (table now) (fronts held.buckets))) ≡ length r.ahead
+      → (r : Retains successor table Trace hash fronts objects tells start now held s at test asked) → length (ahead_of at (members_of successor (table now) (fronts held.buckets))) ≡ length r.ahead
   ahead_count law {now = now} {held = held} {at = at} r =
       ap (λ m. length (ahead_of at m)) (members_are successor (table now) (law now) (BelongsIn held.slots (hash held.adapter) objects) 0 (fronts held.buckets) (r.kept ++ r.ahead) r.holds.chained)
       ∙ ap length (ahead_is r.kept r.ahead at r.holds.distinct r.here)
 
   -- a turn leaves less ahead
   pub turn_less : ((t : L) (q : Place) → (successor ((table t).entry q)).linked ≡ true → IsCovered (table t) q) → {start start' now new : L} {held rest : HashTable A B} {s s' : List Place} {at next : Option Place} {p : Place} {test test' asked after : F}
-      → (r : Retains successor table Does hash fronts objects tells start now held s at test asked) → r.ahead ≡ p ∷ drop 1 r.ahead
-      → (more : Retains successor table Does hash fronts objects tells start' new rest s' next test' after) → more.ahead ≡ drop 1 r.ahead
+      → (r : Retains successor table Trace hash fronts objects tells start now held s at test asked) → r.ahead ≡ p ∷ drop 1 r.ahead
+      → (more : Retains successor table Trace hash fronts objects tells start' new rest s' next test' after) → more.ahead ≡ drop 1 r.ahead
       → length (ahead_of next (members_of successor (table new) (fronts rest.buckets))) < length (ahead_of at (members_of successor (table now) (fronts held.buckets)))
   turn_less law r is more left = omega (arith, ahead_count law r, ahead_count law more, ap length is, ap length left)
 
-  module _ {start now : L} {held : HashTable A B} {s : List Place} {p : Place} {test asked : F} (r : Retains successor table Does hash fronts objects tells start now held s (Some p) test asked) where
-    -- the member there, and the gap behind it
+  module _ {start now : L} {held : HashTable A B} {s : List Place} {p : Place} {test asked : F} (r : Retains successor table Trace hash fronts objects tells start now held s (Some p) test asked) where
+    -- the member there, and the gap after it
     pub ahead_first : r.ahead ≡ p ∷ drop 1 r.ahead
     ahead_first = first_is r.ahead r.here
 
     pub holds_there : Holds successor hash fronts (table now) held objects (r.kept ++ p ∷ drop 1 r.ahead)
     holds_there = subst (λ l. Holds successor hash fronts (table now) held objects (r.kept ++ l)) ahead_first r.holds
 
-    pub holds_behind : Holds successor hash fronts (table now) held objects ((r.kept ++ p ∷ []) ++ drop 1 r.ahead)
-    holds_behind = subst (Holds successor hash fronts (table now) held objects) (sym (append_assoc r.kept (p ∷ []) (drop 1 r.ahead))) holds_there
+    pub holds_after : Holds successor hash fronts (table now) held objects ((r.kept ++ p ∷ []) ++ drop 1 r.ahead)
+    holds_after = subst (Holds successor hash fronts (table now) held objects) (sym (append_assoc r.kept (p ∷ []) (drop 1 r.ahead))) holds_there
 
     within_there : (q : Place) → IsAbsent q s → IsAbsent q (r.kept ++ p ∷ drop 1 r.ahead)
     within_there q out = subst (λ l. IsAbsent q (r.kept ++ l)) ahead_first (r.within q out)
@@ -101,14 +97,14 @@ module _ {L E A B V F : Type 0} {successor : E → Successor} {table : L → Tab
 
     -- the member there stays
     pub retains_kept : {next : Option Place} {after : F} → next ≡ first (drop 1 r.ahead) → TellsAt tells objects asked p true after
-        → (more : Retains successor table Does hash fronts objects tells start now held s next test after) × (more.ahead ≡ drop 1 r.ahead)
+        → (more : Retains successor table Trace hash fronts objects tells start now held s next test after) × (more.ahead ≡ drop 1 r.ahead)
     retains_kept is_next told = (
       record {
         kept = r.kept ++ p ∷ [];
         gone = r.gone;
         ahead = drop 1 r.ahead;
         here = is_next;
-        holds = holds_behind;
+        holds = holds_after;
         said = λ later last rest.
             let a = answers_there true told later last rest in
             (a.0, a.1, a.2 ∙ sym (append_assoc r.kept (p ∷ []) (passing later (drop 1 r.ahead))), a.3);
@@ -120,10 +116,10 @@ module _ {L E A B V F : Type 0} {successor : E → Successor} {table : L → Tab
     )
 
     -- or it goes
-    pub retains_gone : (does_on : (a b c : L) (u v : List LinkStep) → Does a b u → Does b c v → Does a c (u ++ v)) {next : Option Place} {new : L} {rest : HashTable A B} {after : F}
+    pub retains_gone : (does_on : (a b c : L) (u v : List LinkStep) → Trace a b u → Trace b c v → Trace a c (u ++ v)) {next : Option Place} {new : L} {rest : HashTable A B} {after : F}
         → next ≡ first (drop 1 r.ahead) → TellsAt tells objects asked p false after → Holds successor hash fronts (table new) rest objects (r.kept ++ drop 1 r.ahead)
-        → Does now new (releases p ∷ []) → KeepsBeside (table now) (table new) (r.kept ++ p ∷ drop 1 r.ahead)
-        → (more : Retains successor table Does hash fronts objects tells start new rest s next test after) × (more.ahead ≡ drop 1 r.ahead)
+        → Trace now new (releases p ∷ []) → ChangesOnlyIn (table now) (table new) (r.kept ++ p ∷ drop 1 r.ahead)
+        → (more : Retains successor table Trace hash fronts objects tells start new rest s next test after) × (more.ahead ≡ drop 1 r.ahead)
     retains_gone does_on {next} {new} {rest} is_next told holds released frame = (
       record {
         kept = r.kept;
@@ -135,21 +131,21 @@ module _ {L E A B V F : Type 0} {successor : E → Successor} {table : L → Tab
             let a = answers_there false told later last answers in
             (a.0, a.1, a.2, a.3 ∙ sym (append_assoc r.gone (p ∷ []) (failing later (drop 1 r.ahead))));
         within = λ q out. absent_without r.kept (drop 1 r.ahead) p q (within_there q out);
-        steps = subst (Does start new) (sym (releases_append r.gone (p ∷ []))) (does_on start now new (releases_each r.gone) (releases p ∷ []) r.steps released);
+        steps = subst (Trace start new) (sym (releases_append r.gone (p ∷ []))) (does_on start now new (releases_each r.gone) (releases p ∷ []) r.steps released);
         frame = record { extent = frame.extent ∙ r.frame.extent; others = λ q out. frame.others q (within_there q out) ∙ r.frame.others q out };
       },
       refl,
     )
 
   -- AT ITS END the test was asked of all of s
-  pub retains_all : {start now : L} {held : HashTable A B} {s : List Place} {test asked : F} (r : Retains successor table Does hash fronts objects tells start now held s None test asked)
+  pub retains_all : {start now : L} {held : HashTable A B} {s : List Place} {test asked : F} (r : Retains successor table Trace hash fronts objects tells start now held s None test asked)
       → (answers : List Bool) × AreAnswers tells objects test s answers asked × Holds successor hash fronts (table now) held objects (passing answers s)
-      × Does start now (releases_each (failing answers s))
+      × Trace start now (releases_each (failing answers s))
   retains_all {start} {now} {held} {s} {asked = asked} r =
       let none = nothing_first r.ahead r.here in
       let a = r.said [] asked (subst (λ l. AreAnswers tells objects asked l [] asked) (sym none) refl) in (
         a.0,
         a.1,
         subst (Holds successor hash fronts (table now) held objects) (ap (λ l. r.kept ++ l) none ∙ sym a.2) r.holds,
-        subst (λ l. Does start now (releases_each l)) (sym (append-nil r.gone) ∙ sym a.3) r.steps,
+        subst (λ l. Trace start now (releases_each l)) (sym (append-nil r.gone) ∙ sym a.3) r.steps,
       )

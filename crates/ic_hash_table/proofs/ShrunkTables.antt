@@ -2,26 +2,23 @@
 use Rattle.std.proofs.Common.{◌≡◌, ◌≢◌, ℕ, ◌<◌, Bool, Option, None, IsSome, List, [], ◌++◌, length, length-append, slice_index_or, slice_set, refl, sym, ap, ◌∙◌, subst, arith, append_assoc}
 use Rattle.std.proofs.lemmas.List.{get_or-set_other, length-set}
 use Rattle.std.specs.List.{AllByRecursion}
-use Rattle.ic_unsafe_ref.specs.declared.place.Place.{Place}
-use Rattle.ic_unsafe_ref.specs.Objects.{Objects, object_at}
-use Rattle.ic_link_ops.specs.Sequences.{IsAbsent, IsDistinct, IsDisjoint}
-use Rattle.ic_link_ops.specs.Tables.{Table, KeepsBeside}
+use Rattle.ic_link_ops.specs.Prelude.{Place, Objects, object_at, IsAbsent, IsDistinct, IsDisjoint, Table, ChangesOnlyIn}
 use Rattle.ic_link_ops.specs.SinglyLinkedList.{Successor}
 use Rattle.ic_link_ops.proofs.Each.{all_back, all_both, all_front, all_map}
 use Rattle.ic_link_ops.proofs.SequenceLemmas.{absent_both, absent_left, absent_right, distinct_disjoint, distinct_left, distinct_right, distinct_splice, disjoint_nothing}
 use Rattle.ic_hash_table.specs.declared.slots.Slots.{Slots}
 use Rattle.ic_hash_table.specs.declared.table.HashTable.{HashTable}
 use Rattle.ic_hash_table.specs.Slots.{split_of, IsWellFormed, IsSplit}
-use Rattle.ic_hash_table.specs.Chains.{AreChained, ShowsFrom}
+use Rattle.ic_hash_table.specs.Chains.{AreChained, RepresentsFrom}
 use Rattle.ic_hash_table.specs.HashTable.{BelongsIn, Holds}
 use Rattle.ic_hash_table.specs.Growth.{HoldsSameMembers}
 use Rattle.ic_hash_table.specs.SideBySide.{AreSideBySide}
 use Rattle.ic_hash_table.proofs.Chains.{Between, chain_at}
 use Rattle.ic_hash_table.proofs.SideBySideSequences.{join_beside, front_beside, back_beside}
 use Rattle.ic_hash_table.proofs.SideBySideChains.{BelongTogether, in_others, middle_beside}
-use Rattle.ic_hash_table.proofs.ChainParts.{of_members, nothing_shown}
+use Rattle.ic_hash_table.proofs.ChainParts.{of_members, nothing_represented}
 use Rattle.ic_hash_table.proofs.GrownTables.{without_middle, middle_apart}
-use Rattle.ic_hash_table.proofs.HeldTables.{middle_ahead, middle_behind}
+use Rattle.ic_hash_table.proofs.HeldTables.{middle_ahead, middle_after}
 
 -- THE LAST CHAIN, AND THE ONE THAT IT IS JOINED TO. `others`: what belongs in another chain than the last belongs there still. `moved`: what
 -- belonged in the last belongs in that one
@@ -32,15 +29,15 @@ module _ {E : Type 0} (successor : E → Successor) (Belongs Fewer : ℕ → Pla
   last_chain = chain_at successor Belongs old 0 last last fronts s (omega arith) within chained
 
   without_last : AreChained successor Fewer old 0 (slice_set fronts last None) (last_chain.ahead ++ last_chain.behind)
-  without_last = last_chain.put Fewer others None [] [] (nothing_shown old) tt (disjoint_nothing last_chain.ahead) (disjoint_nothing last_chain.behind) (λ q out. refl)
+  without_last = last_chain.put Fewer others None [] [] (nothing_represented old) tt (disjoint_nothing last_chain.ahead) (disjoint_nothing last_chain.behind) (λ q out. refl)
 
   pub joined_chain : Between successor Fewer old 0 to to (slice_set fronts last None) (last_chain.ahead ++ last_chain.behind)
   joined_chain = chain_at successor Fewer old 0 to to (slice_set fronts last None) (last_chain.ahead ++ last_chain.behind) (omega arith) (omega (arith, less, within, length-set fronts last None)) without_last
 
-  pub joined_shown : ShowsFrom successor old (slice_index_or fronts to None) joined_chain.chain
-  joined_shown = subst (λ f. ShowsFrom successor old f joined_chain.chain) (get_or-set_other fronts last to None None (λ e. absurd (omega (arith, less, e)))) joined_chain.shown
+  pub joined_represented : RepresentsFrom successor old (slice_index_or fronts to None) joined_chain.chain
+  joined_represented = subst (λ f. RepresentsFrom successor old f joined_chain.chain) (get_or-set_other fronts last to None None (λ e. absurd (omega (arith, less, e)))) joined_chain.shown
 
-  -- the members, with those of the last chain in front of those of the other
+  -- the members, with those of the last chain before those of the other
   abbrev pub joined : List Place
   joined = joined_chain.ahead ++ ((last_chain.chain ++ joined_chain.chain) ++ joined_chain.behind)
 
@@ -86,7 +83,7 @@ module _ {E : Type 0} (successor : E → Successor) (Belongs Fewer : ℕ → Pla
       subst (IsAbsent q) (sym l.parts)
       (absent_both q l.ahead (l.chain ++ l.behind) (absent_left q l.ahead l.behind beside) (absent_both q l.chain l.behind (absent_left q l.chain j.chain both) (absent_right q l.ahead l.behind beside)))
 
-  pub joined_frame : {new : Table E} → KeepsBeside old new (last_chain.chain ++ joined_chain.chain) → KeepsBeside old new s
+  pub joined_frame : {new : Table E} → ChangesOnlyIn old new (last_chain.chain ++ joined_chain.chain) → ChangesOnlyIn old new s
   joined_frame frame =
       let l = last_chain in
       let j = joined_chain in record {
@@ -112,13 +109,13 @@ module _ {E : Type 0} (successor : E → Successor) (Belongs Fewer : ℕ → Pla
         length-append l.chain j.chain,
       )
 
-  pub joined_chained : {new : Table E} {front : Option Place} → ShowsFrom successor new front (last_chain.chain ++ joined_chain.chain) → KeepsBeside old new (last_chain.chain ++ joined_chain.chain)
+  pub joined_chained : {new : Table E} {front : Option Place} → RepresentsFrom successor new front (last_chain.chain ++ joined_chain.chain) → ChangesOnlyIn old new (last_chain.chain ++ joined_chain.chain)
       → AreChained successor Fewer new 0 (slice_set (slice_set fronts last None) to front) joined
   joined_chained {front = front} shown frame =
       let l = last_chain in
       let j = joined_chain in
       j.put Fewer (λ i p n b. b) front (l.chain ++ j.chain) (l.chain ++ j.chain) shown (all_both (Fewer to) l.chain j.chain (all_map moved l.chain l.own) j.own)
-      (middle_ahead j.ahead (l.chain ++ j.chain) j.behind joined_distinct) (middle_behind j.ahead (l.chain ++ j.chain) j.behind joined_distinct) frame.others
+      (middle_ahead j.ahead (l.chain ++ j.chain) j.behind joined_distinct) (middle_after j.ahead (l.chain ++ j.chain) j.behind joined_distinct) frame.others
 
   -- ALIKE MEMBERS STAND SIDE BY SIDE STILL: none of the last chain is alike one of the other
   pub joined_beside : {alike : Place → Place → Bool} → BelongTogether Belongs alike → BelongTogether Fewer alike → AreSideBySide alike s → AreSideBySide alike joined
@@ -128,15 +125,15 @@ module _ {E : Type 0} (successor : E → Successor) (Belongs Fewer : ℕ → Pla
       let Elsewhere : Place → Type 0 = λ p. (i : ℕ) × (i ≢ last) × Belongs i p in
       let split = subst (AreSideBySide alike) l.parts side in
       let rest = back_beside alike l.ahead (l.chain ++ l.behind) split in
-      let beside = middle_beside Belongs alike together last l.ahead [] l.behind (front_beside alike l.ahead (l.chain ++ l.behind) split) tt (back_beside alike l.chain l.behind rest) l.ahead_below tt l.behind_above in
+      let beside = middle_beside Belongs alike together last l.ahead [] l.behind (front_beside alike l.ahead (l.chain ++ l.behind) split) tt (back_beside alike l.chain l.behind rest) l.ahead_below tt l.after_above in
       let parts = subst (AreSideBySide alike) j.parts beside in
       let end = back_beside alike j.ahead (j.chain ++ j.behind) parts in
-      let others = subst (AllByRecursion Elsewhere) j.parts (all_both Elsewhere l.ahead l.behind l.ahead_others l.behind_others) in
+      let others = subst (AllByRecursion Elsewhere) j.parts (all_both Elsewhere l.ahead l.behind l.ahead_others l.after_others) in
       let strangers = all_front Elsewhere j.chain j.behind (all_back Elsewhere j.ahead (j.chain ++ j.behind) others) in
       let both = join_beside alike l.chain j.chain (front_beside alike l.chain l.behind rest) (front_beside alike j.chain j.behind end)
       (in_others Belongs alike together (λ i. i ≡ last) (λ i. i ≢ last) (λ i e other. other e) l.chain j.chain (all_map (λ p o. (last, refl, o)) l.chain l.own) strangers) in
       middle_beside Fewer alike fewer to j.ahead (l.chain ++ j.chain) j.behind (front_beside alike j.ahead (j.chain ++ j.behind) parts) both (back_beside alike j.chain j.behind end)
-      j.ahead_below (all_both (Fewer to) l.chain j.chain (all_map moved l.chain l.own) j.own) j.behind_above
+      j.ahead_below (all_both (Fewer to) l.chain j.chain (all_map moved l.chain l.own) j.own) j.after_above
 
 -- where fewer chains are in use, what belongs in another than the last belongs there still, and what belonged in the last goes back
 module _ {V : Type 0} (small large : Slots) (hash : V → ℕ) (objects : Objects V) (split : IsSplit small large) where
@@ -151,10 +148,10 @@ module _ {E A B V : Type 0} (successor : E → Successor) (hash : A → V → �
   -- IT HOLDS THE SAME MEMBERS
   module _ (middle buckets : B) {new : Table E} {front : Option Place} (well_formed : IsWellFormed slots)
       (last_set : fronts middle ≡ slice_set (fronts table.buckets) slots.used None) (joined_set : fronts buckets ≡ slice_set (fronts middle) (split_of table.slots slots.used) front)
-      (join : (s t : List Place) → ShowsFrom successor old (slice_index_or (fronts table.buckets) slots.used None) s → ShowsFrom successor old (slice_index_or (fronts table.buckets) (split_of table.slots slots.used) None) t
-      → IsDisjoint s t → ShowsFrom successor new front (s ++ t))
-      (frame : (s t : List Place) → ShowsFrom successor old (slice_index_or (fronts table.buckets) slots.used None) s → ShowsFrom successor old (slice_index_or (fronts table.buckets) (split_of table.slots slots.used) None) t
-      → IsDisjoint s t → KeepsBeside old new (s ++ t)) where
+      (join : (s t : List Place) → RepresentsFrom successor old (slice_index_or (fronts table.buckets) slots.used None) s → RepresentsFrom successor old (slice_index_or (fronts table.buckets) (split_of table.slots slots.used) None) t
+      → IsDisjoint s t → RepresentsFrom successor new front (s ++ t))
+      (frame : (s t : List Place) → RepresentsFrom successor old (slice_index_or (fronts table.buckets) slots.used None) s → RepresentsFrom successor old (slice_index_or (fronts table.buckets) (split_of table.slots slots.used) None) t
+      → IsDisjoint s t → ChangesOnlyIn old new (s ++ t)) where
     abbrev shrunk : List Place
     shrunk = joined successor (BelongsIn table.slots (hash table.adapter) objects) (BelongsIn slots (hash table.adapter) objects) slots.used (split_of table.slots slots.used) split.apart
         (others_belong slots table.slots (hash table.adapter) objects split) (last_belong slots table.slots (hash table.adapter) objects split) old (fronts table.buckets) s held.distinct held.chained within
@@ -168,13 +165,13 @@ module _ {E A B V : Type 0} (successor : E → Successor) (hash : A → V → �
         let to = split_of table.slots slots.used in
         let l = last_chain successor Old New slots.used to split.apart others moved old (fronts table.buckets) s held.distinct held.chained within in
         let j = joined_chain successor Old New slots.used to split.apart others moved old (fronts table.buckets) s held.distinct held.chained within in
-        let j_shown = joined_shown successor Old New slots.used to split.apart others moved old (fronts table.buckets) s held.distinct held.chained within in
+        let j_represented = joined_represented successor Old New slots.used to split.apart others moved old (fronts table.buckets) s held.distinct held.chained within in
         let apart = chains_apart successor Old New slots.used to split.apart others moved old (fronts table.buckets) s held.distinct held.chained within in
         record {
           distinct = joined_distinct successor Old New slots.used to split.apart others moved old (fronts table.buckets) s held.distinct held.chained within;
           chained = subst (λ f. AreChained successor New new 0 f (joined successor Old New slots.used to split.apart others moved old (fronts table.buckets) s held.distinct held.chained within))
               (sym (joined_set ∙ ap (λ f. slice_set f to front) last_set))
-              (joined_chained successor Old New slots.used to split.apart others moved old (fronts table.buckets) s held.distinct held.chained within (join l.chain j.chain l.shown j_shown apart) (frame l.chain j.chain l.shown j_shown apart));
+              (joined_chained successor Old New slots.used to split.apart others moved old (fronts table.buckets) s held.distinct held.chained within (join l.chain j.chain l.shown j_represented apart) (frame l.chain j.chain l.shown j_represented apart));
           placed = of_members (λ p. IsSome (object_at objects p)) s (joined successor Old New slots.used to split.apart others moved old (fronts table.buckets) s held.distinct held.chained within)
               (joined_within successor Old New slots.used to split.apart others moved old (fronts table.buckets) s held.distinct held.chained within) held.placed;
           counted = held.counted ∙ sym (joined_length successor Old New slots.used to split.apart others moved old (fronts table.buckets) s held.distinct held.chained within);

@@ -1,9 +1,7 @@
 -- Alike members of one chain each: where the members of every chain stand side by side, those of all chains do.
 use Rattle.std.proofs.Common.{◌≡◌, ℕ, ◌<◌, ◌≤◌, Bool, true, true≢false, Option, Some, None, List, ◌++◌, refl, sym, ap, ◌∙◌, subst, arith}
 use Rattle.std.specs.List.{AllByRecursion}
-use Rattle.ic_unsafe_ref.specs.declared.place.Place.{Place}
-use Rattle.ic_unsafe_ref.specs.Objects.{Objects, object_at}
-use Rattle.ic_link_ops.specs.Sequences.{IsMember}
+use Rattle.ic_link_ops.specs.Prelude.{Place, Objects, object_at, IsMember}
 use Rattle.ic_link_ops.proofs.Each.{all_both, all_map}
 use Rattle.ic_hash_table.specs.declared.slots.Slots.{Slots}
 use Rattle.ic_hash_table.specs.Slots.{slot_of}

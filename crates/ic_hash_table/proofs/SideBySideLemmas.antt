@@ -2,11 +2,8 @@
 use Rattle.std.proofs.Common.{◌≡◌, ◌≢◌, ℕ, drop, Bool, true, false, true≢false, Option, Some, None, IfSome, List, [], ◌∷◌, ◌++◌, refl, sym, ap, subst, ◌∙◌}
 use Rattle.std.specs.List.{AllByRecursion}
 use Rattle.std.specs.Cmp.{IsPartialEquivalence, IsEquivalence}
-use Rattle.ic_unsafe_ref.specs.declared.place.Place.{Place}
-use Rattle.ic_unsafe_ref.specs.Objects.{Objects, object_at}
-use Rattle.ic_link_ops.specs.Sequences.{IsMember, IsDistinct, first}
+use Rattle.ic_link_ops.specs.Prelude.{Place, Objects, object_at, IsMember, IsDistinct, first, Table}
 use Rattle.ic_link_ops.proofs.SequenceLemmas.{absent_left, absent_right, nothing_first, first_is, split_member, some_same}
-use Rattle.ic_link_ops.specs.Tables.{Table}
 use Rattle.ic_link_ops.specs.SinglyLinkedList.{Successor}
 use Rattle.ic_hash_table.specs.declared.table.HashTable.{HashTable}
 use Rattle.ic_hash_table.specs.HashTable.{BelongsIn, Holds, HoldsAt, DifferInNumber}
@@ -113,7 +110,7 @@ keys_beside {successor = successor} {eq = eq} laws key_of {hash} {fronts} {t} {t
     (λ x y e differ. same_number laws (key_of a) (hash a) alike objects x y e (subst (λ b. DifferInNumber (hash b) objects x y) kept differ))
     found stop d finds side h)
 
--- THE NEXT EQUAL MEMBER is right behind
+-- THE NEXT EQUAL MEMBER is right after
 pub found_beside : {V K : Type 0} (eq : K → K → Bool) (key_of : V → K) (objects : Objects V) (p : Place) (value : V) → object_at objects p ≡ Some value
     → (front back : List Place) → AreSideBySide (same_key eq key_of objects) (front ++ p ∷ back) → (found : Option Place)
     → Finds (has_key eq key_of (key_of value) objects) back found → IfSome found (λ next. first back ≡ Some next)

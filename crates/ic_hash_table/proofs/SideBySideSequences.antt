@@ -1,13 +1,12 @@
 -- Sequences in which alike members stand side by side: a member is put in or taken out, and sequences are joined and cut.
 use Rattle.std.proofs.Common.{◌≡◌, ◌≢◌, Bool, true, Option, Some, None, IfSome, List, [], ◌∷◌, ◌++◌, refl, sym, subst, ◌∙◌, inl, inr}
 use Rattle.std.specs.Cmp.{IsPartialEquivalence}
-use Rattle.ic_unsafe_ref.specs.declared.place.Place.{Place}
+use Rattle.ic_link_ops.specs.Prelude.{Place, IsAbsent, IsMember, first}
 use Rattle.ic_unsafe_ref.proofs.PlaceLemmas.{same_or_not}
-use Rattle.ic_link_ops.specs.Sequences.{IsAbsent, IsMember, first}
 use Rattle.ic_link_ops.proofs.SequenceLemmas.{absent_left, absent_right, absent_both, absent_without}
 use Rattle.ic_hash_table.specs.SideBySide.{AreSideBySide}
 
--- of some sequence: what it begins with, whatever stands behind
+-- of some sequence: what it begins with, whatever stands after
 first_same : (f b c : List Place) (y : Place) → IsMember y f → first (f ++ b) ≡ first (f ++ c)
 first_same [] b c y member = absurd (member tt)
 first_same (x ∷ f) b c y member = refl
@@ -17,7 +16,7 @@ if_some None follows h = tt
 if_some (Some q) follows h = follows q h
 
 module _ (alike : Place → Place → Bool) where
-  -- p IS PUT IN at a gap with no two members alike on its sides, in front of a member alike it or where none is
+  -- p IS PUT IN at a gap with no two members alike on its sides, before a member alike it or where none is
   pub put_beside : (p : Place) (f b : List Place) → AreSideBySide alike (f ++ b) → ((x y : Place) → IsMember x f → IsMember y b → alike x y ≡ true → ⊥)
       → ((x : Place) → IsMember x f → alike x p ≡ true → ⊥) → ((y : Place) → IsMember y b → alike p y ≡ true → IfSome (first b) (λ next. alike p next ≡ true))
       → AreSideBySide alike (f ++ p ∷ b)
@@ -37,7 +36,7 @@ module _ (alike : Place → Place → Bool) where
         apart x y (λ out. out.0 refl) (λ out_b. member (absent_both y f (p ∷ b) out_f (other, out_b))) same
 
 module _ (alike : Place → Place → Bool) (laws : IsPartialEquivalence alike) where
-  -- WHAT SPANS A GAP is alike the member right behind it
+  -- WHAT SPANS A GAP is alike the member right after it
   pub spans : (f b : List Place) (q : Place) → AreSideBySide alike (f ++ q ∷ b) → (x y : Place) → IsMember x f → IsMember y (q ∷ b) → alike x y ≡ true → alike x q ≡ true
   spans [] b q side x y member behind same = absurd (member tt)
   spans (z ∷ []) b q side x y member behind same = elim (same_or_not x z) [

@@ -1,11 +1,7 @@
 -- What clauses see of an entry: the first member with a key, or the chain where an object with it belongs.
 use Rattle.std.specs.Prelude.{◌≡◌, ℕ, ◌<◌, ⊤, Option, Result, IfOk, IfErr, List, [], ◌∷◌, ◌++◌}
 use Rattle.std.specs.Borrow.{MutBor}
-use Rattle.ic_unsafe_ref.specs.declared.place.Place.{Place}
-use Rattle.ic_unsafe_ref.specs.Objects.{Objects}
-use Rattle.ic_link_ops.specs.Sequences.{last}
-use Rattle.ic_link_ops.specs.LinkSteps.{LinkStep, acquires}
-use Rattle.ic_link_ops.specs.Tables.{Table}
+use Rattle.ic_link_ops.specs.Prelude.{Place, Objects, last, Table, LinkStep, acquires}
 use Rattle.ic_link_ops.specs.SinglyLinkedList.{Successor}
 use Rattle.ic_hash_table.specs.declared.entry.Entry.{Entry}
 use Rattle.ic_hash_table.specs.declared.entry.Entry.TheVariants.{Occupied, Vacant}
@@ -13,8 +9,8 @@ use Rattle.ic_hash_table.specs.declared.entry.OccupiedEntry.{OccupiedEntry}
 use Rattle.ic_hash_table.specs.declared.entry.RefusedInsert.{RefusedInsert}
 use Rattle.ic_hash_table.specs.declared.entry.VacantEntry.{VacantEntry}
 use Rattle.ic_hash_table.specs.declared.table.HashTable.{HashTable}
-use Rattle.ic_hash_table.specs.Chains.{ShowsFrom}
-use Rattle.ic_hash_table.specs.HashTable.{adapter_of, slots_of, front_at, BelongsIn, Holds, HoldsWith, KeepsBesideMembers}
+use Rattle.ic_hash_table.specs.Chains.{RepresentsFrom}
+use Rattle.ic_hash_table.specs.HashTable.{adapter_of, slots_of, front_at, BelongsIn, Holds, HoldsWith, ChangesOnlyInMembers}
 use Rattle.ic_hash_table.specs.Slots.{slot_of}
 
 module _ {A B L : Type 0} where
@@ -40,11 +36,11 @@ module _ {A B L : Type 0} where
   IsVacantIn hash links e =
       (e.table.ghost_name ≡ hash.ghost_name) × (e.links.ghost_name ≡ links.ghost_name) × (e.table.now ≡ hash.now) × (e.links.now ≡ links.now)
 
-  -- THE MEMBER CAN BE TAKEN OUT: it stands in that chain, behind the one that the entry names
+  -- THE MEMBER CAN BE TAKEN OUT: it stands in that chain, after the one that the entry names
   abbrev pub CanRemove : {E : Type 0} → (E → Successor) → (L → Table E) → (B → List (Option Place)) → OccupiedEntry A B L → Type 0
   CanRemove successor table fronts e =
       (e.at < (slots_of e.table.now).used)
-      × ((ahead back : List Place) × ShowsFrom successor (table e.links.now) (front_at fronts e.table.now e.at) (ahead ++ e.member ∷ back) × (e.before ≡ last ahead))
+      × ((ahead back : List Place) × RepresentsFrom successor (table e.links.now) (front_at fronts e.table.now e.at) (ahead ++ e.member ∷ back) × (e.before ≡ last ahead))
 
   -- the same chain of the same table, which is as it was
   abbrev pub IsVacantAgain : VacantEntry A B L → VacantEntry A B L → Type 0
@@ -61,14 +57,14 @@ module _ {A B L : Type 0} where
       (e.at < (slots_of e.table.now).used) × BelongsIn (slots_of e.table.now) (hash (adapter_of e.table.now)) objects e.at p
 
 -- THE OBJECT IS PUT IN, and the entry of the member is answered; or its link is refused, and it comes back with the entry, of a table as it was
-module _ {E A B L V K : Type 0} (successor : E → Successor) (table : L → Table E) (fronts : B → List (Option Place)) (Rewrites : B → B → Type 0) (hash : A → V → ℕ) (Does : L → L → List LinkStep → Type 0) (Refused : L → L → Place → Type 0) where
+module _ {E A B L V K : Type 0} (successor : E → Successor) (table : L → Table E) (fronts : B → List (Option Place)) (Rewrites : B → B → Type 0) (hash : A → V → ℕ) (Trace : L → L → List LinkStep → Type 0) (Refused : L → L → Place → Type 0) where
   pub record EntersAt (objects : Objects V) (old : VacantEntry A B L) (object : Place) (result : Result (OccupiedEntry A B L) (RefusedInsert A B L V K)) : Type 0 where
     pub member : IfOk result (λ e. member_of e ≡ object)
     pub inserted : (s : List Place) → Holds successor hash fronts (table old.links.now) old.table.now objects s
         → IfOk result (λ e. HoldsWith successor hash fronts (table e.links.now) e.table.now objects s object)
     pub can_remove : IfOk result (CanRemove successor table fronts)
-    pub acquired : IfOk result (λ e. Does old.links.now e.links.now (acquires object ∷ []))
+    pub acquired : IfOk result (λ e. Trace old.links.now e.links.now (acquires object ∷ []))
     pub borrows : IfOk result (λ e. (e.table.ghost_name ≡ old.table.ghost_name) × (e.links.ghost_name ≡ old.links.ghost_name))
-    pub kept : IfOk result (λ e. KeepsBesideMembers successor fronts Rewrites (table old.links.now) (table e.links.now) old.table.now e.table.now (object ∷ []))
+    pub kept : IfOk result (λ e. ChangesOnlyInMembers successor fronts Rewrites (table old.links.now) (table e.links.now) old.table.now e.table.now (object ∷ []))
     pub refused : IfErr result (λ r. Refused old.links.now r.entry.links.now object)
     pub unchanged : IfErr result (λ r. (r.object ≡ object) × IsVacantAgain old r.entry)

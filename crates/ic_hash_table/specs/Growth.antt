@@ -2,16 +2,13 @@
 use Rattle.std.specs.Prelude.{◌≡◌, ◌+◌, ℕ, Bool, true, false, nat_eq, Option, IfSome, List, ◌++◌, length}
 use Rattle.std.specs.Cmp.{IsPartialEquivalence}
 use Rattle.std.specs.List.{AllByRecursion}
-use Rattle.ic_unsafe_ref.specs.declared.place.Place.{Place}
-use Rattle.ic_link_ops.specs.Sequences.{IsAbsent, IsMember, IsDistinct, first}
-use Rattle.ic_link_ops.specs.Tables.{Table}
+use Rattle.ic_link_ops.specs.Prelude.{Place, Objects, IsAbsent, IsMember, IsDistinct, first, Table}
 use Rattle.ic_link_ops.specs.SinglyLinkedList.{Successor}
 use Rattle.ic_hash_table.specs.declared.slots.Slots.{Slots}
-use Rattle.ic_unsafe_ref.specs.Objects.{Objects}
 use Rattle.ic_hash_table.specs.declared.table.HashTable.{HashTable}
 use Rattle.ic_hash_table.specs.HashTable.{Holds}
 use Rattle.ic_hash_table.specs.Slots.{slot_of}
-use Rattle.ic_hash_table.specs.Chains.{ShowsFrom}
+use Rattle.ic_hash_table.specs.Chains.{RepresentsFrom}
 use Rattle.ic_hash_table.specs.SideBySide.{AreSideBySide}
 
 -- whether a value belongs in chain i
@@ -30,9 +27,9 @@ module _ {E : Type 0} (successor : E → Successor) (is : Place → Bool) where
     pub left : List Place
     pub staying : List Place
     pub moving : List Place
-    pub shows_left : ShowsFrom successor t rest left
-    pub shows_staying : ShowsFrom successor t stays staying
-    pub shows_moving : ShowsFrom successor t moves moving
+    pub represents_left : RepresentsFrom successor t rest left
+    pub represents_staying : RepresentsFrom successor t stays staying
+    pub represents_moving : RepresentsFrom successor t moves moving
     pub distinct : IsDistinct (left ++ (staying ++ moving))
     pub stay : AllByRecursion (λ p. is p ≡ false) staying
     pub move : AllByRecursion (λ p. is p ≡ true) moving

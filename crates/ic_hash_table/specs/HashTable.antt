@@ -1,12 +1,8 @@
 -- What a table of links holds for a hash table.
 use Rattle.std.specs.Prelude.{◌≡◌, ◌≢◌, ℕ, ◌≤◌, Bool, Option, None, Some, IfSome, List, ◌∷◌, ◌++◌, length, slice_index_or, ⊤}
 use Rattle.std.specs.List.{AllByRecursion}
-use Rattle.ic_unsafe_ref.specs.declared.place.Place.{Place}
-use Rattle.ic_unsafe_ref.specs.Objects.{Objects, object_at}
-use Rattle.ic_link_ops.specs.Tables.{Table, KeepsBeside}
+use Rattle.ic_link_ops.specs.Prelude.{Place, Objects, object_at, Cut, join, insert, IsBefore, IsDistinct, IsMember, Table, ChangesOnlyIn, ArePlaced}
 use Rattle.ic_link_ops.specs.SinglyLinkedList.{Successor}
-use Rattle.ic_link_ops.specs.PlacedObjects.{ArePlaced}
-use Rattle.ic_link_ops.specs.Sequences.{Cut, join, insert, IsBefore, IsDistinct, IsMember}
 use Rattle.ic_hash_table.specs.declared.slots.Slots.{Slots}
 use Rattle.ic_hash_table.specs.declared.table.HashTable.{HashTable}
 use Rattle.ic_hash_table.specs.Slots.{slot_of, IsWellFormed}
@@ -53,7 +49,7 @@ module _ {A B : Type 0} where
     pub enough : table.slots.used ≤ length (fronts table.buckets)
 
 -- ITS CHAINS HAVE THE MEMBERS s, whatever their keys are
-pub record IsShown {E A B : Type 0} (successor : E → Successor) (fronts : B → List (Option Place)) (t : Table E) (table : HashTable A B) (s : List Place) : Type 0 where
+pub record IsRepresented {E A B : Type 0} (successor : E → Successor) (fronts : B → List (Option Place)) (t : Table E) (table : HashTable A B) (s : List Place) : Type 0 where
   pub distinct : IsDistinct s
   pub chained : AreChained successor (λ i p. ⊤) t 0 (fronts table.buckets) s
   pub well_formed : IsWellFormed table.slots
@@ -61,14 +57,14 @@ pub record IsShown {E A B : Type 0} (successor : E → Successor) (fronts : B �
 
 module _ {E A B : Type 0} (successor : E → Successor) (fronts : B → List (Option Place)) (Rewrites : B → B → Type 0) where
   -- AN EDIT LEAVES what is beside its chains: the adapter, the buckets, and the entry of each place but its members and these
-  pub record KeepsBesideChains (old new : Table E) (table table' : HashTable A B) (places : List Place) : Type 0 where
+  pub record ChangesOnlyInChains (old new : Table E) (table table' : HashTable A B) (places : List Place) : Type 0 where
     pub adapter : adapter_of table' ≡ adapter_of table
     pub buckets : KeepsBuckets fronts Rewrites table table'
-    pub frame : (s : List Place) → IsShown successor fronts old table s → KeepsBeside old new (places ++ s)
+    pub frame : (s : List Place) → IsRepresented successor fronts old table s → ChangesOnlyIn old new (places ++ s)
 
   -- and it leaves which chains are in use
-  pub record KeepsBesideMembers (old new : Table E) (table table' : HashTable A B) (places : List Place) : Type 0 where
-    pub chains : KeepsBesideChains old new table table' places
+  pub record ChangesOnlyInMembers (old new : Table E) (table table' : HashTable A B) (places : List Place) : Type 0 where
+    pub chains : ChangesOnlyInChains old new table table' places
     pub slots : slots_of table' ≡ slots_of table
 
 -- the number of a value: that of its key
@@ -108,11 +104,11 @@ module _ {E A B V : Type 0} (successor : E → Successor) (hash : A → V → �
     pub behind : List Place
     pub parts : s ≡ (ahead ++ gap.front) ++ (gap.back ++ behind)
     pub holds : Holds t table objects ((ahead ++ gap.front) ++ p ∷ (gap.back ++ behind))
-    -- no member up to the gap has the number of one behind the chain
+    -- no member up to the gap has the number of one after the chain
     pub apart : (x y : Place) → IsMember x (ahead ++ gap.front) → IsMember y behind → DifferInNumber (hash table.adapter) objects x y
 
-  -- it holds s with p put in: directly in front of the first member that passes, where one does
-  pub record HoldsInFront (t : Table E) (table : HashTable A B) (objects : Objects V) (is : Place → Bool) (s : List Place) (p : Place) : Type 0 where
+  -- it holds s with p put in: directly before the first member that passes, where one does
+  pub record HoldsBefore (t : Table E) (table : HashTable A B) (objects : Objects V) (is : Place → Bool) (s : List Place) (p : Place) : Type 0 where
     pub gap : Cut
     pub whole : join gap ≡ s
     pub holds : Holds t table objects (insert gap p)

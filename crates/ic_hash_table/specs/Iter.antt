@@ -1,11 +1,7 @@
 -- What clauses see of a walk over the objects of a hash table.
 use Rattle.std.specs.Prelude.{ℕ, nat_eq, cond, Option, None, Some, List, [], ◌∷◌, ◌++◌}
-use Rattle.ic_unsafe_ref.specs.declared.place.Place.{Place}
-use Rattle.ic_unsafe_ref.specs.Objects.{Objects}
-use Rattle.ic_link_ops.specs.Sequences.{Cut, join, IsAfter}
-use Rattle.ic_link_ops.specs.Tables.{Table}
+use Rattle.ic_link_ops.specs.Prelude.{Place, Objects, Cut, join, IsAfter, Table, values_at}
 use Rattle.ic_link_ops.specs.SinglyLinkedList.{Successor, members_from}
-use Rattle.ic_link_ops.specs.PlacedObjects.{values_at}
 use Rattle.ic_hash_table.specs.HashTable.{Holds}
 use Rattle.ic_hash_table.specs.declared.iter.Iter.{Iter}
 
@@ -14,7 +10,7 @@ abbrev pub members_of : {E : Type 0} → (E → Successor) → Table E → List 
 members_of successor t [] = []
 members_of successor t (front ∷ fronts) = members_from successor t front ++ members_of successor t fronts
 
--- the members of s behind this one, and behind none all of them
+-- the members of s after this one, and after none all of them
 abbrev pub behind : Option Place → List Place → List Place
 behind None s = s
 behind (Some p) [] = []

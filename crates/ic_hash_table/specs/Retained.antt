@@ -1,7 +1,6 @@
 -- What a test answers of the members of a hash table, and which of them pass.
 use Rattle.std.specs.Prelude.{◌≡◌, Bool, cond, Some, List, [], ◌∷◌}
-use Rattle.ic_unsafe_ref.specs.declared.place.Place.{Place}
-use Rattle.ic_unsafe_ref.specs.Objects.{Objects, object_at}
+use Rattle.ic_link_ops.specs.Prelude.{Place, Objects, object_at}
 
 -- `tells f v b g`: asked of the value v, the test f may answer b, and is g then
 module _ {F V : Type 0} (tells : F → V → Bool → F → Type 0) (objects : Objects V) where

@@ -1,9 +1,7 @@
 -- What a search tells of members, and how many of them it has looked at.
 use Rattle.std.specs.Prelude.{◌≡◌, ℕ, ◌+◌, ◌≤◌, Bool, true, false, nat_eq, Option, None, Some, IfSome, Result, Ok, Err, List, ◌∷◌, ◌++◌, length}
 use Rattle.std.specs.List.{AllByRecursion}
-use Rattle.ic_unsafe_ref.specs.declared.place.Place.{Place}
-use Rattle.ic_unsafe_ref.specs.Objects.{Objects, object_at}
-use Rattle.ic_link_ops.specs.Sequences.{Cut, join, IsAfter, IsBefore}
+use Rattle.ic_link_ops.specs.Prelude.{Place, Objects, object_at, Cut, join, IsAfter, IsBefore}
 
 -- whether the value passes, if there is one
 abbrev pub passes : {V : Type 0} → (V → Bool) → Option V → Bool

@@ -1,9 +1,6 @@
 -- Members with equal keys that stand side by side.
 use Rattle.std.specs.Prelude.{◌≡◌, ℕ, Bool, true, Option, IfSome, List, [], ◌∷◌, ⊤}
-use Rattle.ic_unsafe_ref.specs.declared.place.Place.{Place}
-use Rattle.ic_unsafe_ref.specs.Objects.{Objects}
-use Rattle.ic_link_ops.specs.Sequences.{IsMember, first}
-use Rattle.ic_link_ops.specs.Tables.{Table}
+use Rattle.ic_link_ops.specs.Prelude.{Place, Objects, IsMember, first, Table}
 use Rattle.ic_link_ops.specs.SinglyLinkedList.{Successor}
 use Rattle.ic_hash_table.specs.declared.table.HashTable.{HashTable}
 use Rattle.ic_hash_table.specs.HashTable.{Holds}

@@ -5,9 +5,7 @@
 //! ```
 
 ghost use Rattle.std.specs.Prelude.{◌≡◌, List, Option, map, ⊤};
-ghost use Rattle.ic_unsafe_ref.specs.declared.place.Place.{Place};
-ghost use Rattle.ic_unsafe_ref.specs.Places.{place_at, word_of};
-ghost use Rattle.ic_link_ops.specs.Tables.{IsNameable};
+ghost use Rattle.ic_link_ops.specs.Prelude.{Place, place_at, word_of, IsNameable};
 ghost use Rattle.ic_link_ops.specs.Widths.{HasRoom, narrow};
 
 use ic_link_ops::{LinkOps, NarrowPlaceWord, PlaceWord};

@@ -6,8 +6,7 @@
 //! ```
 
 ghost use Rattle.std.specs.Prelude.{◌≡◌, ◌<◌, None, Option, List, length, slice_index_or, set};
-ghost use Rattle.ic_unsafe_ref.specs.declared.place.Place.{Place};
-ghost use Rattle.ic_link_ops.specs.Tables.{IsNameable};
+ghost use Rattle.ic_link_ops.specs.Prelude.{Place, IsNameable};
 
 use crate::bucket_word::{BucketWord, BucketWordFor};
 use ic_link_ops::LinkOps;

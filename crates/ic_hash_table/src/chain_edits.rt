@@ -1,15 +1,12 @@
-//! Edits of one chain: a member is put in front of it, or is taken out behind another, and a second chain is put in front of it.
+//! Edits of one chain: a member is put before it, or is taken out after another, and a second chain is put before it.
 //!
 //! ```text
-//! let front = unlink_behind(&mut links, front, before, place);
+//! let front = unlink_after(&mut links, front, before, place);
 //! ```
 
 ghost use Rattle.std.specs.Prelude.{◌≡◌, ◌≢◌, Option, List, [], ◌∷◌, ◌++◌};
-ghost use Rattle.ic_unsafe_ref.specs.declared.place.Place.{Place};
-ghost use Rattle.ic_link_ops.specs.Sequences.{IsAbsent, IsDisjoint, last};
-ghost use Rattle.ic_link_ops.specs.Tables.{IsLinked, IsNameable, KeepsBeside};
-ghost use Rattle.ic_link_ops.specs.LinkSteps.{releases};
-ghost use Rattle.ic_hash_table.specs.Chains.{ShowsFrom, ShowsFromSome};
+ghost use Rattle.ic_link_ops.specs.Prelude.{Place, IsAbsent, IsDisjoint, last, IsLinked, IsNameable, ChangesOnlyIn, releases};
+ghost use Rattle.ic_hash_table.specs.Chains.{RepresentsFrom, RepresentsFromSome};
 
 use ic_cursors::{Collection, Splice};
 use ic_link_ops::LinkOps;
@@ -17,21 +14,21 @@ use ic_link_ops::singly_linked_list::SinglyLinkedListOps;
 use ic_singly_linked_list::SinglyLinkedList;
 use ic_unsafe_ref::Place;
 
-// Takes the member behind `before` out of the chain and unlinks it. Returns the first member that the chain has then.
+// Takes the member after `before` out of the chain and unlinks it. Returns the first member that the chain has then.
 #[inline]
-pub(crate) fn unlink_behind<L: SinglyLinkedListOps>(
+pub(crate) fn unlink_after<L: SinglyLinkedListOps>(
     links: &mut L,
     front: Option<Place>,
     before: Option<Place>,
     place: Place,
 ) -> Option<Place>
-    requires member { (ahead back : List Place) × ShowsFrom L.successor (L.table links.old) front (ahead ++ place ∷ back)
+    requires member { (ahead back : List Place) × RepresentsFrom L.successor (L.table links.old) front (ahead ++ place ∷ back)
         × (before ≡ last ahead) }
-    ensures removed { (ahead back : List Place) → ShowsFrom L.successor (L.table links.old) front (ahead ++ place ∷ back)
-        → before ≡ last ahead → ShowsFrom L.successor (L.table links.new) result (ahead ++ back) }
-    ensures released { L.Does links.old links.new (releases place ∷ []) }
-    ensures frame { (ahead back : List Place) → ShowsFrom L.successor (L.table links.old) front (ahead ++ place ∷ back)
-        → before ≡ last ahead → KeepsBeside (L.table links.old) (L.table links.new) (ahead ++ place ∷ back) }
+    ensures removed { (ahead back : List Place) → RepresentsFrom L.successor (L.table links.old) front (ahead ++ place ∷ back)
+        → before ≡ last ahead → RepresentsFrom L.successor (L.table links.new) result (ahead ++ back) }
+    ensures released { L.Trace links.old links.new (releases place ∷ []) }
+    ensures frame { (ahead back : List Place) → RepresentsFrom L.successor (L.table links.old) front (ahead ++ place ∷ back)
+        → before ≡ last ahead → ChangesOnlyIn (L.table links.old) (L.table links.new) (ahead ++ place ∷ back) }
 {
     let mut chain: SinglyLinkedList<()> = SinglyLinkedList::from_front(front);
     let behind = links.next(place);
@@ -40,7 +37,7 @@ pub(crate) fn unlink_behind<L: SinglyLinkedListOps>(
     chain.first()
 }
 
-// Puts a place that is linked, and in no chain, in front of one. Returns the first member, which it is.
+// Puts a place that is linked, and in no chain, before one. Returns the first member, which it is.
 #[inline]
 pub(crate) fn link_front<L: SinglyLinkedListOps>(
     links: &mut L,
@@ -49,30 +46,30 @@ pub(crate) fn link_front<L: SinglyLinkedListOps>(
 ) -> Option<Place>
     requires linked { IsLinked L.linked (L.table links.old) place }
     requires front { IsNameable L.CanName front }
-    ensures shows { (s : List Place) → ShowsFrom L.successor (L.table links.old) front s → IsAbsent place s
-        → ShowsFrom L.successor (L.table links.new) result (place ∷ s) }
+    ensures shows { (s : List Place) → RepresentsFrom L.successor (L.table links.old) front s → IsAbsent place s
+        → RepresentsFrom L.successor (L.table links.new) result (place ∷ s) }
     ensures others { (q : Place) → q ≢ place → (L.table links.new).entry q ≡ (L.table links.old).entry q }
     ensures extent { (L.table links.new).extent ≡ (L.table links.old).extent }
-    ensures no_step { L.Does links.old links.new [] }
+    ensures trace_stays { L.Trace links.old links.new [] }
 {
     let mut chain: SinglyLinkedList<()> = SinglyLinkedList::from_front(front);
     chain.insert_linked(links, None, place, front);
     chain.first()
 }
 
-// Puts all members of one chain in front of those of another. Returns the first member that the second has then.
+// Puts all members of one chain before those of another. Returns the first member that the second has then.
 pub(crate) fn join_chains<L: SinglyLinkedListOps>(
     links: &mut L,
     front: Option<Place>,
     rest: Option<Place>,
 ) -> Option<Place>
-    requires shown { ShowsFromSome L.successor (L.table links.old) front }
-    requires rest { ShowsFromSome L.successor (L.table links.old) rest }
-    ensures joined { (s t : List Place) → ShowsFrom L.successor (L.table links.old) front s → ShowsFrom L.successor (L.table links.old) rest t → IsDisjoint s t
-        → ShowsFrom L.successor (L.table links.new) result (s ++ t) }
-    ensures frame { (s t : List Place) → ShowsFrom L.successor (L.table links.old) front s → ShowsFrom L.successor (L.table links.old) rest t → IsDisjoint s t
-        → KeepsBeside (L.table links.old) (L.table links.new) (s ++ t) }
-    ensures no_step { L.Does links.old links.new [] }
+    requires shown { RepresentsFromSome L.successor (L.table links.old) front }
+    requires rest { RepresentsFromSome L.successor (L.table links.old) rest }
+    ensures joined { (s t : List Place) → RepresentsFrom L.successor (L.table links.old) front s → RepresentsFrom L.successor (L.table links.old) rest t → IsDisjoint s t
+        → RepresentsFrom L.successor (L.table links.new) result (s ++ t) }
+    ensures frame { (s t : List Place) → RepresentsFrom L.successor (L.table links.old) front s → RepresentsFrom L.successor (L.table links.old) rest t → IsDisjoint s t
+        → ChangesOnlyIn (L.table links.old) (L.table links.new) (s ++ t) }
+    ensures trace_stays { L.Trace links.old links.new [] }
 {
     let mut chain: SinglyLinkedList<()> = SinglyLinkedList::from_front(rest);
     let mut at = chain.null_position();

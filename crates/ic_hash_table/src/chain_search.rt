@@ -5,11 +5,9 @@
 //! ```
 
 ghost use Rattle.std.specs.Prelude.{◌≡◌, ◌+◌, ◌<◌, true, List};
-ghost use Rattle.ic_unsafe_ref.specs.declared.place.Place.{Place};
-ghost use Rattle.ic_unsafe_ref.specs.Objects.{is_placed};
-ghost use Rattle.ic_link_ops.specs.PlacedObjects.{ShowsPlaced};
+ghost use Rattle.ic_link_ops.specs.Prelude.{Place, is_placed, RepresentsPlaced};
 ghost use Rattle.ic_hash_table.specs.Searches.{is_place, matches, StopsAt, HasRoom, Looks};
-ghost use Rattle.ic_hash_table.specs.Chains.{ShowsFrom, ShowsFromSome};
+ghost use Rattle.ic_hash_table.specs.Chains.{RepresentsFrom, RepresentsFromSome};
 
 use crate::Probe;
 use ic_link_ops::LinkOps;
@@ -48,11 +46,11 @@ pub(crate) fn find_in_chain<V, L: SinglyLinkedListOps, P: Probe<V>, O: Values<V>
     probe: &mut P,
     front: Option<Place>,
 ) -> (Option<Place>, Option<Place>)
-    requires placed { ShowsPlaced (ShowsFrom L.successor (L.table links.now) front) (O.values objects.now) }
+    requires placed { RepresentsPlaced (RepresentsFrom L.successor (L.table links.now) front) (O.values objects.now) }
     requires room { HasRoom (P.count probe.old) }
-    ensures stops { (s : List Place) → ShowsFrom L.successor (L.table links.now) front s
+    ensures stops { (s : List Place) → RepresentsFrom L.successor (L.table links.now) front s
         → StopsAt (matches (P.equal probe.old) (O.values objects.now)) s result.0 result.1 }
-    ensures looks { (s : List Place) → ShowsFrom L.successor (L.table links.now) front s
+    ensures looks { (s : List Place) → RepresentsFrom L.successor (L.table links.now) front s
         → Looks P.equal P.count probe.old probe.new s }
     ensures hash { P.hash probe.new ≡ P.hash probe.old }
 {
@@ -74,8 +72,8 @@ pub(crate) fn find_place_in_chain<L: SinglyLinkedListOps>(
     front: Option<Place>,
     place: Place,
 ) -> (Option<Place>, Option<Place>)
-    requires shown { ShowsFromSome L.successor (L.table links.now) front }
-    ensures stops { (s : List Place) → ShowsFrom L.successor (L.table links.now) front s
+    requires shown { RepresentsFromSome L.successor (L.table links.now) front }
+    ensures stops { (s : List Place) → RepresentsFrom L.successor (L.table links.now) front s
         → StopsAt (is_place place) s result.0 result.1 }
 {
     let mut before = None;

@@ -9,12 +9,9 @@
 //! ```
 
 ghost use Rattle.std.specs.Prelude.{◌≡◌, ◌∷◌, ◌++◌, [], List, Some, None, Ok, true, OnOk, OnErr, IfErr};
-ghost use Rattle.ic_unsafe_ref.specs.declared.place.Place.{Place};
-ghost use Rattle.ic_unsafe_ref.specs.Objects.{is_placed};
-ghost use Rattle.ic_link_ops.specs.LinkSteps.{acquires, releases};
-ghost use Rattle.ic_link_ops.specs.Tables.{IsCovered};
+ghost use Rattle.ic_link_ops.specs.Prelude.{Place, is_placed, IsCovered, acquires, releases};
 ghost use Rattle.ic_hash_table.specs.Entry.{IfOccupied, IfVacant, member_of, CanRemove, CanInsert, IsChainFor, IsFoundIn, IsVacantIn, EntersAt};
-ghost use Rattle.ic_hash_table.specs.HashTable.{adapter_of, number, Holds, HoldsSome, HoldsWith, KeepsBesideMembers};
+ghost use Rattle.ic_hash_table.specs.HashTable.{adapter_of, number, Holds, HoldsSome, HoldsWith, ChangesOnlyInMembers};
 ghost use Rattle.ic_hash_table.specs.Searches.{has_key, Finds};
 
 use crate::{BucketRow, BucketsFor, HashAdapter, HashTable};
@@ -144,8 +141,8 @@ impl<A: HashAdapter, B: BucketsFor<L>, L: SinglyLinkedListOps> OccupiedEntry<'_,
         ensures removed { (front back : List Place)
             → Holds L.successor (number A.key_of A.hash_of) B.fronts (L.table self.entry.links.now) self.entry.table.now (O.values objects.now) (front ++ result ∷ back)
             → Holds L.successor (number A.key_of A.hash_of) B.fronts (L.table self.exit.1.0.now) self.exit.0.now (O.values objects.now) (front ++ back) }
-        ensures released { L.Does self.entry.links.now self.exit.1.0.now (releases result ∷ []) }
-        ensures kept { KeepsBesideMembers L.successor B.fronts B.Rewrites (L.table self.entry.links.now) (L.table self.exit.1.0.now) self.entry.table.now self.exit.0.now [] }
+        ensures released { L.Trace self.entry.links.now self.exit.1.0.now (releases result ∷ []) }
+        ensures kept { ChangesOnlyInMembers L.successor B.fronts B.Rewrites (L.table self.entry.links.now) (L.table self.exit.1.0.now) self.entry.table.now self.exit.0.now [] }
     {
         let OccupiedEntry {
             table,
@@ -178,10 +175,10 @@ impl<'a, A: HashAdapter, B: BucketsFor<L>, L: SinglyLinkedListOps> VacantEntry<'
         ensures inserted { (s : List Place)
             → Holds L.successor (number A.key_of A.hash_of) B.fronts (L.table self.entry.links.now) self.entry.table.now (O.values objects.now) s
             → OnOk result (HoldsWith L.successor (number A.key_of A.hash_of) B.fronts (L.table self.exit.1.0.now) self.exit.0.now (O.values objects.now) s object) }
-        ensures acquired { OnOk result (L.Does self.entry.links.now self.exit.1.0.now (acquires object ∷ [])) }
+        ensures acquired { OnOk result (L.Trace self.entry.links.now self.exit.1.0.now (acquires object ∷ [])) }
         ensures refused { OnErr result (L.Refused self.entry.links.now self.exit.1.0.now object) }
         ensures unchanged { IfErr result (λ refused. (refused.0 ≡ object) × (self.exit.0.now ≡ self.entry.table.now)) }
-        ensures kept { KeepsBesideMembers L.successor B.fronts B.Rewrites (L.table self.entry.links.now) (L.table self.exit.1.0.now) self.entry.table.now self.exit.0.now (object ∷ []) }
+        ensures kept { ChangesOnlyInMembers L.successor B.fronts B.Rewrites (L.table self.entry.links.now) (L.table self.exit.1.0.now) self.entry.table.now self.exit.0.now (object ∷ []) }
     {
         let VacantEntry { table, links, at } = self;
         let front = table.buckets.front(at);
@@ -200,7 +197,7 @@ impl<'a, A: HashAdapter, B: BucketsFor<L>, L: SinglyLinkedListOps> VacantEntry<'
         requires placed { is_placed (O.values objects.now) object ≡ true }
         requires held { HoldsSome L.successor (number A.key_of A.hash_of) B.fronts (L.table self.links.now) self.table.now (O.values objects.now) }
         requires belongs { CanInsert (number A.key_of A.hash_of) (O.values objects.now) self object }
-        ensures entered { EntersAt L.successor L.table B.fronts B.Rewrites (number A.key_of A.hash_of) L.Does L.Refused (O.values objects.now) self.entry object result }
+        ensures entered { EntersAt L.successor L.table B.fronts B.Rewrites (number A.key_of A.hash_of) L.Trace L.Refused (O.values objects.now) self.entry object result }
     {
         let VacantEntry { table, links, at } = self;
         let front = table.buckets.front(at);
@@ -236,7 +233,7 @@ impl<'a, A: HashAdapter, B: BucketsFor<L>, L: SinglyLinkedListOps> Entry<'a, A, 
         requires held { IfVacant self (λ v. HoldsSome L.successor (number A.key_of A.hash_of) B.fronts (L.table v.links.now) v.table.now (O.values objects.now)) }
         requires belongs { IfVacant self (λ v. CanInsert (number A.key_of A.hash_of) (O.values objects.now) v object) }
         ensures occupied { IfOccupied self.entry (λ e. result ≡ Ok e) }
-        ensures vacant { IfVacant self.entry (λ v. EntersAt L.successor L.table B.fronts B.Rewrites (number A.key_of A.hash_of) L.Does L.Refused (O.values objects.now) v object result) }
+        ensures vacant { IfVacant self.entry (λ v. EntersAt L.successor L.table B.fronts B.Rewrites (number A.key_of A.hash_of) L.Trace L.Refused (O.values objects.now) v object result) }
     {
         match self {
             Entry::Occupied(found) => Ok(found),

@@ -9,13 +9,8 @@
 //! ```
 
 ghost use Rattle.std.specs.Prelude.{◌≡◌, ◌++◌, ◌∷◌, [], List, Some, true, OnOk, OnErr, IfErr, IfSome};
-ghost use Rattle.ic_unsafe_ref.specs.declared.place.Place.{Place};
-ghost use Rattle.ic_unsafe_ref.specs.Objects.{object_at, is_placed};
-ghost use Rattle.ic_link_ops.specs.LinkSteps.{acquires};
-ghost use Rattle.ic_link_ops.specs.Positions.{HasMember};
-ghost use Rattle.ic_link_ops.specs.Sequences.{first};
-ghost use Rattle.ic_link_ops.specs.Tables.{IsCovered};
-ghost use Rattle.ic_hash_table.specs.HashTable.{adapter_of, number, Holds, HoldsSome, HoldsInFront, KeepsBesideMembers};
+ghost use Rattle.ic_link_ops.specs.Prelude.{Place, object_at, is_placed, first, IsCovered, HasMember, acquires};
+ghost use Rattle.ic_hash_table.specs.HashTable.{adapter_of, number, Holds, HoldsSome, HoldsBefore, ChangesOnlyInMembers};
 ghost use Rattle.ic_hash_table.specs.SideBySide.{AreSideBySide, HoldsSideBySide, same_key};
 ghost use Rattle.ic_hash_table.specs.Searches.{has_key, Finds};
 
@@ -26,10 +21,10 @@ use ic_link_ops::{AlreadyLinked, LinkOps};
 use ic_unsafe_ref::{UnsafeRef, Values};
 
 impl<A: HashAdapter, B: BucketRow> HashTable<A, B> {
-    /// The next member behind this one that has an equal key, or `None` if none follows.
+    /// The next member after this one that has an equal key, or `None` if none follows.
     ///
     /// It requires that the object is a member, with the key that it was put in by. From the one that [`find`](HashTable::find) returns on,
-    /// these are all members with that key, in their order. It makes one look for each member of one chain, from behind this one up to the
+    /// these are all members with that key, in their order. It makes one look for each member of one chain, from after this one up to the
     /// one that it finds. No memory.
     #[inline]
     pub fn next_equal<L: SinglyLinkedListOps, O: Values<A::Value>>(
@@ -56,9 +51,9 @@ impl<A: HashAdapter, B: BucketRow> HashTable<A, B> {
 }
 
 impl<A: HashAdapter, B> HashTable<A, B> {
-    /// Puts the object in, directly in front of the first member with an equal key where there is one, unless its link is refused.
+    /// Puts the object in, directly before the first member with an equal key where there is one, unless its link is refused.
     ///
-    /// Then it is the first one with its key, and [`next_equal`](HashTable::next_equal) finds the others right behind it, where they stand
+    /// Then it is the first one with its key, and [`next_equal`](HashTable::next_equal) finds the others right after it, where they stand
     /// side by side. It requires and refuses what [`insert`](HashTable::insert) does, looks as [`find`](HashTable::find), and takes no memory.
     #[inline]
     pub fn insert_equal<L: SinglyLinkedListOps, O: Values<A::Value>>(
@@ -74,14 +69,14 @@ impl<A: HashAdapter, B> HashTable<A, B> {
         requires held { HoldsSome L.successor (number A.key_of A.hash_of) B.fronts (L.table links.old) self.old (O.values objects.now) }
         ensures inserted { (value : A.Value) → object_at (O.values objects.now) object ≡ Some value
             → (s : List Place) → Holds L.successor (number A.key_of A.hash_of) B.fronts (L.table links.old) self.old (O.values objects.now) s
-            → OnOk result (HoldsInFront L.successor (number A.key_of A.hash_of) B.fronts (L.table links.new) self.new (O.values objects.now)
+            → OnOk result (HoldsBefore L.successor (number A.key_of A.hash_of) B.fronts (L.table links.new) self.new (O.values objects.now)
             (has_key A.Key.eq (A.key_of (adapter_of self.old)) (A.key_of (adapter_of self.old) value) (O.values objects.now)) s object) }
         ensures beside { HoldsSideBySide L.successor (number A.key_of A.hash_of) B.fronts A.Key.eq A.key_of (L.table links.old) self.old (O.values objects.now)
             → OnOk result (HoldsSideBySide L.successor (number A.key_of A.hash_of) B.fronts A.Key.eq A.key_of (L.table links.new) self.new (O.values objects.now)) }
-        ensures acquired { OnOk result (L.Does links.old links.new (acquires object ∷ [])) }
+        ensures acquired { OnOk result (L.Trace links.old links.new (acquires object ∷ [])) }
         ensures refused { OnErr result (L.Refused links.old links.new object) }
         ensures unchanged { IfErr result (λ refused. (refused.0 ≡ object) × (self.new ≡ self.old)) }
-        ensures kept { KeepsBesideMembers L.successor B.fronts B.Rewrites (L.table links.old) (L.table links.new) self.old self.new (object ∷ []) }
+        ensures kept { ChangesOnlyInMembers L.successor B.fronts B.Rewrites (L.table links.old) (L.table links.new) self.old self.new (object ∷ []) }
     {
         let key = self.adapter.get_key(objects.value(object.place()));
         let (at, before, found) = self.search(&*links, objects, key);

@@ -10,16 +10,12 @@
 
 ghost use Rattle.std.specs.Prelude.{◌≡◌, ◌≢◌, ◌↔◌, ◌+◌, ◌<◌, ◌≤◌, length, IsTrue, true, false, Option, None, Some, List, [], ◌∷◌};
 ghost use Rattle.std.specs.Bool.{OnTrue, OnFalse};
-ghost use Rattle.ic_unsafe_ref.specs.declared.place.Place.{Place};
-ghost use Rattle.ic_unsafe_ref.specs.Objects.{is_placed};
-ghost use Rattle.ic_link_ops.specs.PlacedObjects.{ShowsPlaced};
-ghost use Rattle.ic_link_ops.specs.Sequences.{IsAbsent};
-ghost use Rattle.ic_link_ops.specs.Tables.{IsLinked, IsNameable, KeepsBeside};
+ghost use Rattle.ic_link_ops.specs.Prelude.{Place, is_placed, IsAbsent, IsLinked, IsNameable, ChangesOnlyIn, RepresentsPlaced};
 ghost use Rattle.ic_hash_table.specs.HashTable.{number};
 ghost use Rattle.ic_hash_table.specs.Searches.{matches};
 ghost use Rattle.ic_hash_table.specs.Slots.{IsWellFormed};
 ghost use Rattle.ic_hash_table.specs.Growth.{belongs_at, IsParted};
-ghost use Rattle.ic_hash_table.specs.Chains.{ShowsFrom};
+ghost use Rattle.ic_hash_table.specs.Chains.{RepresentsFrom};
 
 use crate::chain_edits::{join_chains, link_front};
 use crate::{BucketsFor, HashAdapter, HashTable, Slots};
@@ -44,7 +40,7 @@ fn belongs<A: HashAdapter, O: Values<A::Value>>(
     slots.slot(adapter.hash(key)) == to
 }
 
-// Puts a linked place in front of the one or the other of two chains.
+// Puts a linked place before the one or the other of two chains.
 #[inline]
 fn link_either<L: SinglyLinkedListOps>(
     links: &mut L,
@@ -56,12 +52,12 @@ fn link_either<L: SinglyLinkedListOps>(
     requires first { IsNameable L.CanName halves.0 }
     requires second { IsNameable L.CanName halves.1 }
     ensures stays { moves ≡ false → (result.1 ≡ halves.1)
-        × ((s : List Place) → ShowsFrom L.successor (L.table links.old) halves.0 s → IsAbsent place s → ShowsFrom L.successor (L.table links.new) result.0 (place ∷ s)) }
+        × ((s : List Place) → RepresentsFrom L.successor (L.table links.old) halves.0 s → IsAbsent place s → RepresentsFrom L.successor (L.table links.new) result.0 (place ∷ s)) }
     ensures moves { moves ≡ true → (result.0 ≡ halves.0)
-        × ((s : List Place) → ShowsFrom L.successor (L.table links.old) halves.1 s → IsAbsent place s → ShowsFrom L.successor (L.table links.new) result.1 (place ∷ s)) }
+        × ((s : List Place) → RepresentsFrom L.successor (L.table links.old) halves.1 s → IsAbsent place s → RepresentsFrom L.successor (L.table links.new) result.1 (place ∷ s)) }
     ensures others { (q : Place) → q ≢ place → (L.table links.new).entry q ≡ (L.table links.old).entry q }
     ensures extent { (L.table links.new).extent ≡ (L.table links.old).extent }
-    ensures no_step { L.Does links.old links.new [] }
+    ensures trace_stays { L.Trace links.old links.new [] }
 {
     if moves {
         (halves.0, link_front(links, place, halves.1))
@@ -80,13 +76,13 @@ pub(crate) fn part_chain<A: HashAdapter, L: SinglyLinkedListOps, O: Values<A::Va
     to: usize,
 ) -> (Option<Place>, Option<Place>)
     requires well_formed { IsWellFormed slots }
-    requires placed { ShowsPlaced (ShowsFrom L.successor (L.table links.old) front) (O.values objects.now) }
-    ensures parted { (chain : List Place) → ShowsFrom L.successor (L.table links.old) front chain
+    requires placed { RepresentsPlaced (RepresentsFrom L.successor (L.table links.old) front) (O.values objects.now) }
+    ensures parted { (chain : List Place) → RepresentsFrom L.successor (L.table links.old) front chain
         → IsParted L.successor (matches (belongs_at slots (number A.key_of A.hash_of adapter) to) (O.values objects.now))
         (L.table links.new) chain None result.0 result.1 }
-    ensures frame { (chain : List Place) → ShowsFrom L.successor (L.table links.old) front chain
-        → KeepsBeside (L.table links.old) (L.table links.new) chain }
-    ensures no_step { L.Does links.old links.new [] }
+    ensures frame { (chain : List Place) → RepresentsFrom L.successor (L.table links.old) front chain
+        → ChangesOnlyIn (L.table links.old) (L.table links.new) chain }
+    ensures trace_stays { L.Trace links.old links.new [] }
 {
     let mut halves = (None, None);
     let mut rest = front;
@@ -99,7 +95,7 @@ pub(crate) fn part_chain<A: HashAdapter, L: SinglyLinkedListOps, O: Values<A::Va
 }
 
 impl<A: HashAdapter, B> HashTable<A, B> {
-    ghost use Rattle.ic_hash_table.specs.HashTable.{slots_of, fronts_of, Holds, HoldsSome, IsShown, KeepsBesideChains};
+    ghost use Rattle.ic_hash_table.specs.HashTable.{slots_of, fronts_of, Holds, HoldsSome, IsRepresented, ChangesOnlyInChains};
     ghost use Rattle.ic_unsafe_ref.specs.Objects.{Objects};
     ghost use Rattle.ic_hash_table.specs.Growth.{HoldsSameMembers};
     ghost use Rattle.ic_hash_table.specs.SideBySide.{HoldsSideBySide};
@@ -125,8 +121,8 @@ impl<A: HashAdapter, B> HashTable<A, B> {
         ensures answer { IsTrue result ↔ (((slots_of self.old).used < length (fronts_of B.fronts self.old)) × ((slots_of self.old).used < 4294967295)) }
         ensures used { OnTrue result ((slots_of self.new).used ≡ (slots_of self.old).used + 1) }
         ensures full { OnFalse result ((self.new ≡ self.old) × (links.new ≡ links.old)) }
-        ensures no_step { L.Does links.old links.new [] }
-        ensures kept { KeepsBesideChains L.successor B.fronts B.Rewrites (L.table links.old) (L.table links.new) self.old self.new [] }
+        ensures trace_stays { L.Trace links.old links.new [] }
+        ensures kept { ChangesOnlyInChains L.successor B.fronts B.Rewrites (L.table links.old) (L.table links.new) self.old self.new [] }
     {
         let to = self.slots.used();
         if to >= self.buckets.count() || to >= 4294967295 {
@@ -151,12 +147,12 @@ impl<A: HashAdapter, B> HashTable<A, B> {
     /// Takes the last bucket out of use: its members go back to the chain that growth parted them from. False, and nothing has changed, if
     /// one bucket alone is in use. It undoes [`grow_one`](HashTable::grow_one), but for the order of the members.
     ///
-    /// It requires that the links show its chains, and reads no object. All members stay, in some order, and where those with equal keys
+    /// It requires that the links represent its chains, and reads no object. All members stay, in some order, and where those with equal keys
     /// stood side by side, they still do. O(members of that chain): no hash, no look, no link is acquired or released, and it takes no memory.
     pub fn shrink_one<L: SinglyLinkedListOps>(&mut self, links: &mut L) -> bool
     where
         B: BucketsFor<L>,
-        requires shown { (s : List Place) × IsShown L.successor B.fronts (L.table links.old) self.old s }
+        requires shown { (s : List Place) × IsRepresented L.successor B.fronts (L.table links.old) self.old s }
         ensures holds { (objects : Objects A.Value) (s : List Place) → Holds L.successor (number A.key_of A.hash_of) B.fronts (L.table links.old) self.old objects s
             → OnTrue result (HoldsSameMembers L.successor (number A.key_of A.hash_of) B.fronts (L.table links.new) self.new objects s) }
         ensures beside { (objects : Objects A.Value) → HoldsSideBySide L.successor (number A.key_of A.hash_of) B.fronts A.Key.eq A.key_of (L.table links.old) self.old objects
@@ -164,8 +160,8 @@ impl<A: HashAdapter, B> HashTable<A, B> {
         ensures answer { IsTrue result ↔ (2 ≤ (slots_of self.old).used) }
         ensures used { OnTrue result ((slots_of self.old).used ≡ (slots_of self.new).used + 1) }
         ensures last { OnFalse result ((self.new ≡ self.old) × (links.new ≡ links.old)) }
-        ensures no_step { L.Does links.old links.new [] }
-        ensures kept { KeepsBesideChains L.successor B.fronts B.Rewrites (L.table links.old) (L.table links.new) self.old self.new [] }
+        ensures trace_stays { L.Trace links.old links.new [] }
+        ensures kept { ChangesOnlyInChains L.successor B.fronts B.Rewrites (L.table links.old) (L.table links.new) self.old self.new [] }
     {
         if self.slots.used() < 2 {
             return false;

@@ -8,13 +8,12 @@
 //! ```
 
 ghost use Rattle.std.specs.Prelude.{◌≡◌, List, Option, Some, ⊤};
-ghost use Rattle.ic_unsafe_ref.specs.declared.place.Place.{Place};
-ghost use Rattle.ic_link_ops.specs.PlacedObjects.{values_at};
+ghost use Rattle.ic_link_ops.specs.Prelude.{Place, values_at};
 ghost use Rattle.ic_link_ops.specs.Walk.{GivesFirst};
 ghost use Rattle.ic_hash_table.specs.HashTable.{number, Holds, HoldsSome};
 
 use crate::{BucketRow, HashAdapter, HashTable};
-use ic_cursors::Listing;
+use ic_cursors::DebugWalk;
 use ic_link_ops::LinkOps;
 use ic_link_ops::singly_linked_list::SinglyLinkedListOps;
 use ic_unsafe_ref::{Objects, Place, Values};
@@ -117,11 +116,11 @@ impl<A: HashAdapter, B: BucketRow> HashTable<A, B> {
         &'a self,
         links: &'a L,
         objects: &'a O,
-    ) -> Listing<Iter<'a, A, B, L, O>>
+    ) -> DebugWalk<Iter<'a, A, B, L, O>>
         requires held { HoldsSome L.successor (number A.key_of A.hash_of) B.fronts (L.table links.now) self.now (O.values objects.now) }
         ensures lists { (s : List Place) → Holds L.successor (number A.key_of A.hash_of) B.fronts (L.table links.now) self.now (O.values objects.now) s
             → objects_left L.successor L.table B.fronts O.values result ≡ values_at (O.values objects.now) s }
     {
-        Listing::new(self.iter(links, objects))
+        DebugWalk::new(self.iter(links, objects))
     }
 }

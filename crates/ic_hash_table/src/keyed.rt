@@ -9,12 +9,8 @@
 
 ghost use Rattle.std.specs.Prelude.{◌≡◌, ◌↔◌, ◌++◌, ◌∷◌, [], List, true, IsTrue, OnOk, OnErr, IfErr, IfSome, IfNone};
 ghost use Rattle.std.specs.Bool.{OnTrue, OnFalse};
-ghost use Rattle.ic_unsafe_ref.specs.declared.place.Place.{Place};
-ghost use Rattle.ic_unsafe_ref.specs.Objects.{is_placed};
-ghost use Rattle.ic_link_ops.specs.LinkSteps.{acquires, releases};
-ghost use Rattle.ic_link_ops.specs.Sequences.{IsMember};
-ghost use Rattle.ic_link_ops.specs.Tables.{IsCovered};
-ghost use Rattle.ic_hash_table.specs.HashTable.{adapter_of, number, Holds, HoldsSome, HoldsWith, KeepsBesideMembers};
+ghost use Rattle.ic_link_ops.specs.Prelude.{Place, is_placed, IsMember, IsCovered, acquires, releases};
+ghost use Rattle.ic_hash_table.specs.HashTable.{adapter_of, number, Holds, HoldsSome, HoldsWith, ChangesOnlyInMembers};
 ghost use Rattle.ic_hash_table.specs.Searches.{has_key, Finds};
 
 use crate::{BucketsFor, HashAdapter, HashTable};
@@ -41,10 +37,10 @@ impl<A: HashAdapter, B> HashTable<A, B> {
         ensures inserted { (s : List Place) → Holds L.successor (number A.key_of A.hash_of) B.fronts (L.table links.old) self.old (L.values links.old) s
             → OnOk result (HoldsWith L.successor (number A.key_of A.hash_of) B.fronts (L.table links.new) self.new (L.values links.old) s object) }
         ensures values { L.values links.new ≡ L.values links.old }
-        ensures acquired { OnOk result (L.Does links.old links.new (acquires object ∷ [])) }
+        ensures acquired { OnOk result (L.Trace links.old links.new (acquires object ∷ [])) }
         ensures refused { OnErr result (L.Refused links.old links.new object) }
         ensures unchanged { IfErr result (λ refused. (refused.0 ≡ object) × (self.new ≡ self.old)) }
-        ensures kept { KeepsBesideMembers L.successor B.fronts B.Rewrites (L.table links.old) (L.table links.new) self.old self.new (object ∷ []) }
+        ensures kept { ChangesOnlyInMembers L.successor B.fronts B.Rewrites (L.table links.old) (L.table links.new) self.old self.new (object ∷ []) }
     {
         let at = self.slot_of_object(&*links, object.place());
         let front = self.buckets.front(at);
@@ -70,9 +66,9 @@ impl<A: HashAdapter, B> HashTable<A, B> {
             → Holds L.successor (number A.key_of A.hash_of) B.fronts (L.table links.old) self.old (L.values links.old) (front ++ object.now ∷ back)
             → Holds L.successor (number A.key_of A.hash_of) B.fronts (L.table links.new) self.new (L.values links.old) (front ++ back) }
         ensures values { L.values links.new ≡ L.values links.old }
-        ensures released { OnTrue result (L.Does links.old links.new (releases object.now ∷ [])) }
+        ensures released { OnTrue result (L.Trace links.old links.new (releases object.now ∷ [])) }
         ensures nothing { OnFalse result ((self.new ≡ self.old) × (links.new ≡ links.old)) }
-        ensures kept { KeepsBesideMembers L.successor B.fronts B.Rewrites (L.table links.old) (L.table links.new) self.old self.new [] }
+        ensures kept { ChangesOnlyInMembers L.successor B.fronts B.Rewrites (L.table links.old) (L.table links.new) self.old self.new [] }
     {
         let Some((at, before)) = self.locate(&*links, &*links, object.place()) else {
             return false;
@@ -99,9 +95,9 @@ impl<A: HashAdapter, B> HashTable<A, B> {
             → Holds L.successor (number A.key_of A.hash_of) B.fronts (L.table links.old) self.old (L.values links.old) (front ++ object ∷ back)
             → Holds L.successor (number A.key_of A.hash_of) B.fronts (L.table links.new) self.new (L.values links.old) (front ++ back)) }
         ensures values { L.values links.new ≡ L.values links.old }
-        ensures released { IfSome result (λ object. L.Does links.old links.new (releases object ∷ [])) }
+        ensures released { IfSome result (λ object. L.Trace links.old links.new (releases object ∷ [])) }
         ensures nothing { IfNone result ((self.new ≡ self.old) × (links.new ≡ links.old)) }
-        ensures kept { KeepsBesideMembers L.successor B.fronts B.Rewrites (L.table links.old) (L.table links.new) self.old self.new [] }
+        ensures kept { ChangesOnlyInMembers L.successor B.fronts B.Rewrites (L.table links.old) (L.table links.new) self.old self.new [] }
     {
         let (at, before, found) = self.search(&*links, &*links, key);
         let Some(place) = found else {

@@ -11,7 +11,7 @@
 //! let taken = table.remove_by(&mut links, &objects, &7);
 //! ```
 //!
-//! A clause sees which sequence of members the table holds: those of one chain behind those of the one before. An insert puts the object
+//! A clause sees which sequence of members the table holds: those of one chain after those of the one before. An insert puts the object
 //! somewhere into the sequence, a removal takes it out, and growth orders it anew.
 #![tactic(auto)]
 

@@ -9,8 +9,7 @@
 
 ghost use Rattle.std.specs.Prelude.{◌≡◌, ◌≤◌, List, Some, Option, drop};
 ghost use Rattle.std.specs.Bool.{⊤};
-ghost use Rattle.ic_unsafe_ref.specs.declared.place.Place.{Place};
-ghost use Rattle.ic_link_ops.specs.Sequences.{Cut, join, first, IsAfter, IsBefore};
+ghost use Rattle.ic_link_ops.specs.Prelude.{Place, Cut, join, first, IsAfter, IsBefore};
 ghost use Rattle.ic_hash_table.specs.Chains.{AreChained};
 ghost use Rattle.ic_hash_table.specs.HashTable.{number};
 
@@ -43,7 +42,7 @@ fn first_from<L: SinglyLinkedListOps, B: BucketRow>(
 impl<A: HashAdapter, B: BucketRow> HashTable<A, B> {
     ghost use Rattle.ic_hash_table.specs.HashTable.{Holds};
 
-    /// The member behind this one, through all chains; behind `None` the first one. `None` where nothing follows.
+    /// The member after this one, through all chains; after `None` the first one. `None` where nothing follows.
     ///
     /// It requires that the place is that of a member. A walk over all members makes one step a member and one a bucket, and no look.
     pub fn next<L: SinglyLinkedListOps, O: Values<A::Value>>(

@@ -8,18 +8,13 @@
 ghost use Rattle.std.specs.Prelude.{◌≡◌, ◌<◌, ◌≤◌, ◌↔◌, ◌++◌, ◌∷◌, [], List, Some, None, length, true, IsTrue, OnOk, OnErr, IfOk, IfErr, IfSome, IfNone};
 ghost use Rattle.std.specs.Bool.{OnTrue, OnFalse};
 ghost use Rattle.std.specs.List.{AllByRecursion};
-ghost use Rattle.ic_unsafe_ref.specs.declared.place.Place.{Place};
-ghost use Rattle.ic_unsafe_ref.specs.Objects.{Objects, object_at, is_placed};
-ghost use Rattle.ic_link_ops.specs.LinkSteps.{acquires, releases};
-ghost use Rattle.ic_link_ops.specs.Sequences.{Cut, join, insert, IsAbsent, IsAfter, IsBefore, IsMember, last};
-ghost use Rattle.ic_link_ops.specs.PlacedObjects.{ShowsPlaced};
-ghost use Rattle.ic_link_ops.specs.Tables.{IsCovered};
-ghost use Rattle.ic_link_ops.specs.SinglyLinkedList.{list_from, Shows};
+ghost use Rattle.ic_link_ops.specs.Prelude.{Place, Objects, object_at, is_placed, Cut, join, insert, IsAbsent, IsAfter, IsBefore, IsMember, last, IsCovered, RepresentsPlaced, acquires, releases};
+ghost use Rattle.ic_link_ops.specs.SinglyLinkedList.{list_from, Represents};
 ghost use Rattle.ic_hash_table.specs.Slots.{slot_of};
 ghost use Rattle.ic_hash_table.specs.Searches.{found_of, matches, has_key, Finds, StopsAt, HasRoom, Looks};
-ghost use Rattle.ic_hash_table.specs.Chains.{ShowsFrom};
+ghost use Rattle.ic_hash_table.specs.Chains.{RepresentsFrom};
 
-use crate::chain_edits::unlink_behind;
+use crate::chain_edits::unlink_after;
 use crate::chain_search::{find_in_chain, find_place_in_chain};
 use crate::{BucketRow, BucketsFor, HashAdapter, KeyProbe, Probe, Slots};
 use ic_link_ops::singly_linked_list::SinglyLinkedListOps;
@@ -185,7 +180,7 @@ impl<A: HashAdapter, B: BucketRow> HashTable<A, B> {
         requires held { HoldsSome L.successor (number A.key_of A.hash_of) B.fronts (L.table links.now) self.now (O.values objects.now) }
         requires within { at < (slots_of self.now).used }
         ensures front { result ≡ list_from (front_at B.fronts self.now at) }
-        ensures placed { ShowsPlaced (Shows L.successor (L.table links.now) result) (O.values objects.now) }
+        ensures placed { RepresentsPlaced (Represents L.successor (L.table links.now) result) (O.values objects.now) }
     {
         let first = self.buckets.front(at);
         SinglyLinkedList::from_front(first)
@@ -209,7 +204,7 @@ impl<A: HashAdapter, B: BucketRow> HashTable<A, B> {
         ensures found { (s : List Place) → Holds L.successor (number A.key_of A.hash_of) B.fronts (L.table links.now) self.now (O.values objects.now) s
             → Finds (matches (P.equal probe.old) (O.values objects.now)) s result }
         ensures looks { (chain : List Place)
-            → ShowsFrom L.successor (L.table links.now) (front_at B.fronts self.now (slot_of (slots_of self.now) (P.hash probe.old))) chain
+            → RepresentsFrom L.successor (L.table links.now) (front_at B.fronts self.now (slot_of (slots_of self.now) (P.hash probe.old))) chain
             → Looks P.equal P.count probe.old probe.new chain }
         ensures hash { P.hash probe.new ≡ P.hash probe.old }
     {
@@ -240,7 +235,7 @@ impl<A: HashAdapter, B: BucketRow> HashTable<A, B> {
 }
 
 impl<A: HashAdapter, B> HashTable<A, B> {
-    ghost use Rattle.ic_hash_table.specs.HashTable.{adapter_of, slots_of, number, Holds, HoldsSome, HoldsWith, KeepsBesideMembers};
+    ghost use Rattle.ic_hash_table.specs.HashTable.{adapter_of, slots_of, number, Holds, HoldsSome, HoldsWith, ChangesOnlyInMembers};
 
     /// Puts the object in, unless its link is refused. O(1): one hash, no look, and no memory.
     ///
@@ -260,10 +255,10 @@ impl<A: HashAdapter, B> HashTable<A, B> {
         requires held { HoldsSome L.successor (number A.key_of A.hash_of) B.fronts (L.table links.old) self.old (O.values objects.now) }
         ensures inserted { (s : List Place) → Holds L.successor (number A.key_of A.hash_of) B.fronts (L.table links.old) self.old (O.values objects.now) s
             → OnOk result (HoldsWith L.successor (number A.key_of A.hash_of) B.fronts (L.table links.new) self.new (O.values objects.now) s object) }
-        ensures acquired { OnOk result (L.Does links.old links.new (acquires object ∷ [])) }
+        ensures acquired { OnOk result (L.Trace links.old links.new (acquires object ∷ [])) }
         ensures refused { OnErr result (L.Refused links.old links.new object) }
         ensures unchanged { IfErr result (λ refused. (refused.0 ≡ object) × (self.new ≡ self.old)) }
-        ensures kept { KeepsBesideMembers L.successor B.fronts B.Rewrites (L.table links.old) (L.table links.new) self.old self.new (object ∷ []) }
+        ensures kept { ChangesOnlyInMembers L.successor B.fronts B.Rewrites (L.table links.old) (L.table links.new) self.old self.new (object ∷ []) }
     {
         let at = self.slot_of_object(objects, object.place());
         let front = self.buckets.front(at);
@@ -288,9 +283,9 @@ impl<A: HashAdapter, B> HashTable<A, B> {
         ensures removed { (front back : List Place)
             → Holds L.successor (number A.key_of A.hash_of) B.fronts (L.table links.old) self.old (O.values objects.now) (front ++ object.now ∷ back)
             → Holds L.successor (number A.key_of A.hash_of) B.fronts (L.table links.new) self.new (O.values objects.now) (front ++ back) }
-        ensures released { OnTrue result (L.Does links.old links.new (releases object.now ∷ [])) }
+        ensures released { OnTrue result (L.Trace links.old links.new (releases object.now ∷ [])) }
         ensures nothing { OnFalse result ((self.new ≡ self.old) × (links.new ≡ links.old)) }
-        ensures kept { KeepsBesideMembers L.successor B.fronts B.Rewrites (L.table links.old) (L.table links.new) self.old self.new [] }
+        ensures kept { ChangesOnlyInMembers L.successor B.fronts B.Rewrites (L.table links.old) (L.table links.new) self.old self.new [] }
     {
         let Some((at, before)) = self.locate(&*links, objects, object.place()) else {
             return false;
@@ -322,9 +317,9 @@ impl<A: HashAdapter, B> HashTable<A, B> {
         ensures same { IfOk result (λ found. IfSome found (λ member. (self.new ≡ self.old) × (links.new ≡ links.old))) }
         ensures inserted { (s : List Place) → Holds L.successor (number A.key_of A.hash_of) B.fronts (L.table links.old) self.old (O.values objects.now) s
             → IfOk result (λ found. IfNone found (HoldsWith L.successor (number A.key_of A.hash_of) B.fronts (L.table links.new) self.new (O.values objects.now) s object)) }
-        ensures acquired { IfOk result (λ found. IfNone found (L.Does links.old links.new (acquires object ∷ []))) }
+        ensures acquired { IfOk result (λ found. IfNone found (L.Trace links.old links.new (acquires object ∷ []))) }
         ensures refused { IfErr result (λ refused. (refused.0 ≡ object) × (self.new ≡ self.old) × L.Refused links.old links.new object) }
-        ensures kept { KeepsBesideMembers L.successor B.fronts B.Rewrites (L.table links.old) (L.table links.new) self.old self.new (object ∷ []) }
+        ensures kept { ChangesOnlyInMembers L.successor B.fronts B.Rewrites (L.table links.old) (L.table links.new) self.old self.new (object ∷ []) }
     {
         let key = self.adapter.get_key(objects.value(object.place()));
         if let Some(member) = self.find(&*links, objects, key) {
@@ -352,9 +347,9 @@ impl<A: HashAdapter, B> HashTable<A, B> {
         ensures removed { IfSome result (λ object. (front back : List Place)
             → Holds L.successor (number A.key_of A.hash_of) B.fronts (L.table links.old) self.old (O.values objects.now) (front ++ object ∷ back)
             → Holds L.successor (number A.key_of A.hash_of) B.fronts (L.table links.new) self.new (O.values objects.now) (front ++ back)) }
-        ensures released { IfSome result (λ object. L.Does links.old links.new (releases object ∷ [])) }
+        ensures released { IfSome result (λ object. L.Trace links.old links.new (releases object ∷ [])) }
         ensures nothing { IfNone result ((self.new ≡ self.old) × (links.new ≡ links.old)) }
-        ensures kept { KeepsBesideMembers L.successor B.fronts B.Rewrites (L.table links.old) (L.table links.new) self.old self.new [] }
+        ensures kept { ChangesOnlyInMembers L.successor B.fronts B.Rewrites (L.table links.old) (L.table links.new) self.old self.new [] }
     {
         let (at, before, found) = self.search(&*links, objects, key);
         let Some(place) = found else {
@@ -395,10 +390,10 @@ impl<A: HashAdapter, B: BucketRow> HashTable<A, B> {
         ensures slot { result.0 ≡ slot_of (slots_of self.now) (A.hash_of (adapter_of self.now) key.now) }
         ensures found { (s : List Place) → Holds L.successor (number A.key_of A.hash_of) B.fronts (L.table links.now) self.now (O.values objects.now) s
             → Finds (has_key A.Key.eq (A.key_of (adapter_of self.now)) key.now (O.values objects.now)) s result.2 }
-        ensures stops { (chain : List Place) → ShowsFrom L.successor (L.table links.now) (front_at B.fronts self.now result.0) chain
+        ensures stops { (chain : List Place) → RepresentsFrom L.successor (L.table links.now) (front_at B.fronts self.now result.0) chain
             → StopsAt (has_key A.Key.eq (A.key_of (adapter_of self.now)) key.now (O.values objects.now)) chain result.1 result.2 }
         ensures member { IfSome result.2 (λ p. (ahead back : List Place)
-            × ShowsFrom L.successor (L.table links.now) (front_at B.fronts self.now result.0) (ahead ++ p ∷ back) × (result.1 ≡ last ahead)) }
+            × RepresentsFrom L.successor (L.table links.now) (front_at B.fronts self.now result.0) (ahead ++ p ∷ back) × (result.1 ≡ last ahead)) }
     {
         let at = self.slots.slot(self.adapter.hash(key));
         let mut probe = KeyProbe::new(self.adapter, key);
@@ -417,7 +412,7 @@ impl<A: HashAdapter, B: BucketRow> HashTable<A, B> {
         requires held { HoldsSome L.successor (number A.key_of A.hash_of) B.fronts (L.table links.now) self.now (O.values objects.now) }
         ensures within { IfSome result (λ r. r.0 < (slots_of self.now).used) }
         ensures member { IfSome result (λ r. (ahead back : List Place)
-            × ShowsFrom L.successor (L.table links.now) (front_at B.fronts self.now r.0) (ahead ++ place ∷ back) × (r.1 ≡ last ahead)) }
+            × RepresentsFrom L.successor (L.table links.now) (front_at B.fronts self.now r.0) (ahead ++ place ∷ back) × (r.1 ≡ last ahead)) }
         ensures absent { (s : List Place) → Holds L.successor (number A.key_of A.hash_of) B.fronts (L.table links.now) self.now (O.values objects.now) s
             → IfNone result (IsAbsent place s) }
         ensures there { (s : List Place) → Holds L.successor (number A.key_of A.hash_of) B.fronts (L.table links.now) self.now (O.values objects.now) s
@@ -433,7 +428,7 @@ impl<A: HashAdapter, B: BucketRow> HashTable<A, B> {
 }
 
 impl<A: HashAdapter, B> HashTable<A, B> {
-    ghost use Rattle.ic_hash_table.specs.HashTable.{adapter_of, slots_of, front_at, number, BelongsIn, Holds, HoldsAt, HoldsSome, KeepsBesideMembers};
+    ghost use Rattle.ic_hash_table.specs.HashTable.{adapter_of, slots_of, front_at, number, BelongsIn, Holds, HoldsAt, HoldsSome, ChangesOnlyInMembers};
 
     // Puts the object between two neighbors of chain `at`. It reads no object.
     #[inline]
@@ -449,20 +444,20 @@ impl<A: HashAdapter, B> HashTable<A, B> {
         requires covered { IsCovered (L.table links.old) object }
         requires held { (objects : Objects A.Value) × HoldsSome L.successor (number A.key_of A.hash_of) B.fronts (L.table links.old) self.old objects }
         requires within { at < (slots_of self.old).used }
-        requires gap { (gap : Cut) × ShowsFrom L.successor (L.table links.old) (front_at B.fronts self.old at) (join gap)
+        requires gap { (gap : Cut) × RepresentsFrom L.successor (L.table links.old) (front_at B.fronts self.old at) (join gap)
             × IsAfter gap neighbors.0 × IsBefore gap neighbors.1 }
         ensures inserted { (objects : Objects A.Value) (s : List Place) (gap : Cut)
             → Holds L.successor (number A.key_of A.hash_of) B.fronts (L.table links.old) self.old objects s → is_placed objects object ≡ true
             → BelongsIn (slots_of self.old) (number A.key_of A.hash_of (adapter_of self.old)) objects at object
-            → ShowsFrom L.successor (L.table links.old) (front_at B.fronts self.old at) (join gap) → IsAfter gap neighbors.0 → IsBefore gap neighbors.1
+            → RepresentsFrom L.successor (L.table links.old) (front_at B.fronts self.old at) (join gap) → IsAfter gap neighbors.0 → IsBefore gap neighbors.1
             → OnOk result (HoldsAt L.successor (number A.key_of A.hash_of) B.fronts (L.table links.new) self.new objects s gap object) }
-        ensures shows { (gap : Cut) → ShowsFrom L.successor (L.table links.old) (front_at B.fronts self.old at) (join gap)
+        ensures shows { (gap : Cut) → RepresentsFrom L.successor (L.table links.old) (front_at B.fronts self.old at) (join gap)
             → IsAfter gap neighbors.0 → IsBefore gap neighbors.1
-            → OnOk result (ShowsFrom L.successor (L.table links.new) (front_at B.fronts self.new at) (insert gap object)) }
-        ensures acquired { OnOk result (L.Does links.old links.new (acquires object ∷ [])) }
+            → OnOk result (RepresentsFrom L.successor (L.table links.new) (front_at B.fronts self.new at) (insert gap object)) }
+        ensures acquired { OnOk result (L.Trace links.old links.new (acquires object ∷ [])) }
         ensures refused { OnErr result (L.Refused links.old links.new object) }
         ensures unchanged { IfErr result (λ refused. (refused.0 ≡ object) × (self.new ≡ self.old)) }
-        ensures kept { KeepsBesideMembers L.successor B.fronts B.Rewrites (L.table links.old) (L.table links.new) self.old self.new (object ∷ []) }
+        ensures kept { ChangesOnlyInMembers L.successor B.fronts B.Rewrites (L.table links.old) (L.table links.new) self.old self.new (object ∷ []) }
     {
         let (before, behind) = neighbors;
         let mut chain: SinglyLinkedList<A::Value> = SinglyLinkedList::from_front(
@@ -476,7 +471,7 @@ impl<A: HashAdapter, B> HashTable<A, B> {
         Ok(())
     }
 
-    // Takes the member behind `before` out of chain `at`. It reads no object.
+    // Takes the member after `before` out of chain `at`. It reads no object.
     #[inline]
     pub(crate) fn remove_at<L: SinglyLinkedListOps>(
         &mut self,
@@ -490,14 +485,14 @@ impl<A: HashAdapter, B> HashTable<A, B> {
         requires held { (objects : Objects A.Value) × HoldsSome L.successor (number A.key_of A.hash_of) B.fronts (L.table links.old) self.old objects }
         requires within { at < (slots_of self.old).used }
         requires member { (ahead back : List Place)
-            × ShowsFrom L.successor (L.table links.old) (front_at B.fronts self.old at) (ahead ++ place ∷ back) × (before ≡ last ahead) }
+            × RepresentsFrom L.successor (L.table links.old) (front_at B.fronts self.old at) (ahead ++ place ∷ back) × (before ≡ last ahead) }
         ensures removed { (objects : Objects A.Value) (front back : List Place)
             → Holds L.successor (number A.key_of A.hash_of) B.fronts (L.table links.old) self.old objects (front ++ place ∷ back)
             → Holds L.successor (number A.key_of A.hash_of) B.fronts (L.table links.new) self.new objects (front ++ back) }
-        ensures released { L.Does links.old links.new (releases place ∷ []) }
-        ensures kept { KeepsBesideMembers L.successor B.fronts B.Rewrites (L.table links.old) (L.table links.new) self.old self.new [] }
+        ensures released { L.Trace links.old links.new (releases place ∷ []) }
+        ensures kept { ChangesOnlyInMembers L.successor B.fronts B.Rewrites (L.table links.old) (L.table links.new) self.old self.new [] }
     {
-        let front = unlink_behind(links, self.buckets.front(at), before, place);
+        let front = unlink_after(links, self.buckets.front(at), before, place);
         self.buckets.set_front(at, front);
         self.len -= 1;
     }

@@ -6,10 +6,8 @@
 //! ```
 
 ghost use Rattle.std.specs.Prelude.{◌≡◌, ◌<◌, Bool, None, List, [], length, slice_index_or, slice_set};
-ghost use Rattle.ic_unsafe_ref.specs.declared.place.Place.{Place};
-ghost use Rattle.ic_link_ops.specs.LinkSteps.{releases_each};
-ghost use Rattle.ic_link_ops.specs.Tables.{KeepsBeside};
-ghost use Rattle.ic_hash_table.specs.Chains.{ShowsFrom, ShowsFromSome};
+ghost use Rattle.ic_link_ops.specs.Prelude.{Place, ChangesOnlyIn, releases_each};
+ghost use Rattle.ic_hash_table.specs.Chains.{RepresentsFrom, RepresentsFromSome};
 
 use crate::{BucketsFor, HashAdapter, HashTable};
 use ic_link_ops::LinkOps;
@@ -20,13 +18,13 @@ use ic_unsafe_ref::{UnsafeRef, Values};
 // Unlinks the members of one chain, and empties it.
 fn clear_chain<L: SinglyLinkedListOps, B: BucketsFor<L>>(buckets: &mut B, links: &mut L, at: usize)
     requires within { at < length (B.fronts buckets.old) }
-    requires shown { ShowsFromSome L.successor (L.table links.old) (slice_index_or (B.fronts buckets.old) at None) }
+    requires shown { RepresentsFromSome L.successor (L.table links.old) (slice_index_or (B.fronts buckets.old) at None) }
     ensures empty { B.fronts buckets.new ≡ slice_set (B.fronts buckets.old) at None }
     ensures rewrites { B.Rewrites buckets.old buckets.new }
-    ensures released { (chain : List Place) → ShowsFrom L.successor (L.table links.old) (slice_index_or (B.fronts buckets.old) at None) chain
-        → L.Does links.old links.new (releases_each chain) }
-    ensures frame { (chain : List Place) → ShowsFrom L.successor (L.table links.old) (slice_index_or (B.fronts buckets.old) at None) chain
-        → KeepsBeside (L.table links.old) (L.table links.new) chain }
+    ensures released { (chain : List Place) → RepresentsFrom L.successor (L.table links.old) (slice_index_or (B.fronts buckets.old) at None) chain
+        → L.Trace links.old links.new (releases_each chain) }
+    ensures frame { (chain : List Place) → RepresentsFrom L.successor (L.table links.old) (slice_index_or (B.fronts buckets.old) at None) chain
+        → ChangesOnlyIn (L.table links.old) (L.table links.new) chain }
 {
     let mut chain: SinglyLinkedList<()> = SinglyLinkedList::from_front(buckets.front(at));
     chain.clear(links);
@@ -34,20 +32,20 @@ fn clear_chain<L: SinglyLinkedListOps, B: BucketsFor<L>>(buckets: &mut B, links:
 }
 
 impl<A, B> HashTable<A, B> {
-    ghost use Rattle.ic_hash_table.specs.HashTable.{IsNew, IsShown, KeepsBesideMembers};
+    ghost use Rattle.ic_hash_table.specs.HashTable.{IsNew, IsRepresented, ChangesOnlyInMembers};
 
     /// Takes all members out: each is unlinked, and the table is empty.
     ///
-    /// It requires that the links show its chains, whatever keys the members have now: they need not be placed. One step for each
+    /// It requires that the links represent its chains, whatever keys the members have now: they need not be placed. One step for each
     /// member and each bucket, no look, and no memory.
     pub fn clear<L: SinglyLinkedListOps>(&mut self, links: &mut L)
     where
         B: BucketsFor<L>,
-        requires shown { (s : List Place) × IsShown L.successor B.fronts (L.table links.old) self.old s }
+        requires shown { (s : List Place) × IsRepresented L.successor B.fronts (L.table links.old) self.old s }
         ensures empty { IsNew B.fronts self.new }
-        ensures released { (s : List Place) → IsShown L.successor B.fronts (L.table links.old) self.old s
-            → L.Does links.old links.new (releases_each s) }
-        ensures kept { KeepsBesideMembers L.successor B.fronts B.Rewrites (L.table links.old) (L.table links.new) self.old self.new [] }
+        ensures released { (s : List Place) → IsRepresented L.successor B.fronts (L.table links.old) self.old s
+            → L.Trace links.old links.new (releases_each s) }
+        ensures kept { ChangesOnlyInMembers L.successor B.fronts B.Rewrites (L.table links.old) (L.table links.new) self.old self.new [] }
     {
         let count = self.buckets.count();
         let mut at = 0;
@@ -61,7 +59,7 @@ impl<A, B> HashTable<A, B> {
 
 impl<A: HashAdapter, B> HashTable<A, B> {
     ghost use Rattle.std.specs.Fn.{CalledAt};
-    ghost use Rattle.ic_hash_table.specs.HashTable.{number, Holds, HoldsSome, KeepsBesideMembers};
+    ghost use Rattle.ic_hash_table.specs.HashTable.{number, Holds, HoldsSome, ChangesOnlyInMembers};
     ghost use Rattle.ic_hash_table.specs.Retained.{AreAnswers, passing, failing};
 
     /// Takes each member out whose object fails the test. The others stay, in their order.
@@ -82,13 +80,13 @@ impl<A: HashAdapter, B> HashTable<A, B> {
         ensures asked { (s : List Place) → Holds L.successor (number A.key_of A.hash_of) B.fronts (L.table links.old) self.old (O.values objects.now) s
             → (answers : List Bool) × (last : F) × AreAnswers (CalledAt F.FnMut) (O.values objects.now) keeps s answers last
             × Holds L.successor (number A.key_of A.hash_of) B.fronts (L.table links.new) self.new (O.values objects.now) (passing answers s)
-            × L.Does links.old links.new (releases_each (failing answers s)) }
-        ensures kept { KeepsBesideMembers L.successor B.fronts B.Rewrites (L.table links.old) (L.table links.new) self.old self.new [] }
+            × L.Trace links.old links.new (releases_each (failing answers s)) }
+        ensures kept { ChangesOnlyInMembers L.successor B.fronts B.Rewrites (L.table links.old) (L.table links.new) self.old self.new [] }
     {
         self.retain_by(links, objects, &mut keeps);
     }
 
-    // `retain` with a test that its caller has still: what it is behind the last call of it is seen.
+    // `retain` with a test that its caller has still: what it is after the last call of it is seen.
     fn retain_by<L: SinglyLinkedListOps, O: Values<A::Value>, F: FnMut(&A::Value) -> bool>(
         &mut self,
         links: &mut L,
@@ -102,8 +100,8 @@ impl<A: HashAdapter, B> HashTable<A, B> {
         ensures asked { (s : List Place) → Holds L.successor (number A.key_of A.hash_of) B.fronts (L.table links.old) self.old (O.values objects.now) s
             → (answers : List Bool) × AreAnswers (CalledAt F.FnMut) (O.values objects.now) keeps.old s answers keeps.new
             × Holds L.successor (number A.key_of A.hash_of) B.fronts (L.table links.new) self.new (O.values objects.now) (passing answers s)
-            × L.Does links.old links.new (releases_each (failing answers s)) }
-        ensures kept { KeepsBesideMembers L.successor B.fronts B.Rewrites (L.table links.old) (L.table links.new) self.old self.new [] }
+            × L.Trace links.old links.new (releases_each (failing answers s)) }
+        ensures kept { ChangesOnlyInMembers L.successor B.fronts B.Rewrites (L.table links.old) (L.table links.new) self.old self.new [] }
     {
         let mut at = self.next(&*links, objects, None);
         while let Some(place) = at {

@@ -7,10 +7,8 @@
 //! ```
 
 ghost use Rattle.std.specs.Prelude.{◌≡◌, ℕ, true, List, Option, None, Some};
-ghost use Rattle.ic_unsafe_ref.specs.declared.place.Place.{Place};
-ghost use Rattle.ic_unsafe_ref.specs.Objects.{Objects as Placed, Frees, is_placed, object_at};
+ghost use Rattle.ic_link_ops.specs.Prelude.{Place, Objects as Placed, Frees, is_placed, object_at, values_at};
 ghost use Rattle.ic_unsafe_ref.proofs.Placing.{Puts};
-ghost use Rattle.ic_link_ops.specs.PlacedObjects.{values_at};
 ghost use Rattle.ic_container.specs.Trees.{IsFound, LacksOne};
 ghost use Rattle.ic_indexed.specs.Indexed.{IsOrderOf};
 
@@ -40,8 +38,8 @@ pub trait Index<T: HasKey, A: Allocator>: Drop {
     // SO FEW LOOKS as a search makes: of the parts, the key that is searched, the objects and the looks.
     ghost IsFew: { ℕ → ℕ → List T → ℕ → Type 0 };
 
-    /// The table for the links of a new index. It has no room for a link of any place yet, and the call allocates nothing. It requires that the index is
-    /// new.
+    /// The table for the links of a new index. It has no room for a link of any place yet, and the call allocates nothing. It requires that the index
+    /// is new.
     fn new_links(&self, alloc: A) -> Self::Links
         requires new { IsNew self.now }
         ensures none { (objects : Placed T) → ((place : Place) → object_at objects place ≡ None) → Has self.now result objects };

@@ -3,13 +3,11 @@
 //! ```text
 //! indexed.place_front(job)?;
 //! let (place, looks) = indexed.find(7);
-//! indexed.move_to_front(place?); // in front of all others
+//! indexed.move_to_front(place?); // before all others
 //! ```
 
 ghost use Rattle.std.specs.Prelude.{◌≡◌, ◌≤◌, ◌↔◌, ◌^◌, ◌∷◌, ◌++◌, [], true, None, Some, Err, List, length, OnOk, IfOk, IfErr, IfSome, IsTrue, MatchOption};
-ghost use Rattle.ic_unsafe_ref.specs.declared.place.Place.{Place};
-ghost use Rattle.ic_unsafe_ref.specs.Objects.{Frees, Places, is_placed, object_at, with_object};
-ghost use Rattle.ic_link_ops.specs.Positions.{object_there};
+ghost use Rattle.ic_link_ops.specs.Prelude.{Place, Frees, Places, is_placed, object_at, with_object, object_there};
 ghost use Rattle.ic_pool.specs.Refusals.{value_of};
 ghost use Rattle.ic_container.specs.Orders.{IsWhole};
 ghost use Rattle.ic_container.specs.Trees.{IsFound};
@@ -188,7 +186,7 @@ impl<T: HasKey, I: Index<T, A>, A: Allocator> Indexed<T, I, A> {
         self.in_order.last()
     }
 
-    /// Moves the object at a place in front of all others, which keep their order. It requires that one stands there. O(1), and it
+    /// Moves the object at a place before all others, which keep their order. It requires that one stands there. O(1), and it
     /// takes no memory.
     pub fn move_to_front(&mut self, place: Place)
         requires placed { is_placed self.old.values place ≡ true }
@@ -200,7 +198,7 @@ impl<T: HasKey, I: Index<T, A>, A: Allocator> Indexed<T, I, A> {
         lists::move_to_front(&mut self.in_order, &mut self.pool.links.1, place);
     }
 
-    /// Moves the object at a place behind all others. Else as `move_to_front`.
+    /// Moves the object at a place after all others. Else as `move_to_front`.
     pub fn move_to_back(&mut self, place: Place)
         requires placed { is_placed self.old.values place ≡ true }
         ensures values { self.new.values ≡ self.old.values }
@@ -249,7 +247,7 @@ impl<T: HasKey, I: Index<T, A>, A: Allocator> Indexed<T, I, A> {
         Some(self.remove(place))
     }
 
-    /// Puts a value in the place of the object there, which comes back, and in front of all others. It requires that one stands
+    /// Puts a value in the place of the object there, which comes back, and before all others. It requires that one stands
     /// there.
     ///
     /// It costs about as much as two searches of the index, O(log n) by a tree, and takes no memory.
@@ -266,7 +264,7 @@ impl<T: HasKey, I: Index<T, A>, A: Allocator> Indexed<T, I, A> {
         gone
     }
 
-    /// Adds an object in front of all others.
+    /// Adds an object before all others.
     ///
     /// Where it is refused the value comes back, and nothing has changed: with `NoPlaceLeft` exactly if no place is left, of 4,294,967,296,
     /// and else with `OutOfMemory`, also where links of 4-byte words have no name left.
@@ -287,7 +285,7 @@ impl<T: HasKey, I: Index<T, A>, A: Allocator> Indexed<T, I, A> {
         Ok(object)
     }
 
-    /// Adds an object behind all others. Else as `place_front`.
+    /// Adds an object after all others. Else as `place_front`.
     pub fn place_back(&mut self, value: T) -> Result<UnsafeRef<T>, PlaceError<T>>
         ensures placed { IfOk result (λ object. Places self.old.values self.new.values object value) }
         ensures added { OnOk result (values_of self.new ≡ values_of self.old ++ value ∷ []) }

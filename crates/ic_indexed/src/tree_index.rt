@@ -6,7 +6,7 @@ ghost use Rattle.ic_link_ops.specs.PlainTables.{linked_by, table};
 ghost use Rattle.ic_rbtree.specs.PlainTrees.{node_by};
 ghost use Rattle.ic_container.specs.Trees.{HasAllIn};
 ghost use Rattle.ic_container.specs.TreeLaws.{all_grown, all_alike};
-ghost use Rattle.ic_indexed.specs.Indexed.{IsFewLooks};
+ghost use Rattle.ic_indexed.specs.Indexed.{WithinComparisonBound};
 
 use crate::{ByKey, HasKey, Index};
 use ic_link_ops::{NodeWords, PlainTable, PrevPlace};
@@ -25,7 +25,7 @@ impl<T: HasKey, W: NodeWords, O: PrevPlace, A: Allocator> Index<T, A> for RBTree
 
     ghost parts = { λ tree. 1 };
 
-    ghost IsFew = { λ parts key values looks. IsFewLooks looks (length values) };
+    ghost IsFew = { λ parts key values looks. WithinComparisonBound looks (length values) };
 
     fn new_links(&self, alloc: A) -> PlainTable<W, A> {
         PlainTable::new(alloc)

@@ -6,9 +6,7 @@ use Rattle.std.proofs.lemmas.Option.{same_Some}
 use Rattle.std.proofs.lemmas.List.Elements.{filter-append}
 use Rattle.std.proofs.lemmas.List.Folds.{find-append}
 use Rattle.std.specs.Option.{option_or}
-use Rattle.ic_unsafe_ref.specs.declared.place.Place.{Place}
-use Rattle.ic_unsafe_ref.specs.Objects.{Objects}
-use Rattle.ic_link_ops.specs.Positions.{object_there}
+use Rattle.ic_link_ops.specs.Prelude.{Place, Objects, object_there}
 use Rattle.ic_link_ops.proofs.Each.{all_back, all_both, all_front, all_map, all_without}
 use Rattle.ic_link_ops.proofs.PlacedValues.{from_each}
 use Rattle.ic_link_ops.proofs.SequenceLemmas.{none_not}
@@ -32,14 +30,14 @@ module _ {T : Type 0} where
   last_cut (x ∷ []) e = ([], ap (λ (z : T). z ∷ []) (same_Some _ _ e))
   last_cut (x ∷ y ∷ values) e = let r = last_cut (y ∷ values) e in (x ∷ r.0, ap (λ (l : List T). x ∷ l) r.1)
 
-  last_behind : (front : List T) (last : T) → last_value (front ++ last ∷ []) ≡ Some last
-  last_behind [] last = refl
-  last_behind (x ∷ []) last = refl
-  last_behind (x ∷ y ∷ front) last = last_behind (y ∷ front) last
+  last_after : (front : List T) (last : T) → last_value (front ++ last ∷ []) ≡ Some last
+  last_after [] last = refl
+  last_after (x ∷ []) last = refl
+  last_after (x ∷ y ∷ front) last = last_after (y ∷ front) last
 
   -- there is one last
   pub one_last : {values : List T} {last other : T} → EndsWith last values → EndsWith other values → last ≡ other
-  one_last {values} {last} {other} e f = same_Some _ _ (sym (last_behind e.0 last) ∙ ap last_value (sym e.1 ∙ f.1) ∙ last_behind f.0 other)
+  one_last {values} {last} {other} e f = same_Some _ _ (sym (last_after e.0 last) ∙ ap last_value (sym e.1 ∙ f.1) ∙ last_after f.0 other)
 
   -- what is there
   pub some_there : (o : Option T) → IsSome o → (value : T) × (o ≡ Some value)
@@ -101,7 +99,7 @@ module _ {T : Type 0} (key_of : T → ℕ) where
   other_way : (a b : T) → has_key key_of (key_of a) b ≡ false → has_key key_of (key_of b) a ≡ false
   other_way a b h = ne_eqb (key_of a) (key_of b) (λ same. eqb-false (key_of b) (key_of a) h (sym same))
 
-  -- cut at a value: none in front and none behind has its key
+  -- cut at a value: none before and none after has its key
   own_cut : (front : List T) (value : T) (back : List T) → HaveOwnKeys key_of (front ++ value ∷ back) → Lack key_of (key_of value) front × Lack key_of (key_of value) back × HaveOwnKeys key_of (front ++ back)
   own_cut [] value back own = (tt, own.0, own.1)
   own_cut (x ∷ front) value back own =
@@ -139,7 +137,7 @@ module _ {T : Type 0} (key_of : T → ℕ) where
           ap (without key_of (key_of value)) w.was ∙ filter-append test w.front (value ∷ w.back)
           ∙ rw (without_none (key_of value) w.front cut.0, eq-eqb (key_of value) (key_of value) refl, without_none (key_of value) w.back cut.1) (sym w.is)
 
-      -- and it goes in front of them
+      -- and it goes before them
       pub touched_it : touched key_of (key_of value) values ≡ value ∷ rest
       touched_it =
           let first : filter (has_key key_of (key_of value)) values ≡ value ∷ [] =
@@ -155,14 +153,14 @@ module _ {T : Type 0} (key_of : T → ℕ) where
         pub moved_it : value ∷ rest ≡ touched key_of key values
         moved_it = sym touched_it ∙ ap (λ (n : ℕ). touched key_of n values) (found_key key values found)
 
-  -- THE FIRST is taken out, and the others stand behind it
+  -- THE FIRST is taken out, and the others stand after it
   pub without_first : {values rest : List T} {first : T} → HaveOwnKeys key_of values → Without first values rest → first_value values ≡ Some first → values ≡ first ∷ rest
   without_first {values} {rest} {first} own w e =
       let s = first_cut values e in
       let r : Without first values s.0 = record { front = []; back = s.0; was = s.1; is = refl } in
       s.1 ∙ ap (λ (l : List T). first ∷ l) (sym (without_it r own) ∙ without_it w own)
 
-  -- THE LAST is taken out, and the others stand in front of it
+  -- THE LAST is taken out, and the others stand before it
   pub without_last : {values rest : List T} {last : T} → HaveOwnKeys key_of values → Without last values rest → last_value values ≡ Some last → values ≡ rest ++ last ∷ []
   without_last {values} {rest} {last} own w e =
       let s = last_cut values e in
@@ -176,7 +174,7 @@ module _ {T : Type 0} (key_of : T → ℕ) where
         sym (found_none key (values_of store) (from_each (λ value. has_key key_of key value ≡ false) store.values (λ p value there. ne_eqb (key_of value) key (none p value there)) store.order))
     found_value own key (Some p) found = found.1 ∙ sym (found_it (whole_value whole p found.1).1 own) ∙ ap (λ (n : ℕ). value_with key_of n (values_of store)) found.2
 
-  -- EACH KEY ONCE, as before: after another value in front, of a new key,
+  -- EACH KEY ONCE, as before: with another value first, of a new key,
   pub own_added : (values : List T) (value : T) → HaveOwnKeys key_of values → value_with key_of (key_of value) values ≡ None → HaveOwnKeys key_of (value ∷ values)
   own_added values value own none = (lack_found (key_of value) values none, own)
 
@@ -188,9 +186,9 @@ module _ {T : Type 0} (key_of : T → ℕ) where
     pub own_replaced : value_with key_of (key_of value) values ≡ None → HaveOwnKeys key_of (value ∷ rest)
     own_replaced none = (still_lack w (key_of value) (lack_found (key_of value) values none), rest_own w own)
 
-  -- after one moved behind all others,
-  pub own_behind : {values rest : List T} {out : T} → Without out values rest → HaveOwnKeys key_of values → HaveOwnKeys key_of (rest ++ out ∷ [])
-  own_behind {values} {rest} {out} w own = by rest (rest_own w own) (rest_lack w own) where
+  -- after one moved after all others,
+  pub own_after : {values rest : List T} {out : T} → Without out values rest → HaveOwnKeys key_of values → HaveOwnKeys key_of (rest ++ out ∷ [])
+  own_after {values} {rest} {out} w own = by rest (rest_own w own) (rest_lack w own) where
     by : (s : List T) → HaveOwnKeys key_of s → Lack key_of (key_of out) s → HaveOwnKeys key_of (s ++ out ∷ [])
     by [] own lack = (tt, tt)
     by (x ∷ s) own lack = (all_both (λ other. has_key key_of (key_of x) other ≡ false) s (out ∷ []) own.0 (other_way out x lack.0, tt), by s own.1 lack.1)

@@ -1,4 +1,4 @@
--- Turn by turn: what a test was not asked of yet stands in front of what it kept, and one value less after each pop.
+-- Turn by turn: what a test was not asked of yet stands before what it kept, and one value less after each pop.
 use Rattle.std.proofs.Common.{◌≡◌, ℕ, ◌+◌, ◌<◌, ◌≤◌, Bool, true, false, cond, MatchOption, Option, None, Some, List, [], ◌∷◌, ◌++◌, length, take, drop, filter, refl, sym, ap, ◌∙◌, subst, arith, append-nil, append_assoc, length-append}
 use Rattle.std.proofs.lemmas.Option.{same_Some}
 use Rattle.ic_container.specs.Values.{first_value}
@@ -71,7 +71,7 @@ module _ {T : Type 0} {tells : T → Bool → Type 0} {values : List T} where
           (a.answers, subst (λ (s : List T). AreAnswers tells s a.answers) (sym same) a.said, are ∙ ap (passing a.answers) (sym same))
       by (first ∷ left) were are = absurd (omega (arith, all, a.many, ap length were, length-append a.done (first ∷ left)))
 
--- ONE TURN: the first value goes behind all others, or out
+-- ONE TURN: the first value goes after all others, or out
 module _ {T : Type 0} {value first : T} {others rest : List T} (same : value ∷ others ≡ first ∷ rest) where
   pub same_first : value ≡ first
   same_first = same_Some _ _ (ap first_value same)

@@ -24,7 +24,7 @@ module _ {T : Type 0} (key_of : T → ℕ) where
   abbrev pub without : ℕ → List T → List T
   without key values = filter (λ value. not (has_key key value)) values
 
-  -- TOUCHED: the value of the key, if there is one, stands in front of all others, which keep their order
+  -- TOUCHED: the value of the key, if there is one, stands before all others, which keep their order
   abbrev pub touched : ℕ → List T → List T
   touched key values = filter (has_key key) values ++ without key values
 
@@ -44,6 +44,6 @@ BeginsWith {T} first values = (rest : List T) × (values ≡ first ∷ rest)
 abbrev pub EndsWith : {T : Type 0} → T → List T → Type 0
 EndsWith {T} last values = (front : List T) × (values ≡ front ++ last ∷ [])
 
--- the last of them is gone, and another one stands in front
+-- the last of them is gone, and another one stands first
 abbrev pub ReplacesLast : {T : Type 0} → T → T → KeyedValues T → KeyedValues T → Type 0
 ReplacesLast {T} last value old new = (front : List T) × (old.values ≡ front ++ last ∷ []) × (new ≡ with_values old (value ∷ front))

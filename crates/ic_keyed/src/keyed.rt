@@ -4,7 +4,7 @@
 //! let mut pages = Keyed::new(rt.alloc()); // by a tree; `with_index` by another index
 //! pages.insert(page)?;
 //! let page = pages.peek(7)?; // the order stays
-//! let page = pages.get(7)?; // it is in front of all others
+//! let page = pages.get(7)?; // it is before all others
 //! let page = pages.remove(7)?;
 //! ```
 
@@ -24,7 +24,7 @@ use std::marker::Model;
 
 /// Values with a key each, at most one of a key, in the order of their use.
 ///
-/// A clause sees the list of the values, the one that was used last in front (`values`), and in how many parts the index has them
+/// A clause sees the list of the values, the one that was used last first (`values`), and in how many parts the index has them
 /// (`parts`): one by a tree, and the number of chains by a hash table. No two values have one key: `keys_differ` gives a proof that fact.
 ///
 /// Each call that searches costs O(log n) by a tree and O(1) on average by a hash table, and `insert` alone takes memory.
@@ -162,7 +162,7 @@ impl<T: HasKey, I: Index<T, A>, A: Allocator> Keyed<T, I, A> {
         Some(self.store.at(place))
     }
 
-    /// The value of the key, if there is one. It is used: it goes in front of all others, which keep their order.
+    /// The value of the key, if there is one. It is used: it goes before all others, which keep their order.
     pub fn get(&mut self, key: u64) -> Option<&T>
         ensures* touches { sem 𝓛 (EndsAs T.row I.row A.row I.Links.row I.Order.row T.HasKey I.Index I.Links.Tables I.Order.unlinked I.Order.is_linked I.Order.width I.Order.next_word I.Order.KeepsOthers I.Order.prev A.Allocator self.entry (touched T.key_of key self.old.values)) }
         ensures value { option_copied result ≡ value_with T.key_of key self.old.values }
@@ -172,7 +172,7 @@ impl<T: HasKey, I: Index<T, A>, A: Allocator> Keyed<T, I, A> {
         Some(self.store.at(used))
     }
 
-    /// Moves the value of the key in front of all others, which keep their order. Whether there is one.
+    /// Moves the value of the key before all others, which keep their order. Whether there is one.
     pub fn touch(&mut self, key: u64) -> bool
         ensures found { result ≡ is_some (value_with T.key_of key self.old.values) }
         ensures touched { self.new ≡ with_values self.old (touched T.key_of key self.old.values) }
@@ -200,7 +200,7 @@ impl<T: HasKey, I: Index<T, A>, A: Allocator> Keyed<T, I, A> {
         Some(self.store.at(oldest))
     }
 
-    /// Adds a value in front of all others.
+    /// Adds a value before all others.
     ///
     /// It is refused if there is one of its key, or if there is no room for one more. Then it comes back, and nothing has changed. It
     /// costs two searches, and at most three requests for memory.
@@ -218,7 +218,7 @@ impl<T: HasKey, I: Index<T, A>, A: Allocator> Keyed<T, I, A> {
         Ok(())
     }
 
-    /// Adds a value in front of all others, without the search of `insert`. It requires that none has its key.
+    /// Adds a value before all others, without the search of `insert`. It requires that none has its key.
     ///
     /// If there is no room for one more it comes back, and nothing has changed.
     pub fn insert_new(&mut self, value: T) -> Result<(), T>
@@ -233,7 +233,7 @@ impl<T: HasKey, I: Index<T, A>, A: Allocator> Keyed<T, I, A> {
         Ok(())
     }
 
-    /// Puts a value in the place of the one with its key, which comes back, and in front of all others, which keep their order.
+    /// Puts a value in the place of the one with its key, which comes back, and before all others, which keep their order.
     ///
     /// If none has its key the value itself comes back, and nothing has changed. One search.
     pub fn replace(&mut self, value: T) -> Result<T, T>
@@ -247,7 +247,7 @@ impl<T: HasKey, I: Index<T, A>, A: Allocator> Keyed<T, I, A> {
         Ok(self.store.renew(place, value))
     }
 
-    /// Puts a value in the place of the one that was used longest ago, which comes back, and in front of all others, which keep their
+    /// Puts a value in the place of the one that was used longest ago, which comes back, and before all others, which keep their
     /// order. It requires that none has its key.
     ///
     /// If there is no value this one comes back, and nothing has changed. It costs two searches.
@@ -299,7 +299,7 @@ impl<T: HasKey, I: Index<T, A>, A: Allocator> Keyed<T, I, A> {
         }
     }
 
-    // Asks the test of the first value, which goes behind all others if it passes, and out if it does not.
+    // Asks the test of the first value, which goes after all others if it passes, and out if it does not.
     fn test_first<F: Fn(&T) -> bool>(&mut self, keeps: &F)
     where
         T: Drop,

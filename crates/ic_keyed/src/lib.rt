@@ -2,12 +2,12 @@
 //!
 //! ```text
 //! let mut pages = Keyed::new(rt.alloc());
-//! pages.insert(page)?; // in front of all others, if none has its key
-//! let page = pages.get(7); // in front of all others again
+//! pages.insert(page)?; // before all others, if none has its key
+//! let page = pages.get(7); // before all others again
 //! let oldest = pages.pop_last();
 //! ```
 //!
-//! A clause sees one list of values, the one that was used last in front. Each call cuts, joins or filters that list.
+//! A clause sees one list of values, the one that was used last first. Each call cuts, joins or filters that list.
 #![tactic(auto)]
 
 mod insert_error;

@@ -1,8 +1,7 @@
 //! Which value a key finds.
 
 ghost use Rattle.std.specs.Prelude.{◌≡◌, true, IfSome};
-ghost use Rattle.ic_unsafe_ref.specs.Objects.{is_placed};
-ghost use Rattle.ic_link_ops.specs.Positions.{object_there};
+ghost use Rattle.ic_link_ops.specs.Prelude.{is_placed, object_there};
 ghost use Rattle.ic_indexed.specs.Indexed.{values_of};
 ghost use Rattle.ic_keyed.specs.Keyed.{value_with, HaveOwnKeys};
 

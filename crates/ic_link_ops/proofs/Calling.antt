@@ -5,18 +5,13 @@ use Rattle.std.proofs.lemmas.Iterator.Consumers.{YieldsList-from_shown, YieldsLi
 use Rattle.std.specs.declared.iter.Copied.{Copied}
 use Rattle.std.specs.Iterator.Adapters.{copied_source}
 use Rattle.std.proofs.iter.Yields.{copies}
-use Rattle.ic_unsafe_ref.specs.declared.place.Place.{Place}
-use Rattle.ic_link_ops.specs.Tables.{Extent, Table, IsCovered, IsLinked}
-use Rattle.ic_unsafe_ref.specs.Places.{index_of}
-use Rattle.ic_link_ops.specs.Sequences.{IsMember}
-use Rattle.ic_link_ops.specs.LinkSteps.{LinkStep, releases, Replays}
+use Rattle.ic_link_ops.specs.Prelude.{Place, index_of, IsMember, Extent, Table, IsCovered, IsLinked, CursorState, IsValidCursor, HasMember, LinkStep, releases, TraceIs}
 use Rattle.ic_link_ops.specs.EditsAt.{RemovesThere}
-use Rattle.ic_link_ops.specs.Positions.{Site, Stands, HasMember}
 use Rattle.ic_link_ops.proofs.Positions.{gap_there}
 use Rattle.ic_link_ops.proofs.SequenceLemmas.{member_split}
-use Rattle.ic_link_ops.specs.Chains.{ListHead, ShowsChain}
+use Rattle.ic_link_ops.specs.Chains.{ListHead, RepresentsChain}
 use Rattle.ic_link_ops.specs.Walk.{GivesFirst}
-use Rattle.ic_link_ops.proofs.ShownLists.{shows_kept}
+use Rattle.ic_link_ops.proofs.RepresentedLists.{represents_kept}
 
 -- AN UNLINKED OBJECT IS ACCEPTED where a refusal says that it was linked, as over a plain table: what holds of `Ok` holds
 pub accepted : {A X P : Type 0} {was : Bool} (Same : Type 0) (r : Result A X) → was ≡ false → OnErr r ((was ≡ true) × Same) → OnOk r P → P
@@ -29,9 +24,9 @@ either R (Ok a) holds refused unchanged accepts refuses = accepts holds
 either R (Err e) holds refused unchanged accepts refuses = refuses refused unchanged.1
 
 -- LISTS SURVIVE `cover`, whatever it answered: `stays` is its clause
-pub still_shown : {E W : Type 0} {between : E → Option Place → Option Place → Type 0} {kept : Option Place → W} {old new : Table E} {list : ListHead W} {s : List Place}
-    → ((q : Place) → new.entry q ≡ old.entry q) → ShowsChain between kept old list s → ShowsChain between kept new list s
-still_shown stays shown = shows_kept shown (λ q member. stays q)
+pub still_represented : {E W : Type 0} {between : E → Option Place → Option Place → Type 0} {kept : Option Place → W} {old new : Table E} {list : ListHead W} {s : List Place}
+    → ((q : Place) → new.entry q ≡ old.entry q) → RepresentsChain between kept old list s → RepresentsChain between kept new list s
+still_represented stays shown = represents_kept shown (λ q member. stays q)
 
 -- WHAT A WALK LENDS, as a `for`, a `collect` and the like take it: `left s` are the objects left at s, and `is` the clause `walks` of `iter`
 module _ {S T : Type 0} (left : S → List T) where
@@ -46,15 +41,15 @@ module _ {S T : Type 0} (left : S → List T) where
   walk_copied {walk} {copied} source is =
       let lent = walk_yields {walk = walk} is in YieldsList-from_copied {s = copied} (rw (← source) at lent)
 
--- A MEMBER of what is shown stands somewhere in it
+-- A MEMBER of what is represented stands somewhere in it
 pub has_member : (shows : List Place → Type 0) {q : Place} (s : List Place) → shows s → IsMember q s → HasMember shows q
 has_member shows {q} s shown member =
     let m = member_split q s member in record { front = m.0; back = m.1; shown = subst shows m.2 shown }
 
 -- WHAT WAS TAKEN OFF is still covered
-module _ {L E H : Type 0} {Shows : Table E → H → List Place → Type 0} {table : L → Table E} {Does : L → L → List LinkStep → Type 0} (linked : E → Bool)
-    (replays : (a b : L) (s : List LinkStep) → Does a b s → Replays linked (table a) (table b) s) (law : (t : L) (p : Place) → IsLinked linked (table t) p → IsCovered (table t) p) where
-  pub removed_covered : {old new : Site L H} (r : Option Place) → Stands Shows table old → RemovesThere Shows table Does old r new → IfSome r (λ p. IsCovered (table new.links) p)
+module _ {L E H : Type 0} {Represents : Table E → H → List Place → Type 0} {table : L → Table E} {Trace : L → L → List LinkStep → Type 0} (linked : E → Bool)
+    (replays : (a b : L) (s : List LinkStep) → Trace a b s → TraceIs linked (table a) (table b) s) (law : (t : L) (p : Place) → IsLinked linked (table t) p → IsCovered (table t) p) where
+  pub removed_covered : {old new : CursorState L H} (r : Option Place) → IsValidCursor Represents table old → RemovesThere Represents table Trace old r new → IfSome r (λ p. IsCovered (table new.links) p)
   removed_covered None stands h = tt
   removed_covered {old} {new} (Some p) stands h =
       let l = replays old.links new.links (releases p ∷ []) h.released in

@@ -1,9 +1,8 @@
 -- Chains: cut, glued, turned at their ends, and kept where the entries of their members are.
 use Rattle.std.proofs.Common.{◌≡◌, ◌≢◌, Option, Some, None, List, [], ◌∷◌, ◌++◌, reverse, Bool, true, false, refl, sym, ap}
-use Rattle.ic_unsafe_ref.specs.declared.place.Place.{Place}
-use Rattle.ic_link_ops.specs.Sequences.{IsAbsent, IsDistinct, IsDisjoint, first_or, last_or, first, last, but_last}
+use Rattle.ic_link_ops.specs.Prelude.{Place, IsAbsent, IsDistinct, IsDisjoint, first_or, last_or, first, last, but_last}
 use Rattle.ic_link_ops.specs.Chains.{IsChain}
-use Rattle.ic_link_ops.specs.Turns.{TurnsBehind, TurnsBefore}
+use Rattle.ic_link_ops.specs.Turns.{TurnsAfter, TurnsBefore}
 use Rattle.ic_link_ops.proofs.SequenceLemmas.{IsOutside, first_or-append, absent_left, absent_right, distinct_disjoint, distinct_left, distinct_right, distinct_middle, distinct_remove, last_outside, first_outside, last_not, none_not, some_same, disjoint_left, disjoint_right, disjoint_sym, reverse_cons, last_of_reverse}
 
 module _ {E : Type 0} (between : E → Option Place → Option Place → Type 0) where
@@ -39,7 +38,7 @@ module _ {E : Type 0} (between : E → Option Place → Option Place → Type 0)
 
   -- the last of a chain is turned
   pub chain_last : (old new : Place → E) (b : Option Place) (s : List Place) (a a' : Option Place)
-      → TurnsBehind between old new (last s) a a' → IsDistinct s → IsChain between old b s a → IsChain between new b s a'
+      → TurnsAfter between old new (last s) a a' → IsDistinct s → IsChain between old b s a → IsChain between new b s a'
   chain_last old new b [] a a' turn d c = tt
   chain_last old new b (x ∷ []) a a' turn d c = (turn.turned x b refl c.0, tt)
   chain_last old new b (x ∷ y ∷ s) a a' turn d c = (
@@ -56,7 +55,7 @@ module _ {E : Type 0} (between : E → Option Place → Option Place → Type 0)
 
   -- THE TWO SIDES OF A GAP are turned: first the last of s, then the first of r
   pub chain_parts : (t0 t1 t2 : Place → E) (s r : List Place) (f g x y : Option Place) → IsDistinct (s ++ r)
-      → TurnsBehind between t0 t1 (last s) f x → TurnsBefore between t1 t2 (first r) g y
+      → TurnsAfter between t0 t1 (last s) f x → TurnsBefore between t1 t2 (first r) g y
       → IsChain between t0 None s f → IsChain between t0 g r None → IsChain between t2 None s x × IsChain between t2 y r None
   chain_parts t0 t1 t2 s r f g x y d behind before c k =
       let apart = distinct_disjoint s r d in (
@@ -66,7 +65,7 @@ module _ {E : Type 0} (between : E → Option Place → Option Place → Type 0)
 
   -- one place is put between two chains
   pub chain_filled : (t0 t1 t2 t3 : Place → E) (s : List Place) (p : Place) (r : List Place) (f g : Option Place) → IsDistinct (s ++ p ∷ r)
-      → TurnsBehind between t0 t1 (last s) f (Some p) → TurnsBefore between t1 t2 (first r) g (Some p)
+      → TurnsAfter between t0 t1 (last s) f (Some p) → TurnsBefore between t1 t2 (first r) g (Some p)
       → between (t3 p) (last s) (first r) → ((q : Place) → q ≢ p → t3 q ≡ t2 q)
       → IsChain between t0 None s f → IsChain between t0 g r None → IsChain between t3 None (s ++ p ∷ r) None
   chain_filled t0 t1 t2 t3 s p r f g d behind before stands same c k =
@@ -79,8 +78,8 @@ module _ {E : Type 0} (between : E → Option Place → Option Place → Type 0)
   -- another chain is put into a gap: the two sides of the gap are turned first, then its first and its last
   pub chain_spliced : (t0 t1 t2 t3 t4 : Place → E) (s : List Place) (x : Place) (mid r : List Place)
       → IsDistinct (s ++ r) → IsDistinct (x ∷ mid) → IsDisjoint (x ∷ mid) (s ++ r)
-      → TurnsBehind between t0 t1 (last s) (first r) (Some x) → TurnsBefore between t1 t2 (first r) (last s) (last (x ∷ mid))
-      → TurnsBefore between t2 t3 (Some x) None (last s) → TurnsBehind between t3 t4 (last (x ∷ mid)) None (first r)
+      → TurnsAfter between t0 t1 (last s) (first r) (Some x) → TurnsBefore between t1 t2 (first r) (last s) (last (x ∷ mid))
+      → TurnsBefore between t2 t3 (Some x) None (last s) → TurnsAfter between t3 t4 (last (x ∷ mid)) None (first r)
       → IsChain between t0 None (s ++ r) None → IsChain between t0 None (x ∷ mid) None → IsChain between t4 None (s ++ (x ∷ mid ++ r)) None
   chain_spliced t0 t1 t2 t3 t4 s x mid r d e apart turn1 turn2 turn3 turn4 c k =
       let m = x ∷ mid in
@@ -116,7 +115,7 @@ module _ {E : Type 0} (between : E → Option Place → Option Place → Type 0)
   chain_weakened weaker weaken t b [] a c = tt
   chain_weakened weaker weaken t b (x ∷ s) a c = (weaken (t x) b (first_or s a) c.0, chain_weakened weaker weaken t (Some x) s a c.1)
 
-  -- two chains from one place on are one, if an entry and what stands before it tell what stands behind
+  -- two chains from one place on are one, if an entry and what stands before it tell what stands after
   pub chain_one : ((e : E) (a b c : Option Place) → between e a b → between e a c → b ≡ c)
       → (t : Place → E) (b : Option Place) (s r : List Place) → first s ≡ first r → IsChain between t b s None → IsChain between t b r None → s ≡ r
   chain_one one t b [] [] e c k = refl
@@ -135,7 +134,7 @@ module _ {E : Type 0} (between : E → Option Place → Option Place → Type 0)
     chain_absent t b (x ∷ s) a p c free =
         ((λ e. let k : linked (t p) ≡ true = rw e (law (t x) b (first_or s a) c.0) in cc), chain_absent t (Some x) s a p c.1 free)
 
--- the mirror of a relation: what stands before an entry changes places with what stands behind
+-- the mirror of a relation: what stands before an entry changes places with what stands after
 abbrev pub mirrored : {E : Type 0} → (E → Option Place → Option Place → Type 0) → E → Option Place → Option Place → Type 0
 mirrored between e b a = between e a b
 

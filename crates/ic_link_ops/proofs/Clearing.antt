@@ -1,8 +1,6 @@
 -- A list whose members are unlinked one after the other, from the front. The same words serve every kind of list.
 use Rattle.std.proofs.Common.{◌≡◌, ◌≢◌, ◌<◌, Option, Some, None, List, [], ◌∷◌, ◌++◌, drop, length, refl, sym, ◌∙◌, ap, subst, arith, append_assoc, append-nil}
-use Rattle.ic_unsafe_ref.specs.declared.place.Place.{Place}
-use Rattle.ic_link_ops.specs.Sequences.{IsAbsent, IsDistinct, first, last}
-use Rattle.ic_link_ops.specs.Tables.{Table, IsCovered}
+use Rattle.ic_link_ops.specs.Prelude.{Place, IsAbsent, IsDistinct, first, last, Table, IsCovered}
 use Rattle.ic_link_ops.specs.Chains.{IsChain}
 use Rattle.ic_link_ops.specs.Walk.{walked}
 use Rattle.ic_link_ops.proofs.SequenceLemmas.{absent_right, distinct_middle, distinct_right, last_or-append, none_not, first_is}
@@ -41,7 +39,7 @@ module _ {E : Type 0} {between : E → Option Place → Option Place → Type 0}
       → between (new.entry p) (last k.done) (first (drop 1 k.rest))
   next_between {new = new} {p = p} k = let P : List Place → Type 0 = λ l. IsChain between new.entry (last k.done) l None in (subst P (rest_is k) k.chain).0
 
-  -- ONE STEP: it is unlinked, and the one behind it is next
+  -- ONE STEP: it is unlinked, and the one after it is next
   pub releases_more : {old new new' : Table E} {s : List Place} {p : Place} {current : Option Place} → IsDistinct s
       → (k : Releases between old new s (Some p)) → ((q : Place) → q ≢ p → new'.entry q ≡ new.entry q)
       → current ≡ first (drop 1 k.rest) → (k' : Releases between old new' s current) × (k.rest ≡ p ∷ k'.rest) × (k'.done ≡ k.done ++ p ∷ [])
@@ -71,7 +69,7 @@ module _ {E : Type 0} {between : E → Option Place → Option Place → Type 0}
     whole [] parts none = sym (parts ∙ append-nil k.done)
     whole (x ∷ rest) parts none = absurd (none_not x (sym none))
 
-  -- what is left is what a walk from there comes by: `step e before` is what stands behind the place of e
+  -- what is left is what a walk from there comes by: `step e before` is what stands after the place of e
   pub releases_left : (step : E → Option Place → Option Place) → ((e : E) (before behind : Option Place) → between e before behind → step e before ≡ behind)
       → {old new : Table E} {s : List Place} {current : Option Place} → ((q : Place) (b a : Option Place) → between (new.entry q) b a → IsCovered new q)
       → IsDistinct s → (k : Releases between old new s current) → walked step new (last k.done) current None ≡ k.rest
@@ -79,7 +77,7 @@ module _ {E : Type 0} {between : E → Option Place → Option Place → Type 0}
       stretch_through step law new covered {b = last k.done} {from = current} {to = last k.rest}
       (record { distinct = distinct_right k.done k.rest (subst IsDistinct k.parts d); chain = k.chain; starts = k.at; ends = refl })
 
-  -- whatever stands before, where the entry alone tells what stands behind
+  -- whatever stands before, where the entry alone tells what stands after
   pub releases_left_blind : (next : E → Option Place) → ((e : E) (before behind : Option Place) → between e before behind → next e ≡ behind)
       → {old new : Table E} {s : List Place} {current : Option Place} → ((q : Place) (b a : Option Place) → between (new.entry q) b a → IsCovered new q)
       → IsDistinct s → (k : Releases between old new s current) → walked (λ e before. next e) new None current None ≡ k.rest

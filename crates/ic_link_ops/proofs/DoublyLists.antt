@@ -1,15 +1,12 @@
 -- Doubly linked lists: their setters turn, what their entries tell, and their walks.
 use Rattle.std.proofs.Common.{◌≡◌, ◌≢◌, ◌≤◌, Option, Some, None, List, [], ◌∷◌, ◌++◌, length, Bool, true, refl, sym, ◌∙◌, ap}
-use Rattle.ic_unsafe_ref.specs.declared.place.Place.{Place}
-use Rattle.ic_link_ops.specs.Sequences.{first, IsDistinct}
-use Rattle.ic_link_ops.specs.Tables.{Table, IsCovered, IsLinked, ChangesOnly}
+use Rattle.ic_link_ops.specs.Prelude.{Place, index_of, first, IsDistinct, Table, IsCovered, IsLinked, ChangesOnly}
 use Rattle.ic_link_ops.specs.Chains.{Ends, no_members}
-use Rattle.ic_link_ops.specs.Turns.{TurnsBehind, TurnsBefore}
-use Rattle.ic_link_ops.specs.LinkedList.{Neighbors, neighbors_at, IsBetween, Shows, next_of, members_between, members, IsWalk}
-use Rattle.ic_unsafe_ref.specs.Places.{index_of}
-use Rattle.ic_link_ops.specs.DoublyEntries.{DoublyLinkOps, neighbors_of, is_linked, entries, linked_in_range, plain_table, PlainShows, members_of}
-use Rattle.ic_link_ops.proofs.Turning.{turns_behind, turns_before}
-use Rattle.ic_link_ops.proofs.ShownLists.{shows_frame, shows_one, free_absent}
+use Rattle.ic_link_ops.specs.Turns.{TurnsAfter, TurnsBefore}
+use Rattle.ic_link_ops.specs.LinkedList.{Neighbors, neighbors_at, IsBetween, Represents, next_of, members_between, members, IsWalk}
+use Rattle.ic_link_ops.specs.DoublyEntries.{DoublyLinkOps, neighbors_of, is_linked, entries, linked_in_range, plain_table, PlainRepresents, members_of}
+use Rattle.ic_link_ops.proofs.Turning.{turns_after, turns_before}
+use Rattle.ic_link_ops.proofs.RepresentedLists.{represents_frame, represents_one, free_absent}
 use Rattle.ic_link_ops.proofs.CollectionLaws.{IsKind}
 use Rattle.ic_link_ops.proofs.Clearing.{Releases, releases_left_blind}
 use Rattle.ic_link_ops.proofs.Walks.{walk_blind, walked_from_gap, stretch_walked, stretch_length, stretch_one, stretch_more, stretch_less, stretch_none, stretch_empty, stretch_empty_back, stretch_between, stretch_first, stretch_last}
@@ -22,16 +19,16 @@ neighbors_covered n table covered alike t q h = covered t q (sym (alike _) ∙ h
 module _ {E : Type 0} {n : E → Neighbors} where
   -- EACH SETTER gives a turn, whatever stood there
   pub next_turns : {old new : Table E} {p : Place} {to : Option Place} (from : Option Place) → ChangesOnly old new p
-      → neighbors_at n new p ≡ record (neighbors_at n old p) { next = to } → TurnsBehind (IsBetween n) old.entry new.entry (Some p) from to
+      → neighbors_at n new p ≡ record (neighbors_at n old p) { next = to } → TurnsAfter (IsBetween n) old.entry new.entry (Some p) from to
   next_turns from frame set =
-      turns_behind frame (λ a h. record { linked = ap (λ x. x.linked) set ∙ h.linked; prev = ap (λ x. x.prev) set ∙ h.prev; next = ap (λ x. x.next) set })
+      turns_after frame (λ a h. record { linked = ap (λ x. x.linked) set ∙ h.linked; prev = ap (λ x. x.prev) set ∙ h.prev; next = ap (λ x. x.next) set })
 
   pub prev_turns : {old new : Table E} {p : Place} {to : Option Place} (from : Option Place) → ChangesOnly old new p
       → neighbors_at n new p ≡ record (neighbors_at n old p) { prev = to } → TurnsBefore (IsBetween n) old.entry new.entry (Some p) from to
   prev_turns from frame set =
       turns_before frame (λ b h. record { linked = ap (λ x. x.linked) set ∙ h.linked; prev = ap (λ x. x.prev) set; next = ap (λ x. x.next) set ∙ h.next })
 
-  -- an entry and what stands before it tell what stands behind
+  -- an entry and what stands before it tell what stands after
   pub between_one : (e : E) (a b c : Option Place) → IsBetween n e a b → IsBetween n e a c → b ≡ c
   between_one e a b c h k = sym h.next ∙ k.next
 
@@ -45,9 +42,9 @@ module _ {E : Type 0} {n : E → Neighbors} where
   walk_length t covered from to w k = stretch_length t (λ q b a h. covered q h.linked) k.part
 
   -- the walk gives what stands between its ends
-  pub walk_shown : (t : Table E) → ((q : Place) → (n (t.entry q)).linked ≡ true → IsCovered t q)
+  pub walk_represented : (t : Table E) → ((q : Place) → (n (t.entry q)).linked ≡ true → IsCovered t q)
       → (from to : Option Place) (w : List Place) → IsWalk n t.entry from to w → members_between n t from to ≡ w
-  walk_shown t covered from to w k =
+  walk_represented t covered from to w k =
       walk_blind (λ e. (n e).next) t.entry t.extent.places None k.before from to
       ∙ stretch_walked (next_of n) (λ e a b h. h.next) t (λ q b a h. covered q h.linked) k.part
 
@@ -55,7 +52,7 @@ module _ {E : Type 0} {n : E → Neighbors} where
   pub walk_last : (t : Place → E) (p : Place) (w : List Place) → IsWalk n t (Some p) (Some p) w → w ≡ p ∷ []
   walk_last t p w k = stretch_one k.part
 
-  -- another one goes on behind its first member
+  -- another one goes on after its first member
   pub walk_more : (t : Place → E) (p : Place) (to : Option Place) (w : List Place) → IsWalk n t (Some p) to w → to ≢ Some p
       → (r : List Place) × (w ≡ p ∷ r) × IsWalk n t ((n (t p)).next) to r
   walk_more t p to w k apart =
@@ -87,24 +84,24 @@ module _ {E : Type 0} {n : E → Neighbors} where
   walk_empty_back t from to w e k = stretch_empty_back e k.part
 
   -- a list's members are a walk
-  pub walk_of : (t : Table E) {list : Ends} {s : List Place} → Shows n t list s → IsWalk n t.entry list.head list.tail s
+  pub walk_of : (t : Table E) {list : Ends} {s : List Place} → Represents n t list s → IsWalk n t.entry list.head list.tail s
   walk_of t h = record { before = None; behind = None; part = stretch_between h }
 
-  -- THE MEMBERS of a list are the one sequence that the table shows for it
-  pub members_shown : (t : Table E) → ((q : Place) → (n (t.entry q)).linked ≡ true → IsCovered t q)
-      → (list : Ends) (s : List Place) → Shows n t list s → members n t list ≡ s
-  members_shown t covered list s shown = walk_shown t covered list.head list.tail s (walk_of t shown)
+  -- THE MEMBERS of a list are the one sequence that the table represents for it
+  pub members_represented : (t : Table E) → ((q : Place) → (n (t.entry q)).linked ≡ true → IsCovered t q)
+      → (list : Ends) (s : List Place) → Represents n t list s → members n t list ≡ s
+  members_represented t covered list s shown = walk_represented t covered list.head list.tail s (walk_of t shown)
 
   -- and they are no more than what the table covers
-  pub shown_length : (t : Table E) → ((q : Place) → (n (t.entry q)).linked ≡ true → IsCovered t q)
-      → (list : Ends) (s : List Place) → Shows n t list s → length s ≤ t.extent.places
-  shown_length t covered list s shown = walk_length t covered list.head list.tail s (walk_of t shown)
+  pub represented_length : (t : Table E) → ((q : Place) → (n (t.entry q)).linked ≡ true → IsCovered t q)
+      → (list : Ends) (s : List Place) → Represents n t list s → length s ≤ t.extent.places
+  represented_length t covered list s shown = walk_length t covered list.head list.tail s (walk_of t shown)
 
-  -- the members behind a gap
-  pub members_behind : (t : Table E) → ((q : Place) → (n (t.entry q)).linked ≡ true → IsCovered t q)
-      → {list : Ends} (front back : List Place) {position : Option Place} → Shows n t list (front ++ back) → position ≡ first back
+  -- the members after a gap
+  pub members_after : (t : Table E) → ((q : Place) → (n (t.entry q)).linked ≡ true → IsCovered t q)
+      → {list : Ends} (front back : List Place) {position : Option Place} → Represents n t list (front ++ back) → position ≡ first back
       → members_between n t position None ≡ back
-  members_behind t covered front back shown here =
+  members_after t covered front back shown here =
       walked_from_gap {between = IsBetween n} (λ e. (n e).next) (λ e b a h. h.next) t (λ q b a h. covered q h.linked) front back shown.distinct shown.chain here
 
   -- and those that are left while a list is cleared
@@ -113,17 +110,17 @@ module _ {E : Type 0} {n : E → Neighbors} where
   members_uncleared covered d k = releases_left_blind (λ e. (n e).next) (λ e b a h. h.next) (λ q b a h. covered q h.linked) d k
 
 -- the five facts of doubly linked lists, where both traits say alike whether a place is linked
-pub doubly_lists : {E : Type 0} {n : E → Neighbors} {linked : E → Bool} → ((e : E) → (n e).linked ≡ linked e) → IsKind (Shows n) linked no_members
+pub doubly_lists : {E : Type 0} {n : E → Neighbors} {linked : E → Bool} → ((e : E) → (n e).linked ≡ linked e) → IsKind (Represents n) linked no_members
 doubly_lists {n = n} alike = record {
-  frame = λ old new list s touched shown apart same. shows_frame touched shown apart same;
+  frame = λ old new list s touched shown apart same. represents_frame touched shown apart same;
   free = λ t list s p shown off. free_absent (between_linked alike) shown off;
   distinct = λ t list s shown. shown.distinct;
   nothing = λ t. record { distinct = tt; chain = tt; head = refl; tail = refl };
-  one = λ t list s u shown other. shows_one (between_one {n = n}) shown other;
+  one = λ t list s u shown other. represents_one (between_one {n = n}) shown other;
 }
 
 -- THE PLAIN TABLE brings them too
-pub plain_lists : IsKind (Shows neighbors_of) is_linked no_members
+pub plain_lists : IsKind (Represents neighbors_of) is_linked no_members
 plain_lists = doubly_lists (λ e. refl)
 
 module _ {A : Type 0} (links : DoublyLinkOps A) where
@@ -131,6 +128,6 @@ module _ {A : Type 0} (links : DoublyLinkOps A) where
   pub plain_covered : (p : Place) → IsLinked is_linked (plain_table links) p → IsCovered (plain_table links) p
   plain_covered p linked = linked_in_range (entries links) (index_of p) linked
 
-  -- and the members of a list are what it shows for it
-  pub plain_members : {list : Ends} {s : List Place} → PlainShows links list s → members_of links list ≡ s
-  plain_members {list} {s} shown = members_shown (plain_table links) plain_covered list s shown
+  -- and the members of a list are what it represents for it
+  pub plain_members : {list : Ends} {s : List Place} → PlainRepresents links list s → members_of links list ≡ s
+  plain_members {list} {s} shown = members_represented (plain_table links) plain_covered list s shown

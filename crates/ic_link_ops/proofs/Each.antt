@@ -1,8 +1,7 @@
 -- What holds of each of a list, and of each of its parts.
 use Rattle.std.proofs.Common.{List, [], ◌∷◌, ◌++◌, refl}
 use Rattle.std.specs.List.{AllByRecursion}
-use Rattle.ic_unsafe_ref.specs.declared.place.Place.{Place}
-use Rattle.ic_link_ops.specs.Sequences.{IsMember}
+use Rattle.ic_link_ops.specs.Prelude.{Place, IsMember}
 
 module _ {X : Type 0} (P : X → Type 0) where
   pub all_front : (s t : List X) → AllByRecursion P (s ++ t) → AllByRecursion P s

@@ -1,30 +1,26 @@
--- A walk that edits on its way to null: what it has left behind, what it has taken off, and what is ahead of it. The same words serve
+-- A walk that edits on its way to null: what it has left after, what it has taken off, and what is ahead of it. The same words serve
 -- every kind.
 use Rattle.std.proofs.Common.{◌≡◌, ◌∙◌, sym, refl, Option, Some, List, [], ◌∷◌, ◌++◌, append_assoc}
-use Rattle.ic_unsafe_ref.specs.declared.place.Place.{Place}
-use Rattle.ic_link_ops.specs.Sequences.{Cut, first, IsAbsent}
-use Rattle.ic_link_ops.specs.Tables.{Table, KeepsBeside}
-use Rattle.ic_link_ops.specs.LinkSteps.{LinkStep, releases_each}
-use Rattle.ic_link_ops.specs.Positions.{Site, site, MovesOn}
+use Rattle.ic_link_ops.specs.Prelude.{Place, Cut, first, IsAbsent, Table, ChangesOnlyIn, CursorState, site, MovesOn, LinkStep, releases_each}
 use Rattle.ic_link_ops.specs.EditsAt.{RemovesThere}
 use Rattle.ic_link_ops.proofs.Covering.{frames_join}
 use Rattle.ic_link_ops.proofs.SequenceLemmas.{absent_without, last_of_push}
 use Rattle.ic_link_ops.proofs.StepLemmas.{releases_append}
 
--- `Shows t head s`: the table shows s for the collection with this head
-module _ {L E H : Type 0} (Shows : Table E → H → List Place → Type 0) (table : L → Table E) (Does : L → L → List LinkStep → Type 0) where
+-- `Represents t head s`: the table represents s for the collection with this head
+module _ {L E H : Type 0} (Represents : Table E → H → List Place → Type 0) (table : L → Table E) (Trace : L → L → List LinkStep → Type 0) where
   -- from a table that showed s for the collection, the walk has come here
-  pub record Walked (start : L) (s : List Place) (now : Site L H) (behind gone ahead : List Place) : Type 0 where
-    pub shown : Shows (table now.links) now.head (behind ++ ahead)
+  pub record Walked (start : L) (s : List Place) (now : CursorState L H) (behind gone ahead : List Place) : Type 0 where
+    pub shown : Represents (table now.links) now.head (behind ++ ahead)
     pub here : now.position ≡ first ahead
-    pub steps : Does start now.links (releases_each gone)
-    pub frame : KeepsBeside (table start) (table now.links) s
+    pub steps : Trace start now.links (releases_each gone)
+    pub frame : ChangesOnlyIn (table start) (table now.links) s
     pub within : (q : Place) → IsAbsent q s → IsAbsent q (behind ++ ahead)
 
-module _ {L E H : Type 0} {Shows : Table E → H → List Place → Type 0} {table : L → Table E} {Does : L → L → List LinkStep → Type 0} where
+module _ {L E H : Type 0} {Represents : Table E → H → List Place → Type 0} {table : L → Table E} {Trace : L → L → List LinkStep → Type 0} where
   -- at first all is ahead
-  pub walk_begins : {now : Site L H} {s : List Place} → Does now.links now.links [] → Shows (table now.links) now.head s → now.position ≡ first s
-      → Walked Shows table Does now.links s now [] [] s
+  pub walk_begins : {now : CursorState L H} {s : List Place} → Trace now.links now.links [] → Represents (table now.links) now.head s → now.position ≡ first s
+      → Walked Represents table Trace now.links s now [] [] s
   walk_begins nothing shown here = record {
     shown = shown;
     here = here;
@@ -33,10 +29,10 @@ module _ {L E H : Type 0} {Shows : Table E → H → List Place → Type 0} {tab
     within = λ q out. out;
   }
 
-  module _ {start : L} {s : List Place} {now : Site L H} {behind gone ahead : List Place} {p : Place} (w : Walked Shows table Does start s now behind gone (p ∷ ahead)) where
-    -- ONE STEP: the walk moves on, and the member is behind it
-    pub walk_leaves : {position : Option Place} → MovesOn Shows table now position
-        → Walked Shows table Does start s (site now.links now.head position) (behind ++ p ∷ []) gone ahead
+  module _ {start : L} {s : List Place} {now : CursorState L H} {behind gone ahead : List Place} {p : Place} (w : Walked Represents table Trace start s now behind gone (p ∷ ahead)) where
+    -- ONE STEP: the walk moves on, and the member is after it
+    pub walk_leaves : {position : Option Place} → MovesOn Represents table now position
+        → Walked Represents table Trace start s (site now.links now.head position) (behind ++ p ∷ []) gone ahead
     walk_leaves moves =
         let gap : Cut = record { front = behind ++ p ∷ []; back = ahead } in
         let same = append_assoc behind (p ∷ []) ahead in record {
@@ -48,8 +44,8 @@ module _ {L E H : Type 0} {Shows : Table E → H → List Place → Type 0} {tab
         }
 
     -- or it takes the member off
-    pub walk_takes : ((a b c : L) (u v : List LinkStep) → Does a b u → Does b c v → Does a c (u ++ v)) → {new : Site L H} {r : Option Place}
-        → RemovesThere Shows table Does now r new → Walked Shows table Does start s new behind (gone ++ p ∷ []) ahead
+    pub walk_takes : ((a b c : L) (u v : List LinkStep) → Trace a b u → Trace b c v → Trace a c (u ++ v)) → {new : CursorState L H} {r : Option Place}
+        → RemovesThere Represents table Trace now r new → Walked Represents table Trace start s new behind (gone ++ p ∷ []) ahead
     walk_takes does_on {new} {r} e =
         let is : r ≡ Some p = e.answer ∙ w.here in
         let gap : Cut = record { front = behind; back = p ∷ ahead } in

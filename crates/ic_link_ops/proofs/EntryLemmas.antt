@@ -3,10 +3,8 @@ use Rattle.std.proofs.Common.{◌≡◌, ◌≢◌, ℕ, ◌∷◌, ◌<◌, Lis
 use Rattle.std.proofs.lemmas.List.{get_or-set_other, get_or_default, length-set}
 use Rattle.std.proofs.Math.Seq.{map-set_same}
 use Rattle.std.proofs.lemmas.Grind.{get_or-set_at}
-use Rattle.ic_unsafe_ref.specs.declared.place.Place.{Place}
-use Rattle.ic_unsafe_ref.specs.Places.{index_of, place_at, word_of}
+use Rattle.ic_link_ops.specs.Prelude.{Place, index_of, place_at, word_of, ChangesOnly, LinksAlso}
 use Rattle.ic_unsafe_ref.proofs.PlaceLemmas.{same_index, place_at_word}
-use Rattle.ic_link_ops.specs.Tables.{ChangesOnly, LinksAlso}
 use Rattle.ic_link_ops.specs.PlainTables.{entry_at, table_with, values_beside, linked_by}
 use Rattle.ic_link_ops.specs.Links.{link_of, words_of, value_of}
 use Rattle.ic_link_ops.specs.Readings.{successor_of, neighbors_of}
@@ -27,20 +25,20 @@ module _ {E : Type 0} (d : E) where
   pub entry_read : (es : List E) (p : Place) (e beyond : E) (i : ℕ) → i ≡ index_of p → index_of p < length es → e ≡ slice_index_or es i beyond → entry_at d es p ≡ e
   entry_read es p e beyond i at_p covered read = rw (← at_p) (get_or_default es i d beyond (rw at_p covered) ∙ sym read)
 
-module _ {W V : Type 0} (told : List V → List ℕ) where
+module _ {W V : Type 0} (printed : List V → List ℕ) where
   -- A WRITE AT p THAT LEAVES THE VALUE BESIDE changes only the entry of p
   pub changes_only : (d : Link W V) (es : List (Link W V)) (p : Place) (old new beyond : Link W V) (i : ℕ) → i ≡ index_of p → old ≡ slice_index_or es i beyond → value_of new ≡ value_of old
-      → ChangesOnly (table_with d (told (values_beside es)) es) (table_with d (told (values_beside (slice_set es i new))) (slice_set es i new)) p
+      → ChangesOnly (table_with d (printed (values_beside es)) es) (table_with d (printed (values_beside (slice_set es i new))) (slice_set es i new)) p
   changes_only d es p old new beyond i at_p read stays = record {
-    extent = λ k. record { places = length-set es i new k; identity = told (map-set_same value_of es i new beyond (stays ∙ ap value_of read) k) };
+    extent = λ k. record { places = length-set es i new k; identity = printed (map-set_same value_of es i new beyond (stays ∙ ap value_of read) k) };
     others = others_same d es p new i at_p;
   }
 
 -- of a table that is lent as well
-module _ {W V : Type 0} (told : List V → List ℕ) where
+module _ {W V : Type 0} (printed : List V → List ℕ) where
   pub view_changes_only : {name : ℕ} (d : Link W V) (es : List (Link W V)) (p : Place) (old new beyond : Link W V) (i : ℕ) → i ≡ index_of p → old ≡ slice_index_or es i beyond → value_of new ≡ value_of old
-      → ChangesOnly (table_with d (name ∷ told (values_beside es)) es) (table_with d (name ∷ told (values_beside (slice_set es i new))) (slice_set es i new)) p
-  view_changes_only {name} = changes_only (λ vs. name ∷ told vs)
+      → ChangesOnly (table_with d (name ∷ printed (values_beside es)) es) (table_with d (name ∷ printed (values_beside (slice_set es i new))) (slice_set es i new)) p
+  view_changes_only {name} = changes_only (λ vs. name ∷ printed vs)
 
 module _ {W V : Type 0} (is_linked : W → Bool) (d : Link W V) where
   -- A WRITE THAT LINKS: the place was unlinked, is linked now, and all others are as they were

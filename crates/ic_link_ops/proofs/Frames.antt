@@ -33,7 +33,7 @@ same_cut (x ∷ a) q b (z ∷ s) p t e =
     next x z a q b s p t h (here e f g) = here (cc) f g
     next x z a q b s p t h (behind m e f) = behind m (cc) f
 
--- the tree t0 below the frames fs0, seen from its member p, with s in front of p and t behind it within t0
+-- the tree t0 below the frames fs0, seen from its member p, with s before p and t after it within t0
 abbrev pub Focused : List Frame → Tree → List Place → Place → List Place → Type 0
 Focused fs0 t0 s p t =
     (fs : List Frame) × (c : Color) × (a b : Tree) × (plug fs (fork c a p b) ≡ plug fs0 t0)

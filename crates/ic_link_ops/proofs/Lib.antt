@@ -2,7 +2,7 @@ pub mod Each
 pub mod SequenceLemmas
 pub mod Counting
 pub mod Chains
-pub mod ShownLists
+pub mod RepresentedLists
 pub mod Covering
 pub mod Naming
 pub mod WidthLemmas
@@ -24,7 +24,7 @@ pub mod DoublyLists
 pub mod SinglyLists
 pub mod XorLists
 pub mod Trees
-pub mod ShownTrees
+pub mod RepresentedTrees
 pub mod Times
 pub mod Frames
 pub mod EntryLemmas

@@ -1,10 +1,8 @@
 -- Whether a place is a member: a walk from the front looks for it. The same words serve every kind of list.
 use Rattle.std.proofs.Common.{◌≡◌, ◌≢◌, ◌↔◌, Option, Some, None, List, [], ◌∷◌, ◌++◌, drop, true, false, IsTrue, nat_eq, refl, sym, ◌∙◌, ap, subst, eqb-true}
 use Rattle.std.proofs.lemmas.Bool.{eqb-false}
-use Rattle.ic_unsafe_ref.specs.declared.place.Place.{Place}
+use Rattle.ic_link_ops.specs.Prelude.{Place, IsAbsent, IsMember, IsDistinct, first, last, Table, IsCovered}
 use Rattle.ic_unsafe_ref.proofs.PlaceLemmas.{same_index, word_tells}
-use Rattle.ic_link_ops.specs.Sequences.{IsAbsent, IsMember, IsDistinct, first, last}
-use Rattle.ic_link_ops.specs.Tables.{Table, IsCovered}
 use Rattle.ic_link_ops.specs.Chains.{IsChain}
 use Rattle.ic_link_ops.specs.Walk.{walked}
 use Rattle.ic_link_ops.proofs.SequenceLemmas.{absent_right, absent_both, first_is}
@@ -23,7 +21,7 @@ module _ {E : Type 0} {between : E → Option Place → Option Place → Type 0}
   unfolding releases_none
   seeks_none chain starts = record { walk = releases_none chain starts; passed = tt }
 
-  -- ONE STEP: the member is another place, and the one behind it is next
+  -- ONE STEP: the member is another place, and the one after it is next
   pub seeks_more : {t : Table E} {s : List Place} {q p : Place} {current : Option Place} → IsDistinct s → (k : Seeks between t s q (Some p))
       → nat_eq p.word q.word ≡ false → current ≡ first (drop 1 k.walk.rest)
       → (k' : Seeks between t s q current) × (k.walk.rest ≡ p ∷ k'.walk.rest) × (k'.walk.done ≡ k.walk.done ++ p ∷ [])

@@ -1,7 +1,6 @@
 -- For which ends the words of a table have room.
 use Rattle.std.proofs.Common.{◌≡◌, Option, Some, None, refl}
-use Rattle.ic_unsafe_ref.specs.declared.place.Place.{Place}
-use Rattle.ic_link_ops.specs.Tables.{IsNameable}
+use Rattle.ic_link_ops.specs.Prelude.{Place, IsNameable}
 
 -- for one that is none, or a place for which there is room
 pub end_named : (can : Place → Type 0) (o : Option Place) → ((q : Place) → o ≡ Some q → can q) → IsNameable can o

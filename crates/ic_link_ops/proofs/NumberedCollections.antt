@@ -2,14 +2,10 @@
 use Rattle.std.proofs.Common.{◌≡◌, ◌≢◌, ℕ, Bool, Option, Some, None, IsSome, List, [], ◌∷◌, ◌++◌, drop, inl, inr, refl, sym, ap, ◌∙◌, subst, true≢false}
 use Rattle.std.proofs.lemmas.Bool.Decides.{eqb_tells}
 use Rattle.std.specs.List.{AllByRecursion, cons_option}
-use Rattle.ic_unsafe_ref.specs.declared.place.Place.{Place}
-use Rattle.ic_unsafe_ref.specs.Objects.{Objects, Frees, object_at}
+use Rattle.ic_link_ops.specs.Prelude.{Place, Objects, Frees, object_at, IsAbsent, IsDisjoint, first, Table, IsUnlinked, ChangesOnlyIn, LinksAlso, Unlinks, ArePlaced, StandAt, values_at}
 use Rattle.ic_unsafe_ref.proofs.Placing.{others_left}
-use Rattle.ic_link_ops.specs.PlacedObjects.{ArePlaced, StandAt, values_at}
-use Rattle.ic_link_ops.specs.Sequences.{IsAbsent, IsDisjoint, first}
-use Rattle.ic_link_ops.specs.Tables.{Table, IsUnlinked, KeepsBeside, LinksAlso, Unlinks}
 use Rattle.ic_link_ops.specs.NumberedCollections.{with_at, IsNumbered, HasNumbered}
-use Rattle.ic_link_ops.proofs.CollectionLaws.{IsKind, kept_shown, others_stay}
+use Rattle.ic_link_ops.proofs.CollectionLaws.{IsKind, kept_represented, others_stay}
 use Rattle.ic_link_ops.proofs.LinkedSets.{everywhere}
 use Rattle.ic_link_ops.proofs.PlacedValues.{stand_beside, stand_last, stand_first, stand_rest}
 use Rattle.ic_link_ops.proofs.SequenceLemmas.{absent_left, disjoint_cons, first_is, split_member}
@@ -68,17 +64,17 @@ module _ {T : Type 0} (number : T → ℕ) where
     none_shared apart [] t all_s all_t = tt
     none_shared apart (x ∷ s) t all_s all_t = (elsewhere apart x all_s.0 t all_t, none_shared apart s t all_s.1 all_t)
 
-module _ {E H T : Type 0} {Shows : Table E → H → List Place → Type 0} {linked : E → Bool} {empty : H} (kind : IsKind Shows linked empty) {number : T → ℕ} where
+module _ {E H T : Type 0} {Represents : Table E → H → List Place → Type 0} {linked : E → Bool} {empty : H} (kind : IsKind Represents linked empty) {number : T → ℕ} where
   -- A TABLE THAT LINKS NOTHING has empty collections
   pub numbered_none : {t : Table E} {heads : ℕ → H} (objects : Objects T) → ((i : ℕ) → heads i ≡ empty) → ((p : Place) → IsUnlinked linked t p)
-      → HasNumbered Shows linked number t heads objects (λ i. [])
+      → HasNumbered Represents linked number t heads objects (λ i. [])
   numbered_none {t} objects none unlinked = record {
     members = λ i. [];
     each = λ i. record { shown = rw (none i) (kind.nothing t); stand = record { placed = tt; are = refl }; own = tt };
     only = λ p out. unlinked p;
   }
 
-  module _ {old : Table E} {heads : ℕ → H} {objects : Objects T} {values : ℕ → List T} (has : HasNumbered Shows linked number old heads objects values) where
+  module _ {old : Table E} {heads : ℕ → H} {objects : Objects T} {values : ℕ → List T} (has : HasNumbered Represents linked number old heads objects values) where
     -- two of them share no member,
     pub numbered_apart : (i j : ℕ) → i ≢ j → IsDisjoint (has.members i) (has.members j)
     numbered_apart i j apart = none_shared number objects apart (has.members i) (has.members j) (all i) (all j) where
@@ -90,16 +86,16 @@ module _ {E H T : Type 0} {Shows : Table E → H → List Place → Type 0} {lin
     numbered_free {p} off i = kind.free old (heads i) (has.members i) p (has.each i).shown off
 
     -- AFTER `cover`, whatever it answered
-    pub numbered_covered : {new : Table E} → ((q : Place) → new.entry q ≡ old.entry q) → HasNumbered Shows linked number new heads objects values
+    pub numbered_covered : {new : Table E} → ((q : Place) → new.entry q ≡ old.entry q) → HasNumbered Represents linked number new heads objects values
     numbered_covered stays = record {
       members = has.members;
-      each = λ i. let k = has.each i in record { shown = kept_shown kind stays k.shown; stand = k.stand; own = k.own };
+      each = λ i. let k = has.each i in record { shown = kept_represented kind stays k.shown; stand = k.stand; own = k.own };
       only = λ p out. ap linked (stays p) ∙ has.only p out;
     }
 
     -- AFTER AN OBJECT was placed or taken out that is not linked here
     pub numbered_beside : {new : Objects T} {p : Place} → IsUnlinked linked old p → ((q : Place) → q ≢ p → object_at new q ≡ object_at objects q)
-        → HasNumbered Shows linked number old heads new values
+        → HasNumbered Represents linked number old heads new values
     numbered_beside {new} {p} off same = record {
       members = has.members;
       each = λ i. let k = has.each i in record { shown = k.shown; stand = stand_beside objects new p same (numbered_free off i) k.stand; own = k.own };
@@ -108,12 +104,12 @@ module _ {E H T : Type 0} {Shows : Table E → H → List Place → Type 0} {lin
 
     -- AFTER `push_back` of an object onto the list where it belongs
     module _ {new : Table E} {after : ℕ → H} {p : Place} {v : T} (there : object_at objects p ≡ Some v) where
-      pub numbered_pushed : ((s : List Place) → Shows old (heads (number v)) s → Shows new (after (number v)) (s ++ p ∷ [])) → ((i : ℕ) → i ≢ number v → after i ≡ heads i)
-          → LinksAlso linked old new p → ((s : List Place) → Shows old (heads (number v)) s → KeepsBeside old new (p ∷ s))
-          → HasNumbered Shows linked number new after objects (with_at values (number v) (values (number v) ++ v ∷ []))
+      pub numbered_pushed : ((s : List Place) → Represents old (heads (number v)) s → Represents new (after (number v)) (s ++ p ∷ [])) → ((i : ℕ) → i ≢ number v → after i ≡ heads i)
+          → LinksAlso linked old new p → ((s : List Place) → Represents old (heads (number v)) s → ChangesOnlyIn old new (p ∷ s))
+          → HasNumbered Represents linked number new after objects (with_at values (number v) (values (number v) ++ v ∷ []))
       numbered_pushed pushed others also frame = record {
         members = with_at has.members k (has.members k ++ p ∷ []);
-        each = by_number (IsNumbered Shows linked number new after objects) here other;
+        each = by_number (IsNumbered Represents linked number new after objects) here other;
         only = λ q. everywhere (λ q. ((i : ℕ) → IsAbsent q (with_at has.members k (has.members k ++ p ∷ []) i)) → IsUnlinked linked new q) p q
             (λ out. absurd (split_member (has.members k) p [] (subst (IsAbsent p) (at_number has.members k (has.members k ++ p ∷ [])) (out k))))
             (λ n out. also.others q n ∙ has.only q (before_at (IsAbsent q) has.members k (has.members k ++ p ∷ []) (absent_left q (has.members k) (p ∷ [])) out));
@@ -121,13 +117,13 @@ module _ {E H T : Type 0} {Shows : Table E → H → List Place → Type 0} {lin
         k : ℕ
         k = number v
 
-        here : IsNumbered Shows linked number new after objects (number v) (has.members (number v) ++ p ∷ []) (values (number v) ++ v ∷ [])
+        here : IsNumbered Represents linked number new after objects (number v) (has.members (number v) ++ p ∷ []) (values (number v) ++ v ∷ [])
         here = let e = has.each (number v) in record { shown = pushed (has.members (number v)) e.shown; stand = stand_last objects p there e.stand; own = all_more (values (number v)) e.own } where
           all_more : (s : List T) → AllByRecursion (λ x. number x ≡ number v) s → AllByRecursion (λ x. number x ≡ number v) (s ++ v ∷ [])
           all_more [] all = (refl, tt)
           all_more (x ∷ s) all = (all.0, all_more s all.1)
 
-        other : (i : ℕ) → i ≢ number v → IsNumbered Shows linked number new after objects i (has.members i) (values i)
+        other : (i : ℕ) → i ≢ number v → IsNumbered Represents linked number new after objects i (has.members i) (values i)
         other i n =
             let e = has.each i in
             let apart = disjoint_cons p (has.members i) (has.members (number v)) (numbered_free also.was i) (numbered_apart i (number v) n) in
@@ -142,31 +138,31 @@ module _ {E H T : Type 0} {Shows : Table E → H → List Place → Type 0} {lin
       pub numbered_own : number v ≡ k
       numbered_own = (subst (AllByRecursion (λ x. number x ≡ k)) numbered_first (has.each k).own).0
 
-      pub numbered_taken : {new : Table E} {after : ℕ → H} {left : Objects T} → ((s : List Place) → Shows old (heads k) s → Shows new (after k) (drop 1 s)) → ((i : ℕ) → i ≢ k → after i ≡ heads i)
-          → Unlinks linked old new p → ((s : List Place) → Shows old (heads k) s → KeepsBeside old new s) → Frees objects left p
-          → HasNumbered Shows linked number new after left (with_at values k (drop 1 (values k)))
+      pub numbered_taken : {new : Table E} {after : ℕ → H} {left : Objects T} → ((s : List Place) → Represents old (heads k) s → Represents new (after k) (drop 1 s)) → ((i : ℕ) → i ≢ k → after i ≡ heads i)
+          → Unlinks linked old new p → ((s : List Place) → Represents old (heads k) s → ChangesOnlyIn old new s) → Frees objects left p
+          → HasNumbered Represents linked number new after left (with_at values k (drop 1 (values k)))
       numbered_taken {new} {after} {left} popped others off frame frees = record {
         members = with_at has.members k (drop 1 (has.members k));
-        each = by_number (IsNumbered Shows linked number new after left) here other;
+        each = by_number (IsNumbered Represents linked number new after left) here other;
         only = λ q. everywhere (λ q. ((i : ℕ) → IsAbsent q (with_at has.members k (drop 1 (has.members k)) i)) → IsUnlinked linked new q) p q
             (λ out. off.is)
             (λ n out. off.others q n ∙ has.only q (before_at (IsAbsent q) has.members k (drop 1 (has.members k)) (λ rest. subst (IsAbsent q) (sym (first_is (has.members k) is)) (n, rest)) out));
       } where
-        shown : Shows new (after k) (drop 1 (has.members k))
+        shown : Represents new (after k) (drop 1 (has.members k))
         shown = popped (has.members k) (has.each k).shown
 
         beside : {s : List Place} {l : List T} → IsAbsent p s → StandAt objects s l → StandAt left s l
         beside out stand = stand_beside objects left p (others_left frees) out stand
 
-        here : IsNumbered Shows linked number new after left k (drop 1 (has.members k)) (drop 1 (values k))
+        here : IsNumbered Represents linked number new after left k (drop 1 (has.members k)) (drop 1 (values k))
         here = record {
           shown = shown;
           stand = beside (kind.free new (after k) (drop 1 (has.members k)) p shown off.is) (stand_rest objects p there is (has.each k).stand);
           own = (subst (AllByRecursion (λ x. number x ≡ k)) numbered_first (has.each k).own).1;
         }
 
-        other : (i : ℕ) → i ≢ k → IsNumbered Shows linked number new after left i (has.members i) (values i)
+        other : (i : ℕ) → i ≢ k → IsNumbered Represents linked number new after left i (has.members i) (values i)
         other i n =
             let e = has.each i in
-            let still : Shows new (heads i) (has.members i) = others_stay kind (has.members k) e.shown (numbered_apart i k n) (frame (has.members k) (has.each k).shown) in
+            let still : Represents new (heads i) (has.members i) = others_stay kind (has.members k) e.shown (numbered_apart i k n) (frame (has.members k) (has.each k).shown) in
             record { shown = rw (others i n) still; stand = beside (kind.free new (heads i) (has.members i) p still off.is) e.stand; own = e.own }

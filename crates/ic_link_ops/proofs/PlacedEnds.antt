@@ -1,10 +1,7 @@
 -- Of members that are placed, the first one and the last one are.
 use Rattle.std.proofs.Common.{◌≡◌, true, Some, List, [], ◌∷◌, ◌++◌, sym, subst}
 use Rattle.std.specs.List.{AllByRecursion}
-use Rattle.ic_unsafe_ref.specs.declared.place.Place.{Place}
-use Rattle.ic_unsafe_ref.specs.Objects.{Objects, is_placed}
-use Rattle.ic_link_ops.specs.PlacedObjects.{ArePlaced}
-use Rattle.ic_link_ops.specs.Sequences.{first, last, but_last}
+use Rattle.ic_link_ops.specs.Prelude.{Place, Objects, is_placed, first, last, but_last, ArePlaced}
 use Rattle.ic_link_ops.proofs.SequenceLemmas.{first_is, split_last}
 
 -- what holds of all members holds of all but the last, and of the last

@@ -2,11 +2,8 @@
 use Rattle.std.proofs.Common.{◌≡◌, ◌≢◌, ◌⊎◌, inl, inr, Option, Some, None, IsSome, is_some, List, [], ◌∷◌, ◌++◌, drop, length, ◌≤◌, arith, refl, sym, ap, ◌∙◌, subst, true≢false, append-nil}
 use Rattle.std.proofs.lemmas.List.Elements.{filter_map-append}
 use Rattle.std.specs.List.{AllByRecursion, cons_option}
-use Rattle.ic_unsafe_ref.specs.declared.place.Place.{Place}
-use Rattle.ic_unsafe_ref.specs.Objects.{Objects, Places, object_at}
+use Rattle.ic_link_ops.specs.Prelude.{Place, Objects, Places, object_at, IsAbsent, IsDistinct, first, ArePlaced, StandAt, values_at}
 use Rattle.ic_unsafe_ref.proofs.Placing.{placed_there, others_placed}
-use Rattle.ic_link_ops.specs.PlacedObjects.{ArePlaced, StandAt, values_at}
-use Rattle.ic_link_ops.specs.Sequences.{IsAbsent, IsDistinct, first}
 use Rattle.ic_link_ops.proofs.SequenceLemmas.{first_is}
 use Rattle.ic_link_ops.proofs.Walks.{few_places}
 use Rattle.ic_link_ops.proofs.Each.{all_with}
@@ -49,7 +46,7 @@ module _ {T : Type 0} (objects : Objects T) (p : Place) where
       are = filter_map-append (object_at objects) s (p ∷ []) ∙ rw (there, stand.are) refl;
     }
 
-    -- ONE OBJECT LESS: the first of the sequence is the first of the values, and the others stand behind it
+    -- ONE OBJECT LESS: the first of the sequence is the first of the values, and the others stand after it
     module _ {s : List Place} {values : List T} (is : Some p ≡ first s) (stand : StandAt objects s values) where
       begins : values ≡ v ∷ values_at objects (drop 1 s)
       begins = sym stand.are ∙ ap (values_at objects) (first_is s is) ∙ ap (λ (o : Option T). cons_option o (values_at objects (drop 1 s))) there

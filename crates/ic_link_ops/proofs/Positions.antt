@@ -1,89 +1,85 @@
 -- Positions in a collection: the gaps beside them, and that they stand after a call.
 use Rattle.std.proofs.Common.{◌≡◌, ◌∙◌, sym, Result, Ok, Err, OnOk, OnErr, IfErr, Option, Some, None, List, [], ◌∷◌, ◌++◌, drop, append-nil, append_assoc}
-use Rattle.ic_unsafe_ref.specs.declared.place.Place.{Place}
+use Rattle.ic_link_ops.specs.Prelude.{Place, Cut, join, splice, at_front, at_back, first, last, IsAfter, IsBefore, Table, CursorState, RepresentsAt, IsValidCursor, MovesOn, MovesBack, HasMember, IsSecondAfter, LinkStep, acquires}
 use Rattle.ic_link_ops.specs.declared.errors.AlreadyLinked.{AlreadyLinked}
-use Rattle.ic_link_ops.specs.Sequences.{Cut, join, splice, at_front, at_back, first, last, IsAfter, IsBefore}
-use Rattle.ic_link_ops.specs.Tables.{Table}
-use Rattle.ic_link_ops.specs.LinkSteps.{LinkStep, acquires}
 use Rattle.ic_link_ops.specs.Edits.{Inserts, Removes, Replaces, Splits}
-use Rattle.ic_link_ops.specs.Positions.{Site, ShowsAt, Stands, MovesOn, MovesBack, HasMember, IsBehind}
 use Rattle.ic_link_ops.specs.EditsAt.{InsertsBeside}
 use Rattle.ic_link_ops.proofs.SequenceLemmas.{gap_after, gap_before, first_is}
 
-module _ {L E H : Type 0} {Shows : Table E → H → List Place → Type 0} {table : L → Table E} where
+module _ {L E H : Type 0} {Represents : Table E → H → List Place → Type 0} {table : L → Table E} where
   -- A POSITION STANDS if a gap is before it,
-  pub stands_by_gap : {at : Site L H} (gap : Cut) → ShowsAt Shows table at (join gap) → IsBefore gap at.position → Stands Shows table at
+  pub stands_by_gap : {at : CursorState L H} (gap : Cut) → RepresentsAt Represents table at (join gap) → IsBefore gap at.position → IsValidCursor Represents table at
   stands_by_gap {at = at'} gap shown before =
       let k = gap_after gap at'.position before in record { gap = k.0; shown = rw k.1 shown; after = k.2 }
 
   -- at null,
-  pub stands_null : {at : Site L H} (s : List Place) → ShowsAt Shows table at s → at.position ≡ None → Stands Shows table at
+  pub stands_null : {at : CursorState L H} (s : List Place) → RepresentsAt Represents table at s → at.position ≡ None → IsValidCursor Represents table at
   stands_null s shown e = record { gap = at_front s; shown = shown; after = e }
 
   -- at either end,
-  pub stands_first : {at : Site L H} (s : List Place) → ShowsAt Shows table at s → at.position ≡ first s → Stands Shows table at
+  pub stands_first : {at : CursorState L H} (s : List Place) → RepresentsAt Represents table at s → at.position ≡ first s → IsValidCursor Represents table at
   stands_first s shown e = stands_by_gap (at_front s) shown e
 
-  pub stands_last : {at : Site L H} (s : List Place) → ShowsAt Shows table at s → at.position ≡ last s → Stands Shows table at
+  pub stands_last : {at : CursorState L H} (s : List Place) → RepresentsAt Represents table at s → at.position ≡ last s → IsValidCursor Represents table at
   stands_last s shown e = record { gap = at_back s; shown = rw (append-nil s) shown; after = e }
 
   -- and on a member
-  pub stands_on : {at : Site L H} {p : Place} → HasMember (ShowsAt Shows table at) p → at.position ≡ Some p → Stands Shows table at
+  pub stands_on : {at : CursorState L H} {p : Place} → HasMember (RepresentsAt Represents table at) p → at.position ≡ Some p → IsValidCursor Represents table at
   stands_on {p = p} member e = stands_by_gap (record { front = member.front; back = p ∷ member.back }) member.shown e
 
   -- the gap before a position that stands
-  pub gap_there : {at : Site L H} → Stands Shows table at → (gap : Cut) × ShowsAt Shows table at (join gap) × IsBefore gap at.position
+  pub gap_there : {at : CursorState L H} → IsValidCursor Represents table at → (gap : Cut) × RepresentsAt Represents table at (join gap) × IsBefore gap at.position
   gap_there {at = at'} stands =
       let k = gap_before stands.gap at'.position stands.after in (k.0, rw (← k.1) at stands.shown, k.2)
 
   -- and the member that it is on
-  pub member_there : {at : Site L H} {p : Place} → Stands Shows table at → at.position ≡ Some p → HasMember (ShowsAt Shows table at) p
+  pub member_there : {at : CursorState L H} {p : Place} → IsValidCursor Represents table at → at.position ≡ Some p → HasMember (RepresentsAt Represents table at) p
   member_there stands e =
       let k = gap_there stands in
       record { front = k.0.front; back = drop 1 k.0.back; shown = rw (first_is k.0.back (sym e ∙ k.2)) at k.1 }
 
   -- WHAT A MOVE SAYS, of the gaps alone
-  pub moves_on : {old : Site L H} {position : Option Place} → Stands Shows table old
-      → ((gap : Cut) → ShowsAt Shows table old (join gap) → IsAfter gap old.position → IsBefore gap position) → MovesOn Shows table old position
+  pub moves_on : {old : CursorState L H} {position : Option Place} → IsValidCursor Represents table old
+      → ((gap : Cut) → RepresentsAt Represents table old (join gap) → IsAfter gap old.position → IsBefore gap position) → MovesOn Represents table old position
   moves_on stands leads = record { leads = leads; stands = stands_by_gap stands.gap stands.shown (leads stands.gap stands.shown stands.after) }
 
-  pub moves_back : {old : Site L H} {position : Option Place} → Stands Shows table old
-      → ((gap : Cut) → ShowsAt Shows table old (join gap) → IsBefore gap old.position → IsAfter gap position) → MovesBack Shows table old position
+  pub moves_back : {old : CursorState L H} {position : Option Place} → IsValidCursor Represents table old
+      → ((gap : Cut) → RepresentsAt Represents table old (join gap) → IsBefore gap old.position → IsAfter gap position) → MovesBack Represents table old position
   moves_back stands leads =
       let k = gap_there stands in
       record { leads = leads; stands = record { gap = k.0; shown = k.1; after = leads k.0 k.1 k.2 } }
 
-  -- A POSITION STANDS AFTER AN EDIT: in front of what was put into a gap, or behind it,
-  pub put_behind : {at : Site L H} (gap : Cut) (t : List Place) → ShowsAt Shows table at (splice gap t) → IsAfter gap at.position → Stands Shows table at
-  put_behind gap t shown after = record { gap = record { front = gap.front; back = t ++ gap.back }; shown = shown; after = after }
+  -- A POSITION STANDS AFTER AN EDIT: before what was put into a gap, or after it,
+  pub put_after : {at : CursorState L H} (gap : Cut) (t : List Place) → RepresentsAt Represents table at (splice gap t) → IsAfter gap at.position → IsValidCursor Represents table at
+  put_after gap t shown after = record { gap = record { front = gap.front; back = t ++ gap.back }; shown = shown; after = after }
 
-  pub put_in_front : {at : Site L H} (gap : Cut) (t : List Place) → ShowsAt Shows table at (splice gap t) → IsBefore gap at.position → Stands Shows table at
-  put_in_front gap t shown before =
+  pub put_before : {at : CursorState L H} (gap : Cut) (t : List Place) → RepresentsAt Represents table at (splice gap t) → IsBefore gap at.position → IsValidCursor Represents table at
+  put_before gap t shown before =
       stands_by_gap (record { front = gap.front ++ t; back = gap.back }) (rw (append_assoc gap.front t gap.back) shown) before
 
   -- where it stood, if the edit was refused,
-  module _ {old new : Site L H} (stands : Stands Shows table old) where
-    pub stands_still : table new.links ≡ table old.links → new.head ≡ old.head → new.position ≡ old.position → Stands Shows table new
+  module _ {old new : CursorState L H} (stands : IsValidCursor Represents table old) where
+    pub stands_still : table new.links ≡ table old.links → new.head ≡ old.head → new.position ≡ old.position → IsValidCursor Represents table new
     stands_still same head position = record { gap = stands.gap; shown = rw (same, head) stands.shown; after = position ∙ stands.after }
 
-    -- behind what was taken off,
-    pub removed_stands : ((gap : Cut) → ShowsAt Shows table old (join gap) → IsBefore gap old.position → Removes Shows (table old.links) (table new.links) new.head gap)
-        → ((gap : Cut) → ShowsAt Shows table old (join gap) → IsBefore gap old.position → IsBehind gap new.position) → Stands Shows table new
+    -- after what was taken off,
+    pub removed_stands : ((gap : Cut) → RepresentsAt Represents table old (join gap) → IsBefore gap old.position → Removes Represents (table old.links) (table new.links) new.head gap)
+        → ((gap : Cut) → RepresentsAt Represents table old (join gap) → IsBefore gap old.position → IsSecondAfter gap new.position) → IsValidCursor Represents table new
     removed_stands removes moves =
         let k = gap_there stands in
         stands_by_gap (record { front = k.0.front; back = drop 1 k.0.back }) (removes k.0 k.1 k.2).shows (moves k.0 k.1 k.2)
 
     -- on what was put in its member's place,
     pub replaced_stands : {p : Place} → new.position ≡ Some p
-        → ((gap : Cut) → ShowsAt Shows table old (join gap) → IsBefore gap old.position → Replaces Shows (table old.links) (table new.links) new.head gap p)
-        → Stands Shows table new
+        → ((gap : Cut) → RepresentsAt Represents table old (join gap) → IsBefore gap old.position → Replaces Represents (table old.links) (table new.links) new.head gap p)
+        → IsValidCursor Represents table new
     replaced_stands position replaces =
         let k = gap_there stands in stands_on (record { front = k.0.front; back = drop 1 k.0.back; shown = (replaces k.0 k.1 k.2).shows }) position
 
-    -- in front of what was taken off behind it, or put in that one's place,
+    -- before what was taken off after it, or put in that one's place,
     pub next_removed_stands : new.position ≡ old.position
-        → ((gap : Cut) → ShowsAt Shows table old (join gap) → IsAfter gap old.position → Removes Shows (table old.links) (table new.links) new.head gap)
-        → Stands Shows table new
+        → ((gap : Cut) → RepresentsAt Represents table old (join gap) → IsAfter gap old.position → Removes Represents (table old.links) (table new.links) new.head gap)
+        → IsValidCursor Represents table new
     next_removed_stands position removes = record {
       gap = record { front = stands.gap.front; back = drop 1 stands.gap.back };
       shown = (removes stands.gap stands.shown stands.after).shows;
@@ -91,8 +87,8 @@ module _ {L E H : Type 0} {Shows : Table E → H → List Place → Type 0} {tab
     }
 
     pub next_replaced_stands : {p : Place} → new.position ≡ old.position
-        → ((gap : Cut) → ShowsAt Shows table old (join gap) → IsAfter gap old.position → Replaces Shows (table old.links) (table new.links) new.head gap p)
-        → Stands Shows table new
+        → ((gap : Cut) → RepresentsAt Represents table old (join gap) → IsAfter gap old.position → Replaces Represents (table old.links) (table new.links) new.head gap p)
+        → IsValidCursor Represents table new
     next_replaced_stands {p} position replaces = record {
       gap = record { front = stands.gap.front; back = p ∷ drop 1 stands.gap.back };
       shown = (replaces stands.gap stands.shown stands.after).shows;
@@ -100,31 +96,31 @@ module _ {L E H : Type 0} {Shows : Table E → H → List Place → Type 0} {tab
     }
 
     -- and beside the cut, where a part was handed out
-    pub split_behind : {handed : H} → ((gap : Cut) → ShowsAt Shows table old (join gap) → IsAfter gap old.position
-        → Splits Shows (table old.links) (table new.links) new.head handed gap.front gap.back) → new.position ≡ old.position → Stands Shows table new
-    split_behind splits position = record {
+    pub split_after : {handed : H} → ((gap : Cut) → RepresentsAt Represents table old (join gap) → IsAfter gap old.position
+        → Splits Represents (table old.links) (table new.links) new.head handed gap.front gap.back) → new.position ≡ old.position → IsValidCursor Represents table new
+    split_after splits position = record {
       gap = at_back stands.gap.front;
       shown = rw (append-nil stands.gap.front) (splits stands.gap stands.shown stands.after).keeps;
       after = position ∙ stands.after;
     }
 
-    pub split_in_front : {handed : H} → ((gap : Cut) → ShowsAt Shows table old (join gap) → IsBefore gap old.position
-        → Splits Shows (table old.links) (table new.links) new.head handed gap.back gap.front) → new.position ≡ old.position → Stands Shows table new
-    split_in_front splits position =
+    pub split_before : {handed : H} → ((gap : Cut) → RepresentsAt Represents table old (join gap) → IsBefore gap old.position
+        → Splits Represents (table old.links) (table new.links) new.head handed gap.back gap.front) → new.position ≡ old.position → IsValidCursor Represents table new
+    split_before splits position =
         let k = gap_there stands in stands_by_gap (at_front k.0.back) (splits k.0 k.1 k.2).keeps (position ∙ k.2)
 
   -- WHAT AN INSERT SAYS, of the gaps alone: `keeps` is the law that a refusal changes no entry
-  module _ {Refused : L → L → Place → Type 0} (keeps : (a b : L) (q : Place) → Refused a b q → table b ≡ table a) {old new : Site L H} (p : Place)
-      (stands : Stands Shows table old) (position : new.position ≡ old.position) {T : Type 0} where
-    either_way : (r : Result Unit (AlreadyLinked T)) {P : Type 0} → OnOk r P → (P → Stands Shows table new) → OnErr r (Refused old.links new.links p)
-        → IfErr r (λ refused. (refused.0 ≡ p) × (new.head ≡ old.head)) → Stands Shows table new
+  module _ {Refused : L → L → Place → Type 0} (keeps : (a b : L) (q : Place) → Refused a b q → table b ≡ table a) {old new : CursorState L H} (p : Place)
+      (stands : IsValidCursor Represents table old) (position : new.position ≡ old.position) {T : Type 0} where
+    either_way : (r : Result Unit (AlreadyLinked T)) {P : Type 0} → OnOk r P → (P → IsValidCursor Represents table new) → OnErr r (Refused old.links new.links p)
+        → IfErr r (λ refused. (refused.0 ≡ p) × (new.head ≡ old.head)) → IsValidCursor Represents table new
     either_way (Ok x) put then refused unchanged = then put
     either_way (Err e) put then refused unchanged = stands_still stands (keeps _ _ _ refused) unchanged.1 position
 
-    module _ {Does : L → L → List LinkStep → Type 0} (r : Result Unit (AlreadyLinked T)) (acquired : OnOk r (Does old.links new.links (acquires p ∷ [])))
+    module _ {Trace : L → L → List LinkStep → Type 0} (r : Result Unit (AlreadyLinked T)) (acquired : OnOk r (Trace old.links new.links (acquires p ∷ [])))
         (refused : OnErr r (Refused old.links new.links p)) (unchanged : IfErr r (λ refused. (refused.0 ≡ p) × (new.head ≡ old.head))) where
-      pub inserts_after : ((gap : Cut) → ShowsAt Shows table old (join gap) → IsAfter gap old.position → OnOk r (Inserts Shows (table old.links) (table new.links) new.head gap p))
-          → InsertsBeside Shows table Does Refused IsAfter old p r new
+      pub inserts_after : ((gap : Cut) → RepresentsAt Represents table old (join gap) → IsAfter gap old.position → OnOk r (Inserts Represents (table old.links) (table new.links) new.head gap p))
+          → InsertsBeside Represents table Trace Refused IsAfter old p r new
       inserts_after inserted = record {
         inserted = inserted;
         acquired = acquired;
@@ -132,11 +128,11 @@ module _ {L E H : Type 0} {Shows : Table E → H → List Place → Type 0} {tab
         unchanged = unchanged;
         position = position;
         stands = either_way r (inserted stands.gap stands.shown stands.after)
-            (λ i. put_behind stands.gap (p ∷ []) i.shows (position ∙ stands.after)) refused unchanged;
+            (λ i. put_after stands.gap (p ∷ []) i.shows (position ∙ stands.after)) refused unchanged;
       }
 
-      pub inserts_before : ((gap : Cut) → ShowsAt Shows table old (join gap) → IsBefore gap old.position → OnOk r (Inserts Shows (table old.links) (table new.links) new.head gap p))
-          → InsertsBeside Shows table Does Refused IsBefore old p r new
+      pub inserts_before : ((gap : Cut) → RepresentsAt Represents table old (join gap) → IsBefore gap old.position → OnOk r (Inserts Represents (table old.links) (table new.links) new.head gap p))
+          → InsertsBeside Represents table Trace Refused IsBefore old p r new
       inserts_before inserted =
           let k = gap_there stands in record {
             inserted = inserted;
@@ -144,5 +140,5 @@ module _ {L E H : Type 0} {Shows : Table E → H → List Place → Type 0} {tab
             refused = refused;
             unchanged = unchanged;
             position = position;
-            stands = either_way r (inserted k.0 k.1 k.2) (λ i. put_in_front k.0 (p ∷ []) i.shows (position ∙ k.2)) refused unchanged;
+            stands = either_way r (inserted k.0 k.1 k.2) (λ i. put_before k.0 (p ∷ []) i.shows (position ∙ k.2)) refused unchanged;
           }

@@ -2,9 +2,7 @@
 use Rattle.std.proofs.Common.{◌≡◌, ◌≢◌, ℕ, ◌∷◌, ◌<◌, List, length, Bool, true, false, slice_set, slice_index_or, sym, ap, ◌∙◌}
 use Rattle.std.proofs.lemmas.List.{length-set}
 use Rattle.std.proofs.Math.Seq.{map-set_same}
-use Rattle.ic_unsafe_ref.specs.declared.place.Place.{Place}
-use Rattle.ic_unsafe_ref.specs.Places.{index_of}
-use Rattle.ic_link_ops.specs.Tables.{ChangesOnly, LinksAlso}
+use Rattle.ic_link_ops.specs.Prelude.{Place, index_of, ChangesOnly, LinksAlso}
 use Rattle.ic_link_ops.specs.PlainTables.{entry_at, table_with, nameable_table, values_beside, linked_by}
 use Rattle.ic_link_ops.specs.Widths.{Width, nameable}
 use Rattle.ic_link_ops.specs.Links.{value_of}
@@ -38,26 +36,26 @@ module _ {E : Type 0} (w : Width) (d : E) where
       (ap says (entry_set w d es p new i at_p covered) ∙ same ∙ ap says (sym (entry_seen w d es p old beyond i at_p covered read)))
       (λ apart. ap says (others_seen w d es p new i at_p covered q apart))
 
-module _ {W V : Type 0} (told : List V → List ℕ) where
+module _ {W V : Type 0} (printed : List V → List ℕ) where
   -- A WRITE AT p THAT LEAVES THE VALUE BESIDE changes only the entry of p
   pub changes_only : (w : Width) (d : Link W V) (es : List (Link W V)) (p : Place) (old new beyond : Link W V) (i : ℕ) → i ≡ index_of p → index_of p < length (nameable w es)
-      → old ≡ slice_index_or es i beyond → value_of new ≡ value_of old → ChangesOnly (nameable_table w d told es) (nameable_table w d told (slice_set es i new)) p
+      → old ≡ slice_index_or es i beyond → value_of new ≡ value_of old → ChangesOnly (nameable_table w d printed es) (nameable_table w d printed (slice_set es i new)) p
   changes_only w d es p old new beyond i at_p covered read stays =
       let written = nameable_written w es i new (rw at_p covered) in
       let was : value_of new ≡ value_of (slice_index_or (nameable w es) i beyond) = stays ∙ ap value_of (read ∙ sym (nameable_read w es i beyond (rw at_p covered))) in
       let long = ap length written ∙ length-set (nameable w es) i new in
-      let values = ap (λ l. told (values_beside l)) written ∙ ap told (map-set_same value_of (nameable w es) i new beyond was) in
+      let values = ap (λ l. printed (values_beside l)) written ∙ ap printed (map-set_same value_of (nameable w es) i new beyond was) in
       record {
         extent = λ k. record { places = long k; identity = values k };
         others = others_seen w d es p new i at_p covered;
       }
 
 -- of a table that is lent as well
-module _ {W V : Type 0} (told : List V → List ℕ) where
+module _ {W V : Type 0} (printed : List V → List ℕ) where
   pub view_changes_only : {name : ℕ} (w : Width) (d : Link W V) (es : List (Link W V)) (p : Place) (old new beyond : Link W V) (i : ℕ) → i ≡ index_of p
       → index_of p < length (nameable w es) → old ≡ slice_index_or es i beyond → value_of new ≡ value_of old
-      → ChangesOnly (nameable_table w d (λ vs. name ∷ told vs) es) (nameable_table w d (λ vs. name ∷ told vs) (slice_set es i new)) p
-  view_changes_only {name} = changes_only (λ vs. name ∷ told vs)
+      → ChangesOnly (nameable_table w d (λ vs. name ∷ printed vs) es) (nameable_table w d (λ vs. name ∷ printed vs) (slice_set es i new)) p
+  view_changes_only {name} = changes_only (λ vs. name ∷ printed vs)
 
 module _ {W V : Type 0} (is_linked : W → Bool) (w : Width) (d : Link W V) where
   -- A WRITE THAT LINKS: the place was unlinked, is linked now, and all others are as they were

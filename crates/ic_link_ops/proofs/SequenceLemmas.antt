@@ -1,9 +1,8 @@
 -- Sequences of distinct places: their ends, cut and joined.
 use Rattle.std.proofs.Common.{◌≡◌, ◌≢◌, ◌<◌, Option, Some, None, List, [], ◌∷◌, ◌++◌, drop, length, reverse, refl, sym, ◌∙◌, ap, subst, arith, append_assoc, append-nil, inl, inr}
 use Rattle.std.proofs.lemmas.List.{reverse-append}
-use Rattle.ic_unsafe_ref.specs.declared.place.Place.{Place}
+use Rattle.ic_link_ops.specs.Prelude.{Place, Cut, join, at_front, at_back, first, last, but_last, IsAfter, IsBefore, IsAbsent, IsMember, IsDistinct, IsDisjoint, first_or, last_or}
 use Rattle.ic_unsafe_ref.proofs.PlaceLemmas.{same_or_not}
-use Rattle.ic_link_ops.specs.Sequences.{Cut, join, at_front, at_back, first, last, but_last, IsAfter, IsBefore, IsAbsent, IsMember, IsDistinct, IsDisjoint, first_or, last_or}
 use Rattle.ic_link_ops.specs.Chains.{end_of}
 
 -- an end that is no member of s
@@ -112,7 +111,7 @@ end_of-last : (x : Place) (s : List Place) (fresh old : Option Place) → end_of
 end_of-last x [] fresh old = refl
 end_of-last x (y ∷ s) fresh old = end_of-last y s fresh old
 
--- THE NEW HEAD, where `rest` now stands behind `front` in the place of `was`
+-- THE NEW HEAD, where `rest` now stands after `front` in the place of `was`
 pub new_head : (front was rest : List Place) {before fresh old new : Option Place} → before ≡ last front → fresh ≡ first rest → old ≡ first (front ++ was)
     → new ≡ end_of before fresh old → new ≡ first (front ++ rest)
 new_head [] was rest {before} {fresh} {old} e k h is = is ∙ ap (λ b. end_of b fresh old) e ∙ k
@@ -147,7 +146,7 @@ split_last [] {p} e = absurd (none_not p e)
 split_last (x ∷ []) e = ap (λ (z : Place). z ∷ []) (some_same e)
 split_last (x ∷ y ∷ s) e = ap (λ (l : List Place). x ∷ l) (split_last (y ∷ s) e)
 
--- with nothing in front, the first of all is the first of back
+-- with nothing before, the first of all is the first of back
 pub first_of_back : (front back : List Place) → None ≡ last_or None front → first_or (front ++ back) None ≡ first_or back None
 first_of_back [] back e = refl
 first_of_back (x ∷ s) back e = absurd (last_some x s (sym e))
@@ -245,7 +244,7 @@ gap_before gap cursor after = before gap.front gap.back cursor after where
     refl,
   )
 
--- with nothing behind the gap, the last of all is the last in front of it
+-- with nothing after the gap, the last of all is the last first of it
 pub last_of_front : (front back : List Place) → None ≡ first back → last (front ++ back) ≡ last front
 last_of_front front [] e = ap last (append-nil front)
 last_of_front front (x ∷ s) e = absurd (none_not x e)
@@ -283,7 +282,7 @@ fewer_back (x ∷ y ∷ s) p e = omega (arith, fewer_back (y ∷ s) p e)
 pub absent_turned : (q : Place) (s t : List Place) → IsAbsent q (t ++ s) → IsAbsent q (s ++ t)
 absent_turned q s t h = absent_both q s t (absent_right q t s h) (absent_left q t s h)
 
--- OF DISTINCT MEMBERS only one gap is behind each
+-- OF DISTINCT MEMBERS only one gap is after each
 last_inside : (b : Option Place) (y : Place) (s t : List Place) → IsOutside b (y ∷ s ++ t) → b ≢ last_or (Some y) s
 last_inside None y s t out e = last_some y s (sym e)
 last_inside (Some q) y s t out e = last_not (Some y) s q (λ h. out.0 (sym (some_same h))) (absent_left q s t out.1) (sym e)
@@ -303,7 +302,7 @@ pub same_gap : (gap other : Cut) → IsDistinct (join gap) → join gap ≡ join
     → (gap.front ≡ other.front) × (gap.back ≡ other.back)
 same_gap gap other d e k = same_front None gap.front gap.back other.front other.back tt d e k
 
--- A MEMBER stands between what is in front of it and what is behind
+-- A MEMBER stands between what is before it and what is after
 pub member_split : (q : Place) (s : List Place) → IsMember q s → (front : List Place) × (back : List Place) × (s ≡ front ++ q ∷ back)
 member_split q [] member = absurd (member tt)
 member_split q (x ∷ s) member = elim (same_or_not q x) [

@@ -1,15 +1,13 @@
 -- Singly linked lists: their setter turns, what their entries tell, and their walks.
 use Rattle.std.proofs.Common.{◌≡◌, ◌≤◌, Option, Some, None, List, [], ◌∷◌, length, Bool, true, refl, sym, ◌∙◌, ap}
-use Rattle.ic_unsafe_ref.specs.declared.place.Place.{Place}
-use Rattle.ic_link_ops.specs.Sequences.{IsDistinct}
-use Rattle.ic_link_ops.specs.Tables.{Table, IsCovered, IsLinked, ChangesOnly}
-use Rattle.ic_link_ops.specs.Turns.{TurnsBehind, TurnsBefore}
-use Rattle.ic_link_ops.specs.SinglyLinkedList.{Front, list_from, Successor, successor_at, IsFollowed, Shows, next_of, members_from, members, IsWalk}
-use Rattle.ic_link_ops.proofs.Turning.{turns_behind}
+use Rattle.ic_link_ops.specs.Prelude.{Place, IsDistinct, Table, IsCovered, IsLinked, ChangesOnly}
+use Rattle.ic_link_ops.specs.Turns.{TurnsAfter, TurnsBefore}
+use Rattle.ic_link_ops.specs.SinglyLinkedList.{Front, list_from, Successor, successor_at, IsFollowed, Represents, next_of, members_from, members, IsWalk}
+use Rattle.ic_link_ops.proofs.Turning.{turns_after}
 use Rattle.ic_link_ops.proofs.SequenceLemmas.{some_same, none_not}
 use Rattle.ic_link_ops.proofs.CollectionLaws.{IsKind}
 use Rattle.ic_link_ops.proofs.Clearing.{Releases, releases_left_blind}
-use Rattle.ic_link_ops.proofs.ShownLists.{free_absent, shows_frame, shows_one}
+use Rattle.ic_link_ops.proofs.RepresentedLists.{free_absent, represents_frame, represents_one}
 use Rattle.ic_link_ops.proofs.Walks.{walk_blind, stretch_through, stretch_length, stretch_empty, stretch_of, stretch_first}
 
 -- ONLY COVERED PLACES ARE LINKED, as successors say it too
@@ -20,9 +18,9 @@ successors_covered s table covered alike t q h = covered t q (sym (alike _) ∙ 
 module _ {E : Type 0} {s : E → Successor} where
   -- THE SETTER gives a turn, whatever stood there
   pub successor_turns : {old new : Table E} {p : Place} {to : Option Place} (from : Option Place) → ChangesOnly old new p
-      → successor_at s new p ≡ record (successor_at s old p) { next = to } → TurnsBehind (IsFollowed s) old.entry new.entry (Some p) from to
+      → successor_at s new p ≡ record (successor_at s old p) { next = to } → TurnsAfter (IsFollowed s) old.entry new.entry (Some p) from to
   successor_turns from frame set =
-      turns_behind frame (λ a h. record { linked = ap (λ x. x.linked) set ∙ h.linked; next = ap (λ x. x.next) set })
+      turns_after frame (λ a h. record { linked = ap (λ x. x.linked) set ∙ h.linked; next = ap (λ x. x.next) set })
 
   -- and no entry says what stands before it, so nothing has to be written for that
   pub unwritten : {t : Place → E} {at from to : Option Place} → TurnsBefore (IsFollowed s) t t at from to
@@ -35,13 +33,13 @@ module _ {E : Type 0} {s : E → Successor} where
   followed_linked alike e b a h = sym (alike e) ∙ h.linked
 
   -- the walk gives the rest of a chain
-  pub walk_shown : (t : Table E) → ((q : Place) → (s (t.entry q)).linked ≡ true → IsCovered t q)
+  pub walk_represented : (t : Table E) → ((q : Place) → (s (t.entry q)).linked ≡ true → IsCovered t q)
       → (front : Option Place) (w : List Place) → IsWalk s t.entry front w → members_from s t front ≡ w
-  walk_shown t covered front w k =
+  walk_represented t covered front w k =
       walk_blind (λ e. (s e).next) t.entry t.extent.places None k.before front None
       ∙ stretch_through (next_of s) (λ e b a h. h.next) t (λ q b a h. covered q h.linked) k.part
 
-  -- it goes on behind its first member, which is linked
+  -- it goes on after its first member, which is linked
   pub walk_more : (t : Place → E) (p : Place) (w : List Place) → IsWalk s t (Some p) w → (r : List Place) × (w ≡ p ∷ r) × IsWalk s t ((s (t p)).next) r
   walk_more t p [] k = absurd (none_not p (sym k.part.starts))
   walk_more t p (x ∷ w) k =
@@ -61,16 +59,16 @@ module _ {E : Type 0} {s : E → Successor} where
   walk_empty t front w e k = stretch_empty e k.part
 
   -- a list's members are a walk, and no more than what the table covers
-  pub walk_of : (t : Table E) {list : Front} {m : List Place} → Shows s t list m → IsWalk s t.entry list.head m
+  pub walk_of : (t : Table E) {list : Front} {m : List Place} → Represents s t list m → IsWalk s t.entry list.head m
   walk_of t h = record { before = None; part = stretch_of h }
 
-  pub members_shown : (t : Table E) → ((q : Place) → (s (t.entry q)).linked ≡ true → IsCovered t q)
-      → (list : Front) (m : List Place) → Shows s t list m → members s t list ≡ m
-  members_shown t covered list m shown = walk_shown t covered list.head m (walk_of t shown)
+  pub members_represented : (t : Table E) → ((q : Place) → (s (t.entry q)).linked ≡ true → IsCovered t q)
+      → (list : Front) (m : List Place) → Represents s t list m → members s t list ≡ m
+  members_represented t covered list m shown = walk_represented t covered list.head m (walk_of t shown)
 
-  pub shown_length : (t : Table E) → ((q : Place) → (s (t.entry q)).linked ≡ true → IsCovered t q)
-      → (list : Front) (m : List Place) → Shows s t list m → length m ≤ t.extent.places
-  shown_length t covered list m shown = stretch_length t (λ q b a h. covered q h.linked) (stretch_of shown)
+  pub represented_length : (t : Table E) → ((q : Place) → (s (t.entry q)).linked ≡ true → IsCovered t q)
+      → (list : Front) (m : List Place) → Represents s t list m → length m ≤ t.extent.places
+  represented_length t covered list m shown = stretch_length t (λ q b a h. covered q h.linked) (stretch_of shown)
 
   -- and those that are left while a list is cleared
   pub members_uncleared : {old new : Table E} {m : List Place} {current : Option Place} → ((q : Place) → (s (new.entry q)).linked ≡ true → IsCovered new q)
@@ -78,11 +76,11 @@ module _ {E : Type 0} {s : E → Successor} where
   members_uncleared covered d k = releases_left_blind (λ e. (s e).next) (λ e b a h. h.next) (λ q b a h. covered q h.linked) d k
 
 -- the five facts of singly linked lists, where both traits say alike whether a place is linked
-pub singly_lists : {E : Type 0} {s : E → Successor} {linked : E → Bool} → ((e : E) → (s e).linked ≡ linked e) → IsKind (Shows s) linked (list_from None)
+pub singly_lists : {E : Type 0} {s : E → Successor} {linked : E → Bool} → ((e : E) → (s e).linked ≡ linked e) → IsKind (Represents s) linked (list_from None)
 singly_lists {s = s} alike = record {
-  frame = λ old new list m touched shown apart same. shows_frame touched shown apart same;
+  frame = λ old new list m touched shown apart same. represents_frame touched shown apart same;
   free = λ t list m p shown off. free_absent (followed_linked alike) shown off;
   distinct = λ t list m shown. shown.distinct;
   nothing = λ t. record { distinct = tt; chain = tt; head = refl; tail = refl };
-  one = λ t list m r shown other. shows_one (followed_one {s = s}) shown other;
+  one = λ t list m r shown other. represents_one (followed_one {s = s}) shown other;
 }

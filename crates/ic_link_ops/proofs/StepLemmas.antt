@@ -1,9 +1,6 @@
 -- Steps of a table, and the linked places after them.
 use Rattle.std.proofs.Common.{◌≡◌, List, [], ◌∷◌, ◌++◌, Bool, refl, ◌∙◌, ap}
-use Rattle.ic_unsafe_ref.specs.declared.place.Place.{Place}
-use Rattle.ic_link_ops.specs.Sequences.{IsAbsent}
-use Rattle.ic_link_ops.specs.Tables.{Table, ChangesOnly, IsLinked, IsUnlinked, LinksAlso, Unlinks}
-use Rattle.ic_link_ops.specs.LinkSteps.{releases, releases_each, Replays}
+use Rattle.ic_link_ops.specs.Prelude.{Place, IsAbsent, Table, ChangesOnly, IsLinked, IsUnlinked, LinksAlso, Unlinks, releases, releases_each, TraceIs}
 use Rattle.ic_link_ops.proofs.LinkedSets.{everywhere}
 
 module _ {E : Type 0} {linked : E → Bool} {a b : Table E} {p : Place} where
@@ -21,13 +18,13 @@ releases_append (x ∷ s) t = ap (λ l. releases x ∷ l) (releases_append s t)
 
 -- after releases of all of s, the linked places are the old ones but the members of s
 module _ {E : Type 0} (linked : E → Bool) where
-  pub released_stay : (s : List Place) (a b : Table E) (q : Place) → Replays linked a b (releases_each s) → IsAbsent q s → linked (b.entry q) ≡ linked (a.entry q)
+  pub released_stay : (s : List Place) (a b : Table E) (q : Place) → TraceIs linked a b (releases_each s) → IsAbsent q s → linked (b.entry q) ≡ linked (a.entry q)
   released_stay [] a b q l out = l q
   released_stay (x ∷ []) a b q l out = l.others q out.0
   released_stay (x ∷ y ∷ s) a b q l out = released_stay (y ∷ s) l.0 b q l.2 out.1 ∙ l.1.others q out.0
 
   -- what is unlinked stays so
-  unlinked_stays : (s : List Place) (a b : Table E) (q : Place) → Replays linked a b (releases_each s) → IsUnlinked linked a q → IsUnlinked linked b q
+  unlinked_stays : (s : List Place) (a b : Table E) (q : Place) → TraceIs linked a b (releases_each s) → IsUnlinked linked a q → IsUnlinked linked b q
   unlinked_stays [] a b q l off = l q ∙ off
   unlinked_stays (x ∷ []) a b q l off =
       everywhere (λ z. IsUnlinked linked a z → IsUnlinked linked b z) x q (λ h. l.is) (λ n h. l.others q n ∙ h) off
@@ -35,7 +32,7 @@ module _ {E : Type 0} (linked : E → Bool) where
       unlinked_stays (y ∷ s) l.0 b q l.2 (everywhere (λ z. IsUnlinked linked a z → IsUnlinked linked l.0 z) x q (λ h. l.1.is) (λ n h. l.1.others q n ∙ h) off)
 
   -- and each member of s is unlinked
-  pub each_unlinked : (s : List Place) (a b : Table E) (q : Place) → Replays linked a b (releases_each s) → (IsAbsent q s → ⊥) → IsUnlinked linked b q
+  pub each_unlinked : (s : List Place) (a b : Table E) (q : Place) → TraceIs linked a b (releases_each s) → (IsAbsent q s → ⊥) → IsUnlinked linked b q
   each_unlinked [] a b q l member = absurd (member tt)
   each_unlinked (x ∷ []) a b q l member =
       everywhere (λ z. (IsAbsent z (x ∷ []) → ⊥) → IsUnlinked linked b z) x q (λ m. l.is) (λ n m. absurd (m (n, tt))) member

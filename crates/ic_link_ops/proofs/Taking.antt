@@ -1,15 +1,12 @@
 -- The walk that takes the members off: each call leaves fewer, and what all give out is the sequence.
 use Rattle.std.proofs.Common.{◌≡◌, ◌<◌, Bool, Option, Some, None, List, [], ◌++◌, reverse, drop, length, sym, ap, arith}
 use Rattle.std.specs.Iterator.{MakesProgress, item_count}
-use Rattle.ic_unsafe_ref.specs.declared.place.Place.{Place}
-use Rattle.ic_link_ops.specs.Sequences.{but_last}
-use Rattle.ic_link_ops.specs.Tables.{Table}
-use Rattle.ic_link_ops.specs.LinkSteps.{LinkStep}
+use Rattle.ic_link_ops.specs.Prelude.{Place, but_last, Table, LinkStep}
 use Rattle.ic_link_ops.specs.Taking.{Taking, Leaves, TakesFirst, TakesLast}
 use Rattle.ic_link_ops.specs.BothEnds.{Item, Leads, from_front, from_back}
 use Rattle.ic_link_ops.proofs.BothEnds.{both_ends}
 use Rattle.ic_link_ops.proofs.SequenceLemmas.{split_last, first_is}
-use Rattle.ic_link_ops.proofs.CollectionLaws.{IsKind, one_sequence_is_shown}
+use Rattle.ic_link_ops.proofs.CollectionLaws.{IsKind, one_sequence_is_represented}
 
 -- `Left s w`: w are the members left at s, as `left` reads them
 module _ {S : Type 0} (Left : S → List Place → Type 0) (left : S → List Place) (law : (s : S) (w : List Place) → Left s w → left s ≡ w) where
@@ -25,16 +22,16 @@ module _ {S : Type 0} (Left : S → List Place → Type 0) (left : S → List Pl
   }
 
 -- `rest s`: what the walk s has left, and its table
-module _ {S L E H : Type 0} {Shows : Table E → H → List Place → Type 0} {linked : E → Bool} {empty : H} (kind : IsKind Shows linked empty)
-    (table : L → Table E) (Does : L → L → List LinkStep → Type 0) (rest : S → Taking L H) where
+module _ {S L E H : Type 0} {Represents : Table E → H → List Place → Type 0} {linked : E → Bool} {empty : H} (kind : IsKind Represents linked empty)
+    (table : L → Table E) (Trace : L → L → List LinkStep → Type 0) (rest : S → Taking L H) where
   -- WHAT A WALK FROM BOTH ENDS TAKES OFF until nothing is left is its sequence, each member once: the items from the front, and then
   -- those from the back, turned round
-  pub two_ended_taking : (start end : S) (w : List Place) (items : List (Item Place)) → Leaves Shows table (rest start) w
-      → Leads (λ s r t. TakesFirst Shows table Does (rest s) r (rest t)) (λ s r t. TakesLast Shows table Does (rest s) r (rest t)) start items end
-      → Leaves Shows table (rest end) [] → from_front (λ p. p) items ++ reverse (from_back (λ p. p) items) ≡ w
+  pub two_ended_taking : (start end : S) (w : List Place) (items : List (Item Place)) → Leaves Represents table (rest start) w
+      → Leads (λ s r t. TakesFirst Represents table Trace (rest s) r (rest t)) (λ s r t. TakesLast Represents table Trace (rest s) r (rest t)) start items end
+      → Leaves Represents table (rest end) [] → from_front (λ p. p) items ++ reverse (from_back (λ p. p) items) ≡ w
   two_ended_taking start end w items left leads over =
-      both_ends (λ p. p) (λ s r t. TakesFirst Shows table Does (rest s) r (rest t)) (λ s r t. TakesLast Shows table Does (rest s) r (rest t))
-      (λ s u. Leaves Shows table (rest s) u)
+      both_ends (λ p. p) (λ s r t. TakesFirst Represents table Trace (rest s) r (rest t)) (λ s r t. TakesLast Represents table Trace (rest s) r (rest t))
+      (λ s u. Leaves Represents table (rest s) u)
       (λ s t x u takes is. (drop 1 u, first_is u (takes.answer u is), takes.removed u is))
       (λ s t x u takes is. (but_last u, split_last u (sym (takes.answer u is)), takes.removed u is))
-      start end items w leads left (λ r is. one_sequence_is_shown kind is over)
+      start end items w leads left (λ r is. one_sequence_is_represented kind is over)

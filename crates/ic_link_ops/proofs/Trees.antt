@@ -1,11 +1,8 @@
 -- Trees in a table: their members, what a setter makes of them, and that below a root there is one tree at most.
 use Rattle.std.proofs.Common.{◌≡◌, ◌≢◌, ◌<◌, Option, Some, [], ◌∷◌, true, false, refl, sym, ap, ◌∙◌, subst}
 use Rattle.std.specs.List.{AllByRecursion}
-use Rattle.ic_unsafe_ref.specs.declared.place.Place.{Place}
-use Rattle.ic_unsafe_ref.specs.Places.{index_of}
+use Rattle.ic_link_ops.specs.Prelude.{Place, index_of, IsAbsent, Table, IsCovered}
 use Rattle.ic_link_ops.specs.declared.color.Color.{Color}
-use Rattle.ic_link_ops.specs.Sequences.{IsAbsent}
-use Rattle.ic_link_ops.specs.Tables.{Table, IsCovered}
 use Rattle.ic_link_ops.specs.Trees.{Tree, leaf, fork, top, in_order}
 use Rattle.ic_link_ops.specs.RedBlackTree.{Node, IsAt, IsTree}
 use Rattle.ic_link_ops.proofs.SequenceLemmas.{absent_left, absent_right, absent_both, none_not, some_same, split_member}

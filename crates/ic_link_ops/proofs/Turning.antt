@@ -1,15 +1,14 @@
 -- A change at one place, as a turn there.
 use Rattle.std.proofs.Common.{◌≡◌, Option, Some, sym, ap}
-use Rattle.ic_unsafe_ref.specs.declared.place.Place.{Place}
-use Rattle.ic_link_ops.specs.Tables.{Table, ChangesOnly}
-use Rattle.ic_link_ops.specs.Turns.{TurnsBehind, TurnsBefore}
+use Rattle.ic_link_ops.specs.Prelude.{Place, Table, ChangesOnly}
+use Rattle.ic_link_ops.specs.Turns.{TurnsAfter, TurnsBefore}
 use Rattle.ic_link_ops.proofs.SequenceLemmas.{some_same}
 
 module _ {E : Type 0} {between : E → Option Place → Option Place → Type 0} where
   -- a change at p that gives it another neighbor on one side is a turn there
-  pub turns_behind : {old new : Table E} {p : Place} {from to : Option Place} → ChangesOnly old new p
-      → ((a : Option Place) → between (old.entry p) a from → between (new.entry p) a to) → TurnsBehind between old.entry new.entry (Some p) from to
-  turns_behind {old} {new} {p} {from} {to} frame turn = record {
+  pub turns_after : {old new : Table E} {p : Place} {from to : Option Place} → ChangesOnly old new p
+      → ((a : Option Place) → between (old.entry p) a from → between (new.entry p) a to) → TurnsAfter between old.entry new.entry (Some p) from to
+  turns_after {old} {new} {p} {from} {to} frame turn = record {
     turned = λ q a e h. let k : p ≡ q = some_same e in rw (← k) (turn a (rw (← k) at h));
     others = λ q apart. frame.others q (λ e. apart (ap Some (sym e)));
   }

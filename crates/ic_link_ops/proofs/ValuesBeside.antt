@@ -1,9 +1,7 @@
 -- The values beside the links of a table as they are read and set.
 use Rattle.std.proofs.Common.{◌≡◌, ℕ, ◌<◌, List, length, Some, true, slice_set, slice_index_or, ap, ◌∙◌, arith}
 use Rattle.std.proofs.lemmas.List.{get_or-map, length-map, map-set}
-use Rattle.ic_unsafe_ref.specs.declared.place.Place.{Place}
-use Rattle.ic_unsafe_ref.specs.Places.{index_of}
-use Rattle.ic_unsafe_ref.specs.Objects.{object_at, is_placed, with_object, at_indexes}
+use Rattle.ic_link_ops.specs.Prelude.{Place, index_of, object_at, is_placed, with_object, at_indexes}
 use Rattle.ic_unsafe_ref.proofs.IndexLemmas.{in_range, set_at_index}
 use Rattle.ic_link_ops.specs.declared.link.Link.{Link}
 use Rattle.ic_link_ops.specs.Links.{value_of}

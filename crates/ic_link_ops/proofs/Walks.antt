@@ -5,12 +5,9 @@ use Rattle.std.specs.Option.{option_copied}
 use Rattle.std.specs.List.{AllByRecursion, cons_option}
 use Rattle.std.specs.Iterator.{MakesProgress, item_count}
 use Rattle.std.proofs.lemmas.Option.{same_Some}
-use Rattle.ic_unsafe_ref.specs.declared.place.Place.{Place}
-use Rattle.ic_unsafe_ref.specs.Places.{index_of}
+use Rattle.ic_link_ops.specs.Prelude.{Place, index_of, IsAbsent, IsDistinct, first_or, last_or, first, last, but_last, Table, IsCovered}
 use Rattle.ic_unsafe_ref.proofs.PlaceLemmas.{same_index, index_small}
-use Rattle.ic_link_ops.specs.Sequences.{IsAbsent, IsDistinct, first_or, last_or, first, last, but_last}
-use Rattle.ic_link_ops.specs.Tables.{Table, IsCovered}
-use Rattle.ic_link_ops.specs.Chains.{ListHead, Ends, IsChain, IsStretch, ShowsChain, ShowsBetween}
+use Rattle.ic_link_ops.specs.Chains.{ListHead, Ends, IsChain, IsStretch, RepresentsChain, RepresentsBetween}
 use Rattle.ic_link_ops.specs.Walk.{walk, walked, is_end, GivesFirst, GivesLast}
 use Rattle.ic_link_ops.proofs.Counting.{count, count_falls, count_at_most}
 use Rattle.ic_link_ops.proofs.SequenceLemmas.{distinct_left, distinct_right, last_not, none_not, some_same, last_some, split_last}
@@ -95,12 +92,12 @@ module _ {E : Type 0} {between : E → Option Place → Option Place → Type 0}
       let e : p ≡ x = some_same k.starts in
       absurd (last_not (Some y) w x (λ h. k.distinct.0.0 (sym (some_same h))) k.distinct.0.1 (sym k.ends ∙ ap Some e))
 
-  -- all of a shown sequence is one
-  pub stretch_of : {W : Type 0} {kept : Option Place → W} {t : Table E} {list : ListHead W} {s : List Place} → ShowsChain between kept t list s
+  -- all of a represented sequence is one
+  pub stretch_of : {W : Type 0} {kept : Option Place → W} {t : Table E} {list : ListHead W} {s : List Place} → RepresentsChain between kept t list s
       → IsStretch between t.entry None list.head (last s) None s
   stretch_of h = record { distinct = h.distinct; chain = h.chain; starts = h.head; ends = refl }
 
-  pub stretch_between : {t : Table E} {list : Ends} {s : List Place} → ShowsBetween between t list s → IsStretch between t.entry None list.head list.tail None s
+  pub stretch_between : {t : Table E} {list : Ends} {s : List Place} → RepresentsBetween between t list s → IsStretch between t.entry None list.head list.tail None s
   stretch_between h = record { distinct = h.distinct; chain = h.chain; starts = h.head; ends = h.tail }
 
   -- how its first member stands, and its last
@@ -118,7 +115,7 @@ module _ {E : Type 0} {between : E → Option Place → Option Place → Type 0}
       → {b from to a : Option Place} {w : List Place} → IsStretch between t.entry b from to a w → length w ≤ t.extent.places
   stretch_length t covered {b} {from} {to} {a} {w} k = pigeonhole w t.extent.places k.distinct (chain_covered between t covered b w a k.chain)
 
-  -- `law`: the step goes to what stands behind
+  -- `law`: the step goes to what stands after
   module _ (step : E → Option Place → Option Place) (law : (e : E) (b a : Option Place) → between e b a → step e b ≡ a) where
     walk_is : (t : Place → E) (w : List Place) (fuel : ℕ) (b a : Option Place) → IsDistinct w → IsChain between t b w a → length w ≤ fuel
         → walk step t fuel b (first w) (last w) ≡ w
@@ -152,7 +149,7 @@ module _ {E : Type 0} {between : E → Option Place → Option Place → Type 0}
         → {b from to : Option Place} {w : List Place} → IsStretch between t.entry b from to None w → walked step t b from None ≡ w
     stretch_through t covered {b} {from} {to} {w} k = rw k.starts (walk_through t.entry w t.extent.places b k.chain (stretch_length t covered k))
 
-    -- a part of a chain goes on behind its first member
+    -- a part of a chain goes on after its first member
     pub stretch_more : {t : Place → E} {b to a : Option Place} {p : Place} {w : List Place} → IsStretch between t b (Some p) to a w → to ≢ Some p
         → (r : List Place) × (w ≡ p ∷ r) × IsStretch between t (Some p) (step (t p) b) to a r
     stretch_more {p = p} {w = []} k apart = absurd (none_not p (sym k.starts))
@@ -190,7 +187,7 @@ module _ {E : Type 0} {between : E → Option Place → Option Place → Type 0}
         },
       )
 
-  -- WHAT STANDS BEHIND A GAP is what the entries lead through from there, where an entry alone tells what stands behind
+  -- WHAT STANDS BEHIND A GAP is what the entries lead through from there, where an entry alone tells what stands after
   pub walked_from_gap : (next : E → Option Place) → ((e : E) (b a : Option Place) → between e b a → next e ≡ a)
       → (t : Table E) → ((q : Place) (b a : Option Place) → between (t.entry q) b a → IsCovered t q)
       → (front back : List Place) {position : Option Place} → IsDistinct (front ++ back) → IsChain between t.entry None (front ++ back) None → position ≡ first back

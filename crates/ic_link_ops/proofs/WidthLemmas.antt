@@ -5,9 +5,7 @@ use Rattle.std.proofs.lemmas.Bool.Decides.{eqb_tells}
 use Rattle.std.proofs.Math.ListN.{get_or-eq_default}
 use Rattle.std.proofs.Math.Seq.{take-set-lt}
 use Rattle.std.proofs.lemmas.Nat.{xor_lt}
-use Rattle.ic_unsafe_ref.specs.declared.place.Place.{Place}
-use Rattle.ic_unsafe_ref.specs.Places.{word_of}
-use Rattle.ic_link_ops.specs.Tables.{IsNameable}
+use Rattle.ic_link_ops.specs.Prelude.{Place, word_of, IsNameable}
 use Rattle.ic_link_ops.specs.Widths.{Width, wide, narrow, HasRoom, CanKeep, nameable, count_nameable, most_places}
 
 -- there is room for the word of a place, or of none, for whose name there is room

@@ -1,14 +1,13 @@
 -- XOR linked lists: their setter turns, what their entries tell, and their walks.
 use Rattle.std.proofs.Common.{◌≡◌, ◌≤◌, Option, Some, List, length, Bool, true, refl, ◌∙◌}
-use Rattle.ic_unsafe_ref.specs.declared.place.Place.{Place}
-use Rattle.ic_link_ops.specs.Tables.{Table, IsCovered, ChangesOnly}
+use Rattle.ic_link_ops.specs.Prelude.{Place, Table, IsCovered, ChangesOnly}
 use Rattle.ic_link_ops.specs.Chains.{Ends, no_members, IsStretch}
 use Rattle.ic_link_ops.specs.Walk.{walked}
-use Rattle.ic_link_ops.specs.Turns.{TurnsBehind, TurnsBefore}
-use Rattle.ic_link_ops.specs.XorLinkedList.{IsJoined, Shows, members}
-use Rattle.ic_link_ops.proofs.Turning.{turns_behind, turns_before}
+use Rattle.ic_link_ops.specs.Turns.{TurnsAfter, TurnsBefore}
+use Rattle.ic_link_ops.specs.XorLinkedList.{IsJoined, Represents, members}
+use Rattle.ic_link_ops.proofs.Turning.{turns_after, turns_before}
 use Rattle.ic_link_ops.proofs.CollectionLaws.{IsKind}
-use Rattle.ic_link_ops.proofs.ShownLists.{shows_frame, shows_one, free_absent}
+use Rattle.ic_link_ops.proofs.RepresentedLists.{represents_frame, represents_one, free_absent}
 use Rattle.ic_link_ops.proofs.Walks.{stretch_of, stretch_between, stretch_length, stretch_walked}
 
 module _ {E : Type 0} {linked : E → Bool} {joins : E → Option Place → Option Place → Type 0} where
@@ -17,11 +16,11 @@ module _ {E : Type 0} {linked : E → Bool} {joins : E → Option Place → Opti
       → ((x : Option Place) → joins (old.entry p) from x → joins (new.entry p) to x) → TurnsBefore (IsJoined linked joins) old.entry new.entry (Some p) from to
   replaced_before frame kept turn = turns_before frame (λ b h. record { linked = kept ∙ h.linked; joined = turn b h.joined })
 
-  pub replaced_behind : ((e : E) (a b : Option Place) → joins e a b → joins e b a)
+  pub replaced_after : ((e : E) (a b : Option Place) → joins e a b → joins e b a)
       → {old new : Table E} {p : Place} {from to : Option Place} → ChangesOnly old new p → linked (new.entry p) ≡ linked (old.entry p)
-      → ((x : Option Place) → joins (old.entry p) from x → joins (new.entry p) to x) → TurnsBehind (IsJoined linked joins) old.entry new.entry (Some p) from to
-  replaced_behind symmetric {old} {new} {p} {from} {to} frame kept turn =
-      turns_behind frame (λ a h. record { linked = kept ∙ h.linked; joined = symmetric (new.entry p) to a (turn a (symmetric (old.entry p) a from h.joined)) })
+      → ((x : Option Place) → joins (old.entry p) from x → joins (new.entry p) to x) → TurnsAfter (IsJoined linked joins) old.entry new.entry (Some p) from to
+  replaced_after symmetric {old} {new} {p} {from} {to} frame kept turn =
+      turns_after frame (λ a h. record { linked = kept ∙ h.linked; joined = symmetric (new.entry p) to a (turn a (symmetric (old.entry p) a from h.joined)) })
 
   -- what the laws of `joins` say of linked places
   pub joined_symmetric : ((e : E) (a b : Option Place) → joins e a b → joins e b a)
@@ -40,9 +39,9 @@ module _ {E : Type 0} {linked : E → Bool} {joins : E → Option Place → Opti
       → {before front back behind : Option Place} {w : List Place} → IsStretch (IsJoined linked joins) t.entry before front back behind w → length w ≤ t.extent.places
   part_length t covered k = stretch_length t (λ q b a h. covered q h.linked) k
 
-  pub shown_length : (t : Table E) → ((q : Place) → linked (t.entry q) ≡ true → IsCovered t q)
-      → {list : Ends} {s : List Place} → Shows linked joins t list s → length s ≤ t.extent.places
-  shown_length t covered shown = part_length t covered (stretch_of shown)
+  pub represented_length : (t : Table E) → ((q : Place) → linked (t.entry q) ≡ true → IsCovered t q)
+      → {list : Ends} {s : List Place} → Represents linked joins t list s → length s ≤ t.extent.places
+  represented_length t covered shown = part_length t covered (stretch_of shown)
 
   -- `law`: other gives the other neighbor of the one told, so it is the step of a walk from either end
   module _ (other : E → Option Place → Option Place) (law : (e : E) (a b : Option Place) → joins e a b → other e a ≡ b) where
@@ -59,17 +58,17 @@ module _ {E : Type 0} {linked : E → Bool} {joins : E → Option Place → Opti
     part_walked t covered k = stretch_walked other joined_step t (λ q b a h. covered q h.linked) k
 
     -- and so the members of a list
-    pub members_shown : (t : Table E) → ((q : Place) → linked (t.entry q) ≡ true → IsCovered t q)
-        → (list : Ends) (s : List Place) → Shows linked joins t list s → members other t list ≡ s
-    members_shown t covered list s shown = part_walked t covered (stretch_between shown)
+    pub members_represented : (t : Table E) → ((q : Place) → linked (t.entry q) ≡ true → IsCovered t q)
+        → (list : Ends) (s : List Place) → Represents linked joins t list s → members other t list ≡ s
+    members_represented t covered list s shown = part_walked t covered (stretch_between shown)
 
 -- the five facts of XOR lists: `one` is the law that one neighbor tells the other
 pub xor_lists : {E : Type 0} {linked : E → Bool} {joins : E → Option Place → Option Place → Type 0}
-    → ((e : E) (a b c : Option Place) → joins e a b → joins e a c → b ≡ c) → IsKind (Shows linked joins) linked no_members
+    → ((e : E) (a b c : Option Place) → joins e a b → joins e a c → b ≡ c) → IsKind (Represents linked joins) linked no_members
 xor_lists one = record {
-  frame = λ old new list s touched shown apart same. shows_frame touched shown apart same;
+  frame = λ old new list s touched shown apart same. represents_frame touched shown apart same;
   free = λ t list s p shown off. free_absent joined_linked shown off;
   distinct = λ t list s shown. shown.distinct;
   nothing = λ t. record { distinct = tt; chain = tt; head = refl; tail = refl };
-  one = λ t list s u shown other. shows_one (joined_one one) shown other;
+  one = λ t list s u shown other. represents_one (joined_one one) shown other;
 }

@@ -29,7 +29,7 @@ abbrev pub end_of : Option Place → Option Place → Option Place → Option Pl
 end_of None fresh end = fresh
 end_of (Some x) fresh end = end
 
--- what is kept of the last member is right where `fresh` stands in front of `at` now: where that is none, `fresh` is the last
+-- what is kept of the last member is right where `fresh` stands before `at` now: where that is none, `fresh` is the last
 abbrev pub TurnsTail : {W : Type 0} → (Option Place → W) → W → W → Option Place → Option Place → Type 0
 TurnsTail kept old new at fresh = (last : Option Place) → old ≡ kept last → new ≡ kept (end_of at fresh last)
 
@@ -40,12 +40,12 @@ pub record TurnsEnds {W : Type 0} (kept : Option Place → W) (old new : ListHea
 
 -- `between e a b`: the entry e says that its place stands between a and b, none beyond an end
 module _ {E : Type 0} (between : E → Option Place → Option Place → Type 0) where
-  -- each member of s is between its neighbors in s, `before` stands in front of the first and `behind` after the last
+  -- each member of s is between its neighbors in s, `before` stands before the first and `behind` after the last
   abbrev pub IsChain : (Place → E) → Option Place → List Place → Option Place → Type 0
   IsChain entry before [] behind = Unit {0}
   IsChain entry before (x ∷ s) behind = between (entry x) before (first_or s behind) × IsChain entry (Some x) s behind
 
-  -- a part of a chain: the distinct places w from front to back, with `before` in front of them and `behind` after them
+  -- a part of a chain: the distinct places w from front to back, with `before` before them and `behind` after them
   pub record IsStretch (entry : Place → E) (before front back behind : Option Place) (w : List Place) : Type 0 where
     pub distinct : IsDistinct w
     pub chain : IsChain entry before w behind
@@ -54,16 +54,16 @@ module _ {E : Type 0} (between : E → Option Place → Option Place → Type 0)
 
   module _ {W : Type 0} (kept : Option Place → W) where
     -- THE TABLE SHOWS s for the list: s is a chain of distinct places from the head on, and what is kept of the last one is right
-    pub record ShowsChain (t : Table E) (list : ListHead W) (s : List Place) : Type 0 where
+    pub record RepresentsChain (t : Table E) (list : ListHead W) (s : List Place) : Type 0 where
       pub distinct : IsDistinct s
       pub chain : IsChain t.entry None s None
       pub head : list.head ≡ first s
       pub tail : list.tail ≡ kept (last s)
 
-    -- the table shows a sequence for the list
-    abbrev pub ShowsSomeChain : Table E → ListHead W → Type 0
-    ShowsSomeChain t list = (s : List Place) × ShowsChain t list s
+    -- the table represents a sequence for the list
+    abbrev pub RepresentsSomeChain : Table E → ListHead W → Type 0
+    RepresentsSomeChain t list = (s : List Place) × RepresentsChain t list s
 
   -- the same of a list that keeps both ends
-  abbrev pub ShowsBetween : Table E → Ends → List Place → Type 0
-  ShowsBetween = ShowsChain (λ last. last)
+  abbrev pub RepresentsBetween : Table E → Ends → List Place → Type 0
+  RepresentsBetween = RepresentsChain (λ last. last)

@@ -6,7 +6,7 @@ use Rattle.ic_link_ops.specs.declared.linked_list.TwoWords.{TwoWords}
 use Rattle.ic_link_ops.specs.declared.table.PlainTable.{PlainTable}
 use Rattle.ic_link_ops.specs.Tables.{Table}
 use Rattle.ic_link_ops.specs.Chains.{Ends}
-use Rattle.ic_link_ops.specs.LinkedList.{Neighbors, Shows, ShowsSome, members}
+use Rattle.ic_link_ops.specs.LinkedList.{Neighbors, Represents, RepresentsSome, members}
 use Rattle.ic_link_ops.specs.Links.{link_of}
 use Rattle.ic_link_ops.specs.TwoWords.{no_words, has_words, next_word_of, prev_of}
 use Rattle.ic_link_ops.specs.Readings as readings
@@ -49,18 +49,18 @@ table_of = plain.table_of unlinked
 abbrev pub plain_table : {A : Type 0} → DoublyLinkOps A → Table DoublyLink
 plain_table links = table_of (entries links)
 
--- a table of doubly links shows s for the list with these ends
-abbrev pub ShowsList : Table DoublyLink → Ends → List Place → Type 0
-ShowsList = Shows neighbors_of
+-- a table of doubly links represents s for the list with these ends
+abbrev pub RepresentsList : Table DoublyLink → Ends → List Place → Type 0
+RepresentsList = Represents neighbors_of
 
--- the plain table does; and it shows some sequence
-abbrev pub PlainShows : {A : Type 0} → DoublyLinkOps A → Ends → List Place → Type 0
-PlainShows links list s = ShowsList (plain_table links) list s
+-- the plain table does; and it represents some sequence
+abbrev pub PlainRepresents : {A : Type 0} → DoublyLinkOps A → Ends → List Place → Type 0
+PlainRepresents links list s = RepresentsList (plain_table links) list s
 
-abbrev pub PlainShowsSome : {A : Type 0} → DoublyLinkOps A → Ends → Type 0
-PlainShowsSome links list = ShowsSome neighbors_of (plain_table links) list
+abbrev pub PlainRepresentsSome : {A : Type 0} → DoublyLinkOps A → Ends → Type 0
+PlainRepresentsSome links list = RepresentsSome neighbors_of (plain_table links) list
 
--- the members of a list, as the plain table shows them
+-- the members of a list, as the plain table represents them
 abbrev pub members_of : {A : Type 0} → DoublyLinkOps A → Ends → List Place
 members_of links list = members neighbors_of (plain_table links) list
 

@@ -8,96 +8,97 @@ use Rattle.ic_link_ops.specs.Tables.{Table}
 use Rattle.ic_link_ops.specs.LinkSteps.{LinkStep, acquires, releases}
 use Rattle.ic_link_ops.specs.Edits.{Inserts, Removes, Replaces, Splices, Splits}
 use Rattle.ic_link_ops.specs.Errors.{object_of, ByCause}
-use Rattle.ic_link_ops.specs.Positions.{Site, ShowsAt, Stands, IsBehind}
+use Rattle.ic_link_ops.specs.Positions.{CursorState, RepresentsAt, IsValidCursor, IsSecondAfter}
 
 -- WHAT IS SAID OF A SPLICE: of each gap beside the position and all members of the given collection, where the two share no member
-module _ {L E H : Type 0} (Shows : Table E → H → List Place → Type 0) (table : L → Table E) where
-  abbrev pub WhereApart : (Cut → Option Place → Type 0) → Site L H → H → (Cut → List Place → Type 0) → Type 0
-  WhereApart IsBeside old given Holds = (gap : Cut) (t : List Place) → ShowsAt Shows table old (join gap) → IsBeside gap old.position
-      → Shows (table old.links) given t → IsDisjoint t (join gap) → Holds gap t
+module _ {L E H : Type 0} (Represents : Table E → H → List Place → Type 0) (table : L → Table E) where
+  abbrev pub WhereApart : (Cut → Option Place → Type 0) → CursorState L H → H → (Cut → List Place → Type 0) → Type 0
+  WhereApart IsBeside old given Holds = (gap : Cut) (t : List Place) → RepresentsAt Represents table old (join gap) → IsBeside gap old.position
+      → Represents (table old.links) given t → IsDisjoint t (join gap) → Holds gap t
 
--- `Shows`: the kind's shows-relation. `table`, `Does`: what clauses see of the table, and its steps. `old`, `new`: before the call and after it
-module _ {L E H : Type 0} (Shows : Table E → H → List Place → Type 0) (table : L → Table E) (Does : L → L → List LinkStep → Type 0) where
+-- `Represents`: the kind's represents-relation. `table`, `Trace`: what clauses see of the table, and its steps. `old`, `new`: before the call and
+-- after it
+module _ {L E H : Type 0} (Represents : Table E → H → List Place → Type 0) (table : L → Table E) (Trace : L → L → List LinkStep → Type 0) where
   -- the object is put into the gap beside the position, or its link is refused and nothing else has changed. The position stays
   pub record InsertsBeside {T : Type 0} (Refused : L → L → Place → Type 0) (IsBeside : Cut → Option Place → Type 0)
-      (old : Site L H) (object : Place) (result : Result Unit (AlreadyLinked T)) (new : Site L H) : Type 0 where
-    pub inserted : (gap : Cut) → ShowsAt Shows table old (join gap) → IsBeside gap old.position
-        → OnOk result (Inserts Shows (table old.links) (table new.links) new.head gap object)
-    pub acquired : OnOk result (Does old.links new.links (acquires object ∷ []))
+      (old : CursorState L H) (object : Place) (result : Result Unit (AlreadyLinked T)) (new : CursorState L H) : Type 0 where
+    pub inserted : (gap : Cut) → RepresentsAt Represents table old (join gap) → IsBeside gap old.position
+        → OnOk result (Inserts Represents (table old.links) (table new.links) new.head gap object)
+    pub acquired : OnOk result (Trace old.links new.links (acquires object ∷ []))
     pub refused : OnErr result (Refused old.links new.links object)
     pub unchanged : IfErr result (λ refused. (refused.0 ≡ object) × (new.head ≡ old.head))
     pub position : new.position ≡ old.position
-    pub stands : Stands Shows table new
+    pub stands : IsValidCursor Represents table new
 
-  -- the member that the position is on is taken off and answered, and the position goes on to the one behind it. At null the
+  -- the member that the position is on is taken off and answered, and the position goes on to the one after it. At null the
   -- answer is none, and nothing has changed
-  pub record RemovesThere (old : Site L H) (result : Option Place) (new : Site L H) : Type 0 where
+  pub record RemovesThere (old : CursorState L H) (result : Option Place) (new : CursorState L H) : Type 0 where
     pub answer : result ≡ old.position
-    pub removed : (gap : Cut) → ShowsAt Shows table old (join gap) → IsBefore gap old.position
-        → OnSome result (Removes Shows (table old.links) (table new.links) new.head gap)
-    pub released : IfSome result (λ object. Does old.links new.links (releases object ∷ []))
-    pub moved : (gap : Cut) → ShowsAt Shows table old (join gap) → IsBefore gap old.position → IsBehind gap new.position
+    pub removed : (gap : Cut) → RepresentsAt Represents table old (join gap) → IsBefore gap old.position
+        → OnSome result (Removes Represents (table old.links) (table new.links) new.head gap)
+    pub released : IfSome result (λ object. Trace old.links new.links (releases object ∷ []))
+    pub moved : (gap : Cut) → RepresentsAt Represents table old (join gap) → IsBefore gap old.position → IsSecondAfter gap new.position
     pub null : IfNone result (new ≡ old)
-    pub stands : Stands Shows table new
+    pub stands : IsValidCursor Represents table new
 
   -- the object stands where the member stood that the position is on, which is answered, and the position is on the object. At
   -- null, and where its link is refused, it comes back and nothing else has changed
   pub record ReplacesThere {T : Type 0} (Refused : L → L → Place → Type 0)
-      (old : Site L H) (object : Place) (result : Result Place (ReplaceError T)) (new : Site L H) : Type 0 where
+      (old : CursorState L H) (object : Place) (result : Result Place (ReplaceError T)) (new : CursorState L H) : Type 0 where
     pub answer : IfOk result (λ out. old.position ≡ Some out)
-    pub replaced : (gap : Cut) → ShowsAt Shows table old (join gap) → IsBefore gap old.position
-        → OnOk result (Replaces Shows (table old.links) (table new.links) new.head gap object)
+    pub replaced : (gap : Cut) → RepresentsAt Represents table old (join gap) → IsBefore gap old.position
+        → OnOk result (Replaces Represents (table old.links) (table new.links) new.head gap object)
     pub moved : OnOk result (new.position ≡ Some object)
-    pub exchanged : IfOk result (λ out. Does old.links new.links (acquires object ∷ releases out ∷ []))
+    pub exchanged : IfOk result (λ out. Trace old.links new.links (acquires object ∷ releases out ∷ []))
     pub refused : IfErr result (ByCause ((old.position ≡ None) × (new.links ≡ old.links))
         ((old.position ≢ None) × Refused old.links new.links object))
     pub unchanged : IfErr result (λ refused. (object_of refused ≡ object) × (new.head ≡ old.head) × (new.position ≡ old.position))
-    pub stands : Stands Shows table new
+    pub stands : IsValidCursor Represents table new
 
-  -- the member behind the position, at null the first one, is taken off and answered. Where there is none, the answer is none and
+  -- the member after the position, at null the first one, is taken off and answered. Where there is none, the answer is none and
   -- nothing has changed. The position stays
-  pub record RemovesNext (old : Site L H) (result : Option Place) (new : Site L H) : Type 0 where
-    pub answer : (gap : Cut) → ShowsAt Shows table old (join gap) → IsAfter gap old.position → result ≡ first gap.back
-    pub removed : (gap : Cut) → ShowsAt Shows table old (join gap) → IsAfter gap old.position
-        → OnSome result (Removes Shows (table old.links) (table new.links) new.head gap)
-    pub released : IfSome result (λ object. Does old.links new.links (releases object ∷ []))
+  pub record RemovesNext (old : CursorState L H) (result : Option Place) (new : CursorState L H) : Type 0 where
+    pub answer : (gap : Cut) → RepresentsAt Represents table old (join gap) → IsAfter gap old.position → result ≡ first gap.back
+    pub removed : (gap : Cut) → RepresentsAt Represents table old (join gap) → IsAfter gap old.position
+        → OnSome result (Removes Represents (table old.links) (table new.links) new.head gap)
+    pub released : IfSome result (λ object. Trace old.links new.links (releases object ∷ []))
     pub position : new.position ≡ old.position
     pub nothing : IfNone result (new ≡ old)
-    pub stands : Stands Shows table new
+    pub stands : IsValidCursor Represents table new
 
-  -- the object stands where the member behind the position stood, at null the first one, which is answered. Where there is none, and
+  -- the object stands where the member after the position stood, at null the first one, which is answered. Where there is none, and
   -- where the object's link is refused, it comes back and nothing else has changed. The position stays
   pub record ReplacesNext {T : Type 0} (Refused : L → L → Place → Type 0)
-      (old : Site L H) (object : Place) (result : Result Place (ReplaceError T)) (new : Site L H) : Type 0 where
-    pub answer : (gap : Cut) → ShowsAt Shows table old (join gap) → IsAfter gap old.position → IfOk result (λ out. first gap.back ≡ Some out)
-    pub replaced : (gap : Cut) → ShowsAt Shows table old (join gap) → IsAfter gap old.position
-        → OnOk result (Replaces Shows (table old.links) (table new.links) new.head gap object)
-    pub exchanged : IfOk result (λ out. Does old.links new.links (acquires object ∷ releases out ∷ []))
-    pub refused : (gap : Cut) → ShowsAt Shows table old (join gap) → IsAfter gap old.position
+      (old : CursorState L H) (object : Place) (result : Result Place (ReplaceError T)) (new : CursorState L H) : Type 0 where
+    pub answer : (gap : Cut) → RepresentsAt Represents table old (join gap) → IsAfter gap old.position → IfOk result (λ out. first gap.back ≡ Some out)
+    pub replaced : (gap : Cut) → RepresentsAt Represents table old (join gap) → IsAfter gap old.position
+        → OnOk result (Replaces Represents (table old.links) (table new.links) new.head gap object)
+    pub exchanged : IfOk result (λ out. Trace old.links new.links (acquires object ∷ releases out ∷ []))
+    pub refused : (gap : Cut) → RepresentsAt Represents table old (join gap) → IsAfter gap old.position
         → IfErr result (ByCause ((first gap.back ≡ None) × (new.links ≡ old.links)) ((first gap.back ≢ None) × Refused old.links new.links object))
     pub unchanged : IfErr result (λ refused. (object_of refused ≡ object) × (new.head ≡ old.head))
     pub position : new.position ≡ old.position
-    pub stands : Stands Shows table new
+    pub stands : IsValidCursor Represents table new
 
   -- all of the given collection, which shares no member with this one, is put into the gap beside the position, which stays
-  pub record SplicesBeside (IsBeside : Cut → Option Place → Type 0) (old : Site L H) (given : H) (new : Site L H) : Type 0 where
-    pub spliced : WhereApart Shows table IsBeside old given (Splices Shows (table old.links) (table new.links) new.head)
-    pub no_step : Does old.links new.links []
+  pub record SplicesBeside (IsBeside : Cut → Option Place → Type 0) (old : CursorState L H) (given : H) (new : CursorState L H) : Type 0 where
+    pub spliced : WhereApart Represents table IsBeside old given (Splices Represents (table old.links) (table new.links) new.head)
+    pub trace_stays : Trace old.links new.links []
     pub position : new.position ≡ old.position
-    pub stands : WhereApart Shows table IsBeside old given (λ gap t. Stands Shows table new)
+    pub stands : WhereApart Represents table IsBeside old given (λ gap t. IsValidCursor Represents table new)
 
   -- the members of one part stay and those of the other are handed out, where the gap beside the position cuts them. The position stays
   pub record SplitsBeside (IsBeside : Cut → Option Place → Type 0) (kept handed : Cut → List Place)
-      (old : Site L H) (result : H) (new : Site L H) : Type 0 where
-    pub split : (gap : Cut) → ShowsAt Shows table old (join gap) → IsBeside gap old.position
-        → Splits Shows (table old.links) (table new.links) new.head result (kept gap) (handed gap)
-    pub no_step : Does old.links new.links []
+      (old : CursorState L H) (result : H) (new : CursorState L H) : Type 0 where
+    pub split : (gap : Cut) → RepresentsAt Represents table old (join gap) → IsBeside gap old.position
+        → Splits Represents (table old.links) (table new.links) new.head result (kept gap) (handed gap)
+    pub trace_stays : Trace old.links new.links []
     pub position : new.position ≡ old.position
-    pub stands : Stands Shows table new
+    pub stands : IsValidCursor Represents table new
 
-  -- behind the position, and in front of it
-  abbrev pub SplitsAfter : Site L H → H → Site L H → Type 0
+  -- after the position, and before it
+  abbrev pub SplitsAfter : CursorState L H → H → CursorState L H → Type 0
   SplitsAfter = SplitsBeside IsAfter (λ gap. gap.front) (λ gap. gap.back)
 
-  abbrev pub SplitsBefore : Site L H → H → Site L H → Type 0
+  abbrev pub SplitsBefore : CursorState L H → H → CursorState L H → Type 0
   SplitsBefore = SplitsBeside IsBefore (λ gap. gap.back) (λ gap. gap.front)

@@ -49,13 +49,13 @@ abbrev pub topmost : List Frame → Option Place → Option Place
 topmost [] o = o
 topmost (frame d c p b ∷ fs) o = topmost fs (Some p)
 
--- the members in front of what stands below the frames, in order
+-- the members before what stands below the frames, in order
 abbrev pub before : List Frame → List Place
 before [] = []
 before (frame Left c p b ∷ fs) = before fs
 before (frame Right c p b ∷ fs) = before fs ++ (in_order b ++ p ∷ [])
 
--- and those behind it
+-- and those after it
 abbrev pub after : List Frame → List Place
 after [] = []
 after (frame Left c p b ∷ fs) = p ∷ (in_order b ++ after fs)

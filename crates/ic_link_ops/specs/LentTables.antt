@@ -23,7 +23,7 @@ module _ {W V : Type 0} where
 
   -- as a table: the name of the borrow tells it from other tables that are lent
   abbrev pub lent_table : Width → W → V → (List V → List ℕ) → LentTable W V → Table (Link W V)
-  lent_table w unlinked initial told t = nameable_table w (link_with unlinked initial) (λ vs. t.entries.ghost_name ∷ told vs) (lent_entries t)
+  lent_table w unlinked initial printed t = nameable_table w (link_with unlinked initial) (λ vs. t.entries.ghost_name ∷ printed vs) (lent_entries t)
 
 -- once the borrow of its links ends, the table has those that stand there last
 abbrev pub LendsLinks : (W A V : RattleType) → Ghosts A.Denot → MutBor (PlainTable W.Denot A.Denot V.Denot) → MutBor (List (Link W.Denot V.Denot)) → Fml

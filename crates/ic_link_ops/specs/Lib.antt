@@ -41,3 +41,4 @@ pub mod LentTables
 pub mod DoublyEntries
 pub mod TwoFields
 pub mod NumberedCollections
+pub mod Prelude

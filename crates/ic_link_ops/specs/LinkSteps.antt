@@ -19,7 +19,7 @@ module _ {E : Type 0} (linked : E → Bool) where
   Makes (releases p) old new = Unlinks linked old new p
 
   -- and what these steps make of them, one after the other: none leaves them as they are
-  abbrev pub Replays : Table E → Table E → List LinkStep → Type 0
-  Replays old new [] = KeepsLinked linked old new
-  Replays old new (step ∷ []) = Makes step old new
-  Replays old new (step ∷ next ∷ rest) = (mid : Table E) × Makes step old mid × Replays mid new (next ∷ rest)
+  abbrev pub TraceIs : Table E → Table E → List LinkStep → Type 0
+  TraceIs old new [] = KeepsLinked linked old new
+  TraceIs old new (step ∷ []) = Makes step old new
+  TraceIs old new (step ∷ next ∷ rest) = (mid : Table E) × Makes step old mid × TraceIs mid new (next ∷ rest)

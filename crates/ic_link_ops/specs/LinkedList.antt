@@ -1,9 +1,9 @@
--- Which sequence a table shows for a doubly linked list.
+-- Which sequence a table represents for a doubly linked list.
 use Rattle.std.specs.Prelude.{◌≡◌, Bool, true, Option, None, List}
 use Rattle.ic_unsafe_ref.specs.declared.place.Place.{Place}
 use Rattle.ic_link_ops.specs.Tables.{Table}
 use Rattle.ic_link_ops.specs.Chains as chains
-use Rattle.ic_link_ops.specs.Chains.{Ends, IsStretch, ShowsBetween}
+use Rattle.ic_link_ops.specs.Chains.{Ends, IsStretch, RepresentsBetween}
 use Rattle.ic_link_ops.specs.Walk.{walked}
 
 -- what an entry says: whether its place is linked, and between which places
@@ -17,7 +17,7 @@ module _ {E : Type 0} (neighbors : E → Neighbors) where
   abbrev pub neighbors_at : Table E → Place → Neighbors
   neighbors_at t p = neighbors (t.entry p)
 
-  -- the entry says that its place is linked, with this place before it and that one behind it
+  -- the entry says that its place is linked, with this place before it and that one after it
   pub record IsBetween (e : E) (before behind : Option Place) : Type 0 where
     pub linked : (neighbors e).linked ≡ true
     pub prev : (neighbors e).prev ≡ before
@@ -28,14 +28,14 @@ module _ {E : Type 0} (neighbors : E → Neighbors) where
   IsChain entry before s behind = chains.IsChain IsBetween entry before s behind
 
   -- THE TABLE SHOWS s for the list with these ends
-  abbrev pub Shows : Table E → Ends → List Place → Type 0
-  Shows t list s = ShowsBetween IsBetween t list s
+  abbrev pub Represents : Table E → Ends → List Place → Type 0
+  Represents t list s = RepresentsBetween IsBetween t list s
 
-  -- the table shows a sequence for the list
-  abbrev pub ShowsSome : Table E → Ends → Type 0
-  ShowsSome t list = (s : List Place) × Shows t list s
+  -- the table represents a sequence for the list
+  abbrev pub RepresentsSome : Table E → Ends → Type 0
+  RepresentsSome t list = (s : List Place) × Represents t list s
 
-  -- the place behind, whatever stands before
+  -- the place after, whatever stands before
   abbrev pub next_of : E → Option Place → Option Place
   next_of e before = (neighbors e).next
 

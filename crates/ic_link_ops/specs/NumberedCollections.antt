@@ -12,10 +12,10 @@ abbrev pub with_at : {X : Type 0} → (ℕ → X) → ℕ → X → ℕ → X
 with_at f k x i = cond (eqb k i) x (f i)
 
 -- `heads`: the collections. `number`: in which of them an object belongs
-module _ {E H T : Type 0} (Shows : Table E → H → List Place → Type 0) (linked : E → Bool) (number : T → ℕ) where
+module _ {E H T : Type 0} (Represents : Table E → H → List Place → Type 0) (linked : E → Bool) (number : T → ℕ) where
   -- collection i has these members, at which these values stand, and each of them belongs there
   pub record IsNumbered (t : Table E) (heads : ℕ → H) (objects : Objects T) (i : ℕ) (members : List Place) (values : List T) : Type 0 where
-    pub shown : Shows t (heads i) members
+    pub shown : Represents t (heads i) members
     pub stand : StandAt objects members values
     pub own : AllByRecursion (λ v. number v ≡ i) values
 

@@ -9,8 +9,8 @@ module _ {T : Type 0} where
   abbrev pub ArePlaced : Objects T → List Place → Type 0
   ArePlaced objects s = AllByRecursion (λ p. IsSome (object_at objects p)) s
 
-  -- a sequence is shown, and an object stands at each of its members
-  pub record ShowsPlaced (shows : List Place → Type 0) (objects : Objects T) : Type 0 where
+  -- a sequence is represented, and an object stands at each of its members
+  pub record RepresentsPlaced (shows : List Place → Type 0) (objects : Objects T) : Type 0 where
     pub members : List Place
     pub shown : shows members
     pub placed : ArePlaced objects members

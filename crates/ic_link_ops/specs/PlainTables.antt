@@ -38,11 +38,11 @@ module _ {W V : Type 0} where
 
   -- links as a table, for whose values there are such numbers beside these: those of places for which words of this width have room
   abbrev pub nameable_table : Width → Link W V → (List V → List ℕ) → List (Link W V) → Table (Link W V)
-  nameable_table w unlinked told es = table_with unlinked (told (values_beside (nameable w es))) (nameable w es)
+  nameable_table w unlinked printed es = table_with unlinked (printed (values_beside (nameable w es))) (nameable w es)
 
   -- what clauses see of a table of this width whose new links have these words and this value, and whose values are told so
   abbrev pub table_beside : {A : Type 0} → Width → W → V → (List V → List ℕ) → PlainTable W A V → Table (Link W V)
-  table_beside w unlinked initial told t = nameable_table w (link_with unlinked initial) told (entries t)
+  table_beside w unlinked initial printed t = nameable_table w (link_with unlinked initial) printed (entries t)
 
   -- whether a link is that of a linked place, by its words
   abbrev pub linked_by : (W → Bool) → Link W V → Bool

@@ -6,47 +6,47 @@ use Rattle.ic_link_ops.specs.Sequences.{Cut, join, first, IsAfter, IsBefore}
 use Rattle.ic_link_ops.specs.Tables.{Table}
 
 -- where a call is made: the table, the collection's head, and a position
-pub record Site (L H : Type 0) : Type 0 where
+pub record CursorState (L H : Type 0) : Type 0 where
   pub links : L
   pub head : H
   pub position : Option Place
 
 module _ {L H : Type 0} where
   -- at this position of this collection
-  abbrev pub site : L → H → Option Place → Site L H
+  abbrev pub site : L → H → Option Place → CursorState L H
   site links head position = record { links = links; head = head; position = position }
 
--- `Shows t head s`: the table shows s for the collection with this head
-module _ {L E H : Type 0} (Shows : Table E → H → List Place → Type 0) (table : L → Table E) where
-  -- the table shows s for the collection
-  abbrev pub ShowsAt : Site L H → List Place → Type 0
-  ShowsAt at s = Shows (table at.links) at.head s
+-- `Represents t head s`: the table represents s for the collection with this head
+module _ {L E H : Type 0} (Represents : Table E → H → List Place → Type 0) (table : L → Table E) where
+  -- the table represents s for the collection
+  abbrev pub RepresentsAt : CursorState L H → List Place → Type 0
+  RepresentsAt at s = Represents (table at.links) at.head s
 
-  -- THE POSITION STANDS: it is one of what the table shows for the collection, which has a gap after it
-  pub record Stands (at : Site L H) : Type 0 where
+  -- THE POSITION STANDS: it is one of what the table represents for the collection, which has a gap after it
+  pub record IsValidCursor (at : CursorState L H) : Type 0 where
     pub gap : Cut
-    pub shown : ShowsAt at (join gap)
+    pub shown : RepresentsAt at (join gap)
     pub after : IsAfter gap at.position
 
   -- a move on leads to this position: the gap that was after the old one is before it
-  pub record MovesOn (old : Site L H) (position : Option Place) : Type 0 where
-    pub leads : (gap : Cut) → ShowsAt old (join gap) → IsAfter gap old.position → IsBefore gap position
-    pub stands : Stands (site old.links old.head position)
+  pub record MovesOn (old : CursorState L H) (position : Option Place) : Type 0 where
+    pub leads : (gap : Cut) → RepresentsAt old (join gap) → IsAfter gap old.position → IsBefore gap position
+    pub stands : IsValidCursor (site old.links old.head position)
 
   -- a move back leads to this position: the gap that was before the old one is after it
-  pub record MovesBack (old : Site L H) (position : Option Place) : Type 0 where
-    pub leads : (gap : Cut) → ShowsAt old (join gap) → IsBefore gap old.position → IsAfter gap position
-    pub stands : Stands (site old.links old.head position)
+  pub record MovesBack (old : CursorState L H) (position : Option Place) : Type 0 where
+    pub leads : (gap : Cut) → RepresentsAt old (join gap) → IsBefore gap old.position → IsAfter gap position
+    pub stands : IsValidCursor (site old.links old.head position)
 
--- the place is a member of what is shown
+-- the place is a member of what is represented
 pub record HasMember (shows : List Place → Type 0) (p : Place) : Type 0 where
   pub front : List Place
   pub back : List Place
   pub shown : shows (front ++ p ∷ back)
 
--- the position is on the second member behind the gap, and null where there is none
-abbrev pub IsBehind : Cut → Option Place → Type 0
-IsBehind gap position = position ≡ first (drop 1 gap.back)
+-- the position is on the second member after the gap, and null where there is none
+abbrev pub IsSecondAfter : Cut → Option Place → Type 0
+IsSecondAfter gap position = position ≡ first (drop 1 gap.back)
 
 -- the object at a position, none at null
 abbrev pub object_there : {T : Type 0} → Objects T → Option Place → Option T

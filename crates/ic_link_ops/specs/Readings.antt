@@ -17,7 +17,7 @@ module _ {W V : Type 0} (next_word : W → ℕ) where
   xor_other l a = place_at (bit_xor (next_word (words_of l)) (word_of a))
 
   module _ (is_linked : W → Bool) where
-    -- what stands behind: the place whose word the next word is
+    -- what stands after: the place whose word the next word is
     abbrev pub successor_of : Link W V → Successor
     successor_of l = record { linked = is_linked (words_of l); next = place_at (next_word (words_of l)) }
 

@@ -1,4 +1,4 @@
--- Which sequence a table shows for a tree.
+-- Which sequence a table represents for a tree.
 use Rattle.std.specs.Prelude.{◌≡◌, Bool, true, Option, Some, None, List}
 use Rattle.ic_unsafe_ref.specs.declared.place.Place.{Place}
 use Rattle.ic_link_ops.specs.declared.color.Color.{Color}
@@ -42,19 +42,19 @@ module _ {E : Type 0} (node : E → Node) where
 
   -- THE TABLE SHOWS s for the tree with this root: there is a binary tree that the table holds, with the in-order list s,
   -- whose root is this one (none where s is empty), and whose shape is right
-  pub record Shows (t : Table E) (root : Option Place) (s : List Place) : Type 0 where
+  pub record Represents (t : Table E) (root : Option Place) (s : List Place) : Type 0 where
     pub tree : Tree
     pub held : Holds t tree s
     pub starts : root ≡ top tree
     pub shape : IsRight tree
 
-  -- the table shows a sequence for the tree with this root
-  abbrev pub ShowsSome : Table E → Option Place → Type 0
-  ShowsSome t root = (s : List Place) × Shows t root s
+  -- the table represents a sequence for the tree with this root
+  abbrev pub RepresentsSome : Table E → Option Place → Type 0
+  RepresentsSome t root = (s : List Place) × Represents t root s
 
   -- THE TABLE SHOWS s BETWEEN TWO ENDS: there is a binary tree that the table holds, with the in-order list s, whatever its
   -- colors, and the ends are the first and the last of s (none where s is empty)
-  pub record ShowsEnds (t : Table E) (front back : Option Place) (s : List Place) : Type 0 where
+  pub record RepresentsEnds (t : Table E) (front back : Option Place) (s : List Place) : Type 0 where
     pub tree : Tree
     pub held : Holds t tree s
     pub starts : front ≡ first s

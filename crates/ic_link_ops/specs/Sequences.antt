@@ -26,11 +26,11 @@ join gap = gap.front ++ gap.back
 abbrev pub insert : Cut → Place → List Place
 insert gap p = gap.front ++ p ∷ gap.back
 
--- the member behind the gap removed
+-- the member after the gap removed
 abbrev pub remove : Cut → List Place
 remove gap = gap.front ++ drop 1 gap.back
 
--- the member behind the gap replaced by p
+-- the member after the gap replaced by p
 abbrev pub replace : Cut → Place → List Place
 replace gap p = gap.front ++ p ∷ drop 1 gap.back
 

@@ -1,9 +1,9 @@
--- Which sequence a table shows for a singly linked list.
+-- Which sequence a table represents for a singly linked list.
 use Rattle.std.specs.Prelude.{◌≡◌, ⊤, Bool, true, Option, None, List}
 use Rattle.ic_unsafe_ref.specs.declared.place.Place.{Place}
 use Rattle.ic_link_ops.specs.Sequences.{last}
 use Rattle.ic_link_ops.specs.Tables.{Table}
-use Rattle.ic_link_ops.specs.Chains.{ListHead, list_head, IsStretch, ShowsChain}
+use Rattle.ic_link_ops.specs.Chains.{ListHead, list_head, IsStretch, RepresentsChain}
 use Rattle.ic_link_ops.specs.Walk.{walked}
 
 -- what a list keeps: its first member, and nothing of the last one
@@ -14,7 +14,7 @@ Front = ListHead ⊤
 abbrev pub list_from : Option Place → Front
 list_from first = list_head first tt
 
--- what an entry says: whether its place is linked, and which place stands behind it
+-- what an entry says: whether its place is linked, and which place stands after it
 pub record Successor : Type 0 where
   pub linked : Bool
   pub next : Option Place
@@ -24,20 +24,20 @@ module _ {E : Type 0} (successor : E → Successor) where
   abbrev pub successor_at : Table E → Place → Successor
   successor_at t p = successor (t.entry p)
 
-  -- the entry says that its place is linked, with that place behind it. It says nothing of the one before it
+  -- the entry says that its place is linked, with that place after it. It says nothing of the one before it
   pub record IsFollowed (e : E) (before behind : Option Place) : Type 0 where
     pub linked : (successor e).linked ≡ true
     pub next : (successor e).next ≡ behind
 
   -- THE TABLE SHOWS s for the list, which keeps its first member alone
-  abbrev pub Shows : Table E → Front → List Place → Type 0
-  Shows = ShowsChain IsFollowed (λ last. tt)
+  abbrev pub Represents : Table E → Front → List Place → Type 0
+  Represents = RepresentsChain IsFollowed (λ last. tt)
 
-  -- the table shows a sequence for the list
-  abbrev pub ShowsSome : Table E → Front → Type 0
-  ShowsSome t list = (s : List Place) × Shows t list s
+  -- the table represents a sequence for the list
+  abbrev pub RepresentsSome : Table E → Front → Type 0
+  RepresentsSome t list = (s : List Place) × Represents t list s
 
-  -- the place behind, whatever stands before
+  -- the place after, whatever stands before
   abbrev pub next_of : E → Option Place → Option Place
   next_of e before = (successor e).next
 

@@ -2,7 +2,7 @@
 use Rattle.std.specs.Prelude.{List, [], ◌∷◌, ◌++◌, Bool}
 use Rattle.std.proofs.Common.{sym, ◌∙◌}
 use Rattle.ic_link_ops.specs.Tables.{Extent, Table, KeepsLinked, with_extent}
-use Rattle.ic_link_ops.specs.LinkSteps.{LinkStep, acquires, releases, Makes, Replays}
+use Rattle.ic_link_ops.specs.LinkSteps.{LinkStep, acquires, releases, Makes, TraceIs}
 
 module _ {E : Type 0} (linked : E → Bool) where
   -- a step from the same linked places, or to the same
@@ -15,13 +15,13 @@ module _ {E : Type 0} (linked : E → Bool) where
   makes_to (releases p) a b c l k = record { was = l.was; is = k p ∙ l.is; others = λ q n. k q ∙ l.others q n }
 
   -- steps from the same linked places
-  replays_from : (s : List LinkStep) (a b c : Table E) → KeepsLinked linked a b → Replays linked b c s → Replays linked a c s
+  replays_from : (s : List LinkStep) (a b c : Table E) → KeepsLinked linked a b → TraceIs linked b c s → TraceIs linked a c s
   replays_from [] a b c k l = λ q. l q ∙ k q
   replays_from (x ∷ []) a b c k l = makes_from x a b c k l
   replays_from (x ∷ y ∷ rest) a b c k l = (l.0, makes_from x a b l.0 k l.1, l.2)
 
   -- STEPS, AND THEN MORE STEPS
-  pub replays_on : (s t : List LinkStep) (a b c : Table E) → Replays linked a b s → Replays linked b c t → Replays linked a c (s ++ t)
+  pub replays_on : (s t : List LinkStep) (a b c : Table E) → TraceIs linked a b s → TraceIs linked b c t → TraceIs linked a c (s ++ t)
   replays_on [] t a b c l m = replays_from t a b c l m
   replays_on (x ∷ []) [] a b c l m = makes_to x a b c l m
   replays_on (x ∷ []) (y ∷ t) a b c l m = (b, l, m)
@@ -32,7 +32,7 @@ module _ {E : Type 0} (linked : E → Bool) where
   makes_within e f (acquires p) a b l = record { was = l.was; is = l.is; others = l.others }
   makes_within e f (releases p) a b l = record { was = l.was; is = l.is; others = l.others }
 
-  pub replays_within : (e f : Extent) (s : List LinkStep) (a b : Table E) → Replays linked a b s → Replays linked (with_extent e a) (with_extent f b) s
-  replays_within e f [] a b l = l
-  replays_within e f (x ∷ []) a b l = makes_within e f x a b l
-  replays_within e f (x ∷ y ∷ rest) a b l = (with_extent e l.0, makes_within e e x a l.0 l.1, replays_within e f (y ∷ rest) l.0 b l.2)
+  pub trace_within : (e f : Extent) (s : List LinkStep) (a b : Table E) → TraceIs linked a b s → TraceIs linked (with_extent e a) (with_extent f b) s
+  trace_within e f [] a b l = l
+  trace_within e f (x ∷ []) a b l = makes_within e f x a b l
+  trace_within e f (x ∷ y ∷ rest) a b l = (with_extent e l.0, makes_within e e x a l.0 l.1, trace_within e f (y ∷ rest) l.0 b l.2)

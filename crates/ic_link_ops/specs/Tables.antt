@@ -43,7 +43,7 @@ module _ {E : Type 0} where
     pub others : (q : Place) → q ≢ p → new.entry q ≡ old.entry q
 
   -- THE FRAME: nothing but entries at members of s is changed
-  pub record KeepsBeside (old new : Table E) (s : List Place) : Type 0 where
+  pub record ChangesOnlyIn (old new : Table E) (s : List Place) : Type 0 where
     pub extent : new.extent ≡ old.extent
     pub others : (q : Place) → IsAbsent q s → new.entry q ≡ old.entry q
 

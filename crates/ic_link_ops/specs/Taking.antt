@@ -3,7 +3,7 @@ use Rattle.std.specs.Prelude.{◌≡◌, Option, List, [], ◌∷◌, IfSome, If
 use Rattle.std.specs.Borrow.{MutBor}
 use Rattle.ic_unsafe_ref.specs.declared.place.Place.{Place}
 use Rattle.ic_link_ops.specs.Sequences.{first, last, but_last}
-use Rattle.ic_link_ops.specs.Tables.{Table, KeepsBeside}
+use Rattle.ic_link_ops.specs.Tables.{Table, ChangesOnlyIn}
 use Rattle.ic_link_ops.specs.LinkSteps.{LinkStep, releases}
 
 -- what the walk has left of a collection, and the table that it borrows
@@ -11,25 +11,25 @@ pub record Taking (L H : Type 0) : Type 0 where
   pub head : H
   pub links : MutBor L
 
--- `Shows t head s`: the table shows s for the collection with this head
-module _ {L E H : Type 0} (Shows : Table E → H → List Place → Type 0) (table : L → Table E) where
+-- `Represents t head s`: the table represents s for the collection with this head
+module _ {L E H : Type 0} (Represents : Table E → H → List Place → Type 0) (table : L → Table E) where
   -- w are the members that the walk has not given out yet
   abbrev pub Leaves : Taking L H → List Place → Type 0
-  Leaves t w = Shows (table t.links.now) t.head w
+  Leaves t w = Represents (table t.links.now) t.head w
 
   -- there are such members
   abbrev pub CanTake : Taking L H → Type 0
   CanTake t = (w : List Place) × Leaves t w
 
-  module _ (Does : L → L → List LinkStep → Type 0) where
+  module _ (Trace : L → L → List LinkStep → Type 0) where
     -- one call from s answered r and left t: the member at the end is given out and released, and no other step is made
     pub record Takes (end : List Place → Option Place) (others : List Place → List Place) (s : Taking L H) (r : Option Place) (t : Taking L H) : Type 0 where
       pub same_links : t.links.ghost_name ≡ s.links.ghost_name
       pub answer : (w : List Place) → Leaves s w → r ≡ end w
       pub removed : (w : List Place) → Leaves s w → Leaves t (others w)
-      pub released : IfSome r (λ p. Does s.links.now t.links.now (releases p ∷ []))
+      pub released : IfSome r (λ p. Trace s.links.now t.links.now (releases p ∷ []))
       pub empty : IfNone r ((t.head ≡ s.head) × (t.links.now ≡ s.links.now))
-      pub frame : (w : List Place) → Leaves s w → KeepsBeside (table s.links.now) (table t.links.now) w
+      pub frame : (w : List Place) → Leaves s w → ChangesOnlyIn (table s.links.now) (table t.links.now) w
 
     -- the same at the front, and at the back
     abbrev pub TakesFirst : Taking L H → Option Place → Taking L H → Type 0

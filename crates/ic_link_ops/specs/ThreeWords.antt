@@ -5,7 +5,7 @@ use Rattle.ic_unsafe_ref.specs.Places.{place_at, word_of}
 use Rattle.ic_link_ops.specs.declared.rbtree.ThreeWords.{ThreeWords}
 use Rattle.ic_link_ops.specs.declared.link.Link.{Link}
 use Rattle.ic_link_ops.specs.Links.{words_of}
-use Rattle.ic_link_ops.specs.Words.{bits_of, told, none}
+use Rattle.ic_link_ops.specs.Words.{bits_of, printed, none}
 use Rattle.ic_link_ops.specs.TreeWords.{unlinked, number_of}
 use Rattle.ic_link_ops.specs.RedBlackTree.{Node}
 
@@ -38,5 +38,5 @@ abbrev pub node_of : {V : Type 0} → Link ThreeWords V → Node
 node_of l = node_in (words_of l)
 
 -- the words as they are told, the flags of the third one beside twice the parent's
-abbrev pub told_in_order : ThreeWords → List ℕ
-told_in_order w = told (word_of w.left) ∷ told (bits_of w.right) ∷ number_of w.third ∷ []
+abbrev pub printed_words : ThreeWords → List ℕ
+printed_words w = printed (word_of w.left) ∷ printed (bits_of w.right) ∷ number_of w.third ∷ []

@@ -4,13 +4,13 @@ use Rattle.ic_unsafe_ref.specs.declared.place.Place.{Place}
 use Rattle.ic_link_ops.specs.Sequences.{Cut, join, IsAfter, IsDisjoint}
 use Rattle.ic_link_ops.specs.Tables.{Table}
 
--- `Shows t head s`: the table shows s for the list with this head
-module _ {E H : Type 0} (Shows : Table E → H → List Place → Type 0) where
-  -- the table shows two lists that share no member, and the position is one of the first
+-- `Represents t head s`: the table represents s for the list with this head
+module _ {E H : Type 0} (Represents : Table E → H → List Place → Type 0) where
+  -- the table represents two lists that share no member, and the position is one of the first
   pub record AreApart (t : Table E) (list other : H) (position : Option Place) : Type 0 where
     pub gap : Cut
     pub rest : List Place
-    pub shown : Shows t list (join gap)
+    pub shown : Represents t list (join gap)
     pub after : IsAfter gap position
-    pub other_shown : Shows t other rest
+    pub other_represented : Represents t other rest
     pub apart : IsDisjoint rest (join gap)

@@ -12,9 +12,9 @@ abbrev pub is_end : Option Place → Place → Bool
 is_end None p = false
 is_end (Some q) p = nat_eq (index_of q) (index_of p)
 
--- `step e before`: what stands behind the place of the entry e, if `before` stands before it
+-- `step e before`: what stands after the place of the entry e, if `before` stands before it
 module _ {E : Type 0} (step : E → Option Place → Option Place) where
-  -- at most `fuel` members, from `front` on, with `before` in front of it, up to `back`
+  -- at most `fuel` members, from `front` on, with `before` before it, up to `back`
   unfoldable pub walk : (Place → E) → ℕ → Option Place → Option Place → Option Place → List Place
   walk entry zero before front back = []
   walk entry (suc fuel) before None back = []

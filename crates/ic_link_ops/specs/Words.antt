@@ -13,8 +13,8 @@ abbrev pub marked_bits_of : MarkedWord → ℕ
 marked_bits_of w = w.bits
 
 -- a word as it is told: a quarter of what is kept, and the mark as it is
-abbrev pub told : ℕ → ℕ
-told n = n / 4 + n % 2
+abbrev pub printed : ℕ → ℕ
+printed n = n / 4 + n % 2
 
 -- whether it is a word, and not the mark
 abbrev pub is_word : MarkedWord → Bool

@@ -1,8 +1,8 @@
--- Which sequence a table shows for an XOR linked list.
+-- Which sequence a table represents for an XOR linked list.
 use Rattle.std.specs.Prelude.{◌≡◌, Bool, true, Option, None, List}
 use Rattle.ic_unsafe_ref.specs.declared.place.Place.{Place}
 use Rattle.ic_link_ops.specs.Tables.{Table}
-use Rattle.ic_link_ops.specs.Chains.{Ends, ShowsBetween}
+use Rattle.ic_link_ops.specs.Chains.{Ends, RepresentsBetween}
 use Rattle.ic_link_ops.specs.Walk.{walked}
 
 -- `is_linked e`: the place of e is linked. `joins e a b`: its two neighbors are a and b, none beyond an end
@@ -13,12 +13,12 @@ module _ {E : Type 0} (is_linked : E → Bool) (joins : E → Option Place → O
     pub joined : joins e before behind
 
   -- THE TABLE SHOWS s for the list with these ends
-  abbrev pub Shows : Table E → Ends → List Place → Type 0
-  Shows t list s = ShowsBetween IsJoined t list s
+  abbrev pub Represents : Table E → Ends → List Place → Type 0
+  Represents t list s = RepresentsBetween IsJoined t list s
 
-  -- the table shows a sequence for the list
-  abbrev pub ShowsSome : Table E → Ends → Type 0
-  ShowsSome t list = (s : List Place) × Shows t list s
+  -- the table represents a sequence for the list
+  abbrev pub RepresentsSome : Table E → Ends → Type 0
+  RepresentsSome t list = (s : List Place) × Represents t list s
 
 -- `other e a`: the neighbor of the place of e which is not a
 module _ {E : Type 0} (other : E → Option Place → Option Place) where

@@ -9,8 +9,7 @@
 //! ```
 
 ghost use Rattle.std.specs.Prelude.{◌≡◌, ◌<◌, length};
-ghost use Rattle.ic_unsafe_ref.specs.declared.place.Place.{Place};
-ghost use Rattle.ic_link_ops.specs.Tables.{IsCovered, IsLinked, IsUnlinked, ChangesOnly};
+ghost use Rattle.ic_link_ops.specs.Prelude.{Place, IsCovered, IsLinked, IsUnlinked, ChangesOnly};
 
 use crate::link::{Link, Words};
 use crate::link_ops::LinkOps;
@@ -21,7 +20,7 @@ use ic_unsafe_ref::Place;
 ///
 /// It has the link traits that the table has. In a loop over it no call reads again where the links are kept, as each call
 /// over the table itself does. When the view ends, the links are what it showed, and so the table's: hand them to a function
-/// of the loop, as above, since a proof follows what a call leaves behind them.
+/// of the loop, as above, since a proof follows what a call leaves after them.
 pub struct LentTable<'a, W, V = ()> {
     pub(crate) entries: &'a mut [Link<W, V>],
 }
@@ -57,7 +56,7 @@ impl<W: Words, V: LinkValue> LentTable<'_, W, V> {
     #[inline]
     #[tactic(auto, using(crate::proofs::WidthLemmas::nameable_count, crate::proofs::WidthLemmas::nameable_fits, crate::proofs::WidthLemmas::nameable_read))]
     pub fn covers(&self) -> usize
-        ensures { result ≡ (lent_table W.width W.unlinked V.initial V.told self.now).extent.places }
+        ensures { result ≡ (lent_table W.width W.unlinked V.initial V.printed self.now).extent.places }
     {
         W::count_nameable(self.entries.len())
     }
@@ -66,7 +65,7 @@ impl<W: Words, V: LinkValue> LentTable<'_, W, V> {
     #[inline]
     #[tactic(auto, using(crate::proofs::WidthLemmas::nameable_fits))]
     pub(crate) fn slot(&self, place: Place) -> usize
-        requires covered { IsCovered (lent_table W.width W.unlinked V.initial V.told self.now) place }
+        requires covered { IsCovered (lent_table W.width W.unlinked V.initial V.printed self.now) place }
         ensures value { result ≡ index_of place }
         ensures within { result < length (lent_entries self.now) }
     {
@@ -77,8 +76,8 @@ impl<W: Words, V: LinkValue> LentTable<'_, W, V> {
     #[inline]
     #[tactic(auto, using(crate::proofs::WidthLemmas::nameable_count, crate::proofs::WidthLemmas::nameable_fits, crate::proofs::WidthLemmas::nameable_read))]
     pub fn link(&self, place: Place) -> &Link<W, V>
-        requires covered { IsCovered (lent_table W.width W.unlinked V.initial V.told self.now) place }
-        ensures { result.now ≡ (lent_table W.width W.unlinked V.initial V.told self.now).entry place }
+        requires covered { IsCovered (lent_table W.width W.unlinked V.initial V.printed self.now) place }
+        ensures { result.now ≡ (lent_table W.width W.unlinked V.initial V.printed self.now).entry place }
     {
         let entries = &*self.entries;
         &entries[place.index()]
@@ -87,8 +86,8 @@ impl<W: Words, V: LinkValue> LentTable<'_, W, V> {
     /// Whether `place` is linked. It requires that the place is covered. O(1).
     #[inline]
     pub fn is_linked(&self, place: Place) -> bool
-        requires covered { IsCovered (lent_table W.width W.unlinked V.initial V.told self.now) place }
-        ensures { result ≡ linked_by W.is_linked ((lent_table W.width W.unlinked V.initial V.told self.now).entry place) }
+        requires covered { IsCovered (lent_table W.width W.unlinked V.initial V.printed self.now) place }
+        ensures { result ≡ linked_by W.is_linked ((lent_table W.width W.unlinked V.initial V.printed self.now).entry place) }
     {
         self.link(place).is_linked()
     }
@@ -96,9 +95,9 @@ impl<W: Words, V: LinkValue> LentTable<'_, W, V> {
     /// Unlinks `place`, whoever linked it, as [`PlainTable::force_unlink`](crate::PlainTable::force_unlink) does. O(1).
     #[inline]
     pub fn force_unlink(&mut self, place: Place)
-        requires covered { IsCovered (lent_table W.width W.unlinked V.initial V.told self.old) place }
-        ensures unlinked { IsUnlinked (linked_by W.is_linked) (lent_table W.width W.unlinked V.initial V.told self.new) place }
-        ensures frame { ChangesOnly (lent_table W.width W.unlinked V.initial V.told self.old) (lent_table W.width W.unlinked V.initial V.told self.new) place }
+        requires covered { IsCovered (lent_table W.width W.unlinked V.initial V.printed self.old) place }
+        ensures unlinked { IsUnlinked (linked_by W.is_linked) (lent_table W.width W.unlinked V.initial V.printed self.new) place }
+        ensures frame { ChangesOnly (lent_table W.width W.unlinked V.initial V.printed self.old) (lent_table W.width W.unlinked V.initial V.printed self.new) place }
     {
         let index = self.slot(place);
         let link = &mut self.entries[index];
@@ -112,22 +111,22 @@ impl<W: Words, V: LinkValue> LinkOps for LentTable<'_, W, V> {
     ghost use Rattle.ic_link_ops.specs.PlainTables.{linked_by};
     ghost use Rattle.ic_link_ops.specs.LentTables.{lent_entries, lent_table};
     ghost use Rattle.ic_link_ops.specs.EntryLaws.{linked_in_range};
-    ghost use Rattle.ic_link_ops.specs.LinkSteps.{Replays};
+    ghost use Rattle.ic_link_ops.specs.LinkSteps.{TraceIs};
     ghost use Rattle.ic_link_ops.specs.StepLaws.{replays_on};
     ghost use Rattle.std.proofs.Common.{ap, refl};
     ghost use Rattle.ic_link_ops.specs.Widths.{HasRoom, nameable, nameable_has_room};
 
     type Entry = Link<W, V>;
 
-    ghost table = { lent_table W.width W.unlinked V.initial V.told };
+    ghost table = { lent_table W.width W.unlinked V.initial V.printed };
 
     ghost linked = { linked_by W.is_linked };
 
     ghost CanName = { HasRoom W.width };
 
-    ghost Does = { λ old new s. Replays (linked_by W.is_linked) (lent_table W.width W.unlinked V.initial V.told old) (lent_table W.width W.unlinked V.initial V.told new) s };
+    ghost Trace = { λ old new s. TraceIs (linked_by W.is_linked) (lent_table W.width W.unlinked V.initial V.printed old) (lent_table W.width W.unlinked V.initial V.printed new) s };
 
-    ghost Refused = { λ old new p. IsLinked (linked_by W.is_linked) (lent_table W.width W.unlinked V.initial V.told old) p × (new ≡ old) };
+    ghost Refused = { λ old new p. IsLinked (linked_by W.is_linked) (lent_table W.width W.unlinked V.initial V.printed old) p × (new ≡ old) };
 
     #[inline]
     fn acquire_link(&mut self, place: Place) -> bool {
@@ -151,9 +150,9 @@ impl<W: Words, V: LinkValue> LinkOps for LentTable<'_, W, V> {
 
     ghost does_nothing = { λ t q. refl };
 
-    ghost does_on = { λ a b c s t h k. replays_on (linked_by W.is_linked) s t (lent_table W.width W.unlinked V.initial V.told a) (lent_table W.width W.unlinked V.initial V.told b) (lent_table W.width W.unlinked V.initial V.told c) h k };
+    ghost does_on = { λ a b c s t h k. replays_on (linked_by W.is_linked) s t (lent_table W.width W.unlinked V.initial V.printed a) (lent_table W.width W.unlinked V.initial V.printed b) (lent_table W.width W.unlinked V.initial V.printed c) h k };
 
     ghost does_replay = { λ old new s h. h };
 
-    ghost refused_keeps = { λ old new p h. ap (lent_table W.width W.unlinked V.initial V.told) h.1 };
+    ghost refused_keeps = { λ old new p h. ap (lent_table W.width W.unlinked V.initial V.printed) h.1 };
 }

@@ -6,8 +6,7 @@
 //! ```
 
 ghost use Rattle.std.specs.Prelude.{◌≡◌, ℕ, Bool, true, false, Option, ⊤};
-ghost use Rattle.ic_unsafe_ref.specs.declared.place.Place.{Place};
-ghost use Rattle.ic_link_ops.specs.Tables.{IsNameable};
+ghost use Rattle.ic_link_ops.specs.Prelude.{Place, IsNameable};
 ghost use Rattle.ic_link_ops.specs.Widths.{Width, HasRoom, CanKeep, most_places, count_nameable};
 
 use crate::link_value::LinkValue;

@@ -2,9 +2,7 @@
 
 ghost use Rattle.std.specs.Prelude.{◌≡◌, Bool, List, [], ◌∷◌, ◌++◌};
 ghost use Rattle.std.specs.Bool.{OnTrue, OnFalse};
-ghost use Rattle.ic_unsafe_ref.specs.declared.place.Place.{Place};
-ghost use Rattle.ic_link_ops.specs.Tables.{Table, IsCovered, IsLinked, ChangesOnly};
-ghost use Rattle.ic_link_ops.specs.LinkSteps.{LinkStep, acquires, releases, Replays};
+ghost use Rattle.ic_link_ops.specs.Prelude.{Place, Table, IsCovered, IsLinked, ChangesOnly, LinkStep, acquires, releases, TraceIs};
 
 use ic_unsafe_ref::Place;
 
@@ -40,7 +38,7 @@ pub trait LinkOps {
     ghost CanName: { Place → Type 0 };
 
     // THE STEPS: from the one state to the other the table made these steps, in this order, and no other.
-    ghost Does: { Self → Self → List LinkStep → Type 0 };
+    ghost Trace: { Self → Self → List LinkStep → Type 0 };
 
     // The place could not be had, and no entry has changed.
     ghost Refused: { Self → Self → Place → Type 0 };
@@ -50,27 +48,27 @@ pub trait LinkOps {
     /// It requires that the place is covered. O(1).
     fn acquire_link(&mut self, place: Place) -> bool
         requires covered { IsCovered (table self.old) place }
-        ensures acquired { OnTrue result (Does self.old self.new (acquires place ∷ [])) }
+        ensures acquired { OnTrue result (Trace self.old self.new (acquires place ∷ [])) }
         ensures refused { OnFalse result (Refused self.old self.new place) }
         ensures frame { ChangesOnly (table self.old) (table self.new) place };
 
     /// Unlinks `place`. It requires that the place is linked. O(1).
     fn release_link(&mut self, place: Place)
         requires linked { IsLinked linked (table self.old) place }
-        ensures released { Does self.old self.new (releases place ∷ []) }
+        ensures released { Trace self.old self.new (releases place ∷ []) }
         ensures frame { ChangesOnly (table self.old) (table self.new) place };
 
-    // The laws: only covered places are linked, and there is room for their names; what stays took no step; steps and then more steps are all of them; the
-    // linked places are what the steps lead to; a refusal changes no entry.
+    // The laws: only covered places are linked, and there is room for their names; what stays took no step; steps and then more steps are all of
+    // them; the linked places are what the steps lead to; a refusal changes no entry.
     ghost linked_is_covered: { (t : Self) (p : Place) → IsLinked linked (table t) p → IsCovered (table t) p };
 
     ghost covered_has_name: { (t : Self) (p : Place) → IsCovered (table t) p → CanName p };
 
-    ghost does_nothing: { (t : Self) → Does t t [] };
+    ghost does_nothing: { (t : Self) → Trace t t [] };
 
-    ghost does_on: { (a b c : Self) (s t : List LinkStep) → Does a b s → Does b c t → Does a c (s ++ t) };
+    ghost does_on: { (a b c : Self) (s t : List LinkStep) → Trace a b s → Trace b c t → Trace a c (s ++ t) };
 
-    ghost does_replay: { (old new : Self) (s : List LinkStep) → Does old new s → Replays linked (table old) (table new) s };
+    ghost does_replay: { (old new : Self) (s : List LinkStep) → Trace old new s → TraceIs linked (table old) (table new) s };
 
     ghost refused_keeps: { (old new : Self) (p : Place) → Refused old new p → table new ≡ table old };
 }

@@ -9,9 +9,7 @@
 //! ```
 
 ghost use Rattle.std.specs.Prelude.{◌≡◌, ◌≢◌, true, ℕ, List, [], length};
-ghost use Rattle.ic_unsafe_ref.specs.declared.place.Place.{Place};
-ghost use Rattle.ic_unsafe_ref.specs.Objects.{is_placed, with_object};
-ghost use Rattle.ic_link_ops.specs.Tables.{IsCovered};
+ghost use Rattle.ic_link_ops.specs.Prelude.{Place, is_placed, with_object, IsCovered};
 
 use crate::lent_table::LentTable;
 use crate::link::Words;
@@ -26,14 +24,14 @@ pub trait LinkValue: Drop {
     ghost initial: { Self };
 
     // The values of a table as numbers, which are part of its extent: so no call of a collection changes them.
-    ghost told: { List Self → List ℕ };
+    ghost printed: { List Self → List ℕ };
 
     /// The value that stands beside a link until one is set.
     fn initial() -> Self
         ensures { result ≡ initial };
 
     // The law: the numbers tell the values.
-    ghost tells: { (s t : List Self) → length s ≡ length t → told s ≡ told t → s ≡ t };
+    ghost tells: { (s t : List Self) → length s ≡ length t → printed s ≡ printed t → s ≡ t };
 }
 
 /// Nothing beside the links. It takes no memory.
@@ -42,7 +40,7 @@ impl LinkValue for () {
 
     ghost initial = { tt };
 
-    ghost told = { λ _. [] };
+    ghost printed = { λ _. [] };
 
     fn initial() {}
 
@@ -53,7 +51,7 @@ impl LinkValue for () {
 impl LinkValue for u64 {
     ghost initial = { 0 };
 
-    ghost told = { λ s. s };
+    ghost printed = { λ s. s };
 
     fn initial() -> u64 {
         0
@@ -66,7 +64,7 @@ impl LinkValue for u64 {
 impl LinkValue for u32 {
     ghost initial = { 0 };
 
-    ghost told = { λ numbers. numbers };
+    ghost printed = { λ numbers. numbers };
 
     fn initial() -> u32 {
         0_u32
@@ -91,7 +89,7 @@ pub trait LinkValues<V>: LinkOps + Values<V> {
         ensures links { (q : Place) → LinksAlike ((Self.table self.old).entry q) ((Self.table self.new).entry q) }
         ensures others { (q : Place) → q ≢ place → (Self.table self.new).entry q ≡ (Self.table self.old).entry q }
         ensures covers { (Self.table self.new).extent.places ≡ (Self.table self.old).extent.places }
-        ensures no_step { Self.Does self.old self.new [] };
+        ensures trace_stays { Self.Trace self.old self.new [] };
 
     // The laws: a value stands at each covered place, and the values are part of the extent.
     ghost covered_has_value: { (t : Self) (p : Place) → IsCovered (Self.table t) p → is_placed (Self.values t) p ≡ true };
@@ -129,7 +127,7 @@ impl<W: Words, A: Allocator, V: LinkValue> LinkValues<V> for PlainTable<W, A, V>
 
     ghost covered_has_value = { λ t p covered. placed_where_covered (nameable W.width (entries t)) p covered };
 
-    ghost values_stay = { λ old new e. values_kept V.told V.tells (nameable W.width (entries old)) (nameable W.width (entries new)) e };
+    ghost values_stay = { λ old new e. values_kept V.printed V.tells (nameable W.width (entries old)) (nameable W.width (entries new)) e };
 }
 
 impl<W: Words, V: LinkValue> Values<V> for LentTable<'_, W, V> {
@@ -164,5 +162,5 @@ impl<W: Words, V: LinkValue> LinkValues<V> for LentTable<'_, W, V> {
 
     ghost covered_has_value = { λ t p covered. placed_where_covered (nameable W.width (lent_entries t)) p covered };
 
-    ghost values_stay = { λ old new e. lent_kept V.told V.tells (nameable W.width (lent_entries old)) (nameable W.width (lent_entries new)) e };
+    ghost values_stay = { λ old new e. lent_kept V.printed V.tells (nameable W.width (lent_entries old)) (nameable W.width (lent_entries new)) e };
 }

@@ -8,9 +8,7 @@
 
 ghost use Rattle.std.specs.Prelude.{◌≡◌, Option, [], ◌∷◌};
 ghost use Rattle.std.specs.Bool.{OnTrue, OnFalse};
-ghost use Rattle.ic_unsafe_ref.specs.declared.place.Place.{Place};
-ghost use Rattle.ic_link_ops.specs.Tables.{IsCovered, IsLinked, IsNameable, ChangesOnly};
-ghost use Rattle.ic_link_ops.specs.LinkSteps.{acquires};
+ghost use Rattle.ic_link_ops.specs.Prelude.{Place, IsCovered, IsLinked, IsNameable, ChangesOnly, acquires};
 ghost use Rattle.ic_link_ops.specs.LinkedList.{Neighbors, neighbors_at, IsBetween};
 
 use crate::lent_table::LentTable;
@@ -30,7 +28,7 @@ pub trait LinkedListOps: link_ops::LinkOps {
     // What an entry says: whether its place is linked, and between which places.
     ghost neighbors: { Self.Entry → Neighbors };
 
-    /// The place behind `place`. It requires that the place is linked. O(1).
+    /// The place after `place`. It requires that the place is linked. O(1).
     fn next(&self, place: Place) -> Option<Place>
         requires linked { IsLinked Self.linked (Self.table self.now) place }
         ensures { result ≡ (neighbors_at neighbors (Self.table self.now) place).next };
@@ -40,14 +38,14 @@ pub trait LinkedListOps: link_ops::LinkOps {
         requires linked { IsLinked Self.linked (Self.table self.now) place }
         ensures { result ≡ (neighbors_at neighbors (Self.table self.now) place).prev };
 
-    /// Sets the place behind `place`. It requires that the place is linked, and that the table can name that one. O(1).
+    /// Sets the place after `place`. It requires that the place is linked, and that the table can name that one. O(1).
     fn set_next(&mut self, place: Place, next: Option<Place>)
         requires linked { IsLinked Self.linked (Self.table self.old) place }
         requires next { IsNameable Self.CanName next }
         ensures set { neighbors_at neighbors (Self.table self.new) place
             ≡ record (neighbors_at neighbors (Self.table self.old) place) { next = next } }
         ensures frame { ChangesOnly (Self.table self.old) (Self.table self.new) place }
-        ensures no_step { Self.Does self.old self.new [] };
+        ensures trace_stays { Self.Trace self.old self.new [] };
 
     /// Sets the place before `place`. It requires that the place is linked, and that the table can name that one. O(1).
     fn set_prev(&mut self, place: Place, prev: Option<Place>)
@@ -56,7 +54,7 @@ pub trait LinkedListOps: link_ops::LinkOps {
         ensures set { neighbors_at neighbors (Self.table self.new) place
             ≡ record (neighbors_at neighbors (Self.table self.old) place) { prev = prev } }
         ensures frame { ChangesOnly (Self.table self.old) (Self.table self.new) place }
-        ensures no_step { Self.Does self.old self.new [] };
+        ensures trace_stays { Self.Trace self.old self.new [] };
 
     /// Links `place` between two others, unless it is refused, and says whether it did. It requires that the place is covered, and that the
     /// table can name the others. O(1).
@@ -67,7 +65,7 @@ pub trait LinkedListOps: link_ops::LinkOps {
         requires covered { IsCovered (Self.table self.old) place }
         requires prev { IsNameable Self.CanName prev }
         requires next { IsNameable Self.CanName next }
-        ensures acquired { OnTrue result (Self.Does self.old self.new (acquires place ∷ [])) }
+        ensures acquired { OnTrue result (Self.Trace self.old self.new (acquires place ∷ [])) }
         ensures set { OnTrue result (IsBetween neighbors ((Self.table self.new).entry place) prev next) }
         ensures refused { OnFalse result (Self.Refused self.old self.new place) }
         ensures frame { ChangesOnly (Self.table self.old) (Self.table self.new) place }

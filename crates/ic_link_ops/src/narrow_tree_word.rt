@@ -5,10 +5,8 @@
 //! ```
 
 ghost use Rattle.std.specs.Prelude.{◌≡◌, ◌*◌, ◌%◌, ◌<◌, Option};
-ghost use Rattle.ic_unsafe_ref.specs.Places.{word_of};
-ghost use Rattle.ic_unsafe_ref.specs.declared.place.Place.{Place};
+ghost use Rattle.ic_link_ops.specs.Prelude.{Place, word_of, IsNameable};
 ghost use Rattle.ic_link_ops.specs.declared.color.Color.{Color};
-ghost use Rattle.ic_link_ops.specs.Tables.{IsNameable};
 ghost use Rattle.ic_link_ops.specs.TreeWords.{unlinked, linked, linked_below};
 ghost use Rattle.ic_link_ops.specs.Widths.{HasRoom, narrow};
 

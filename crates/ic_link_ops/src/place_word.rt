@@ -19,9 +19,8 @@ pub struct PlaceWord {
 
 impl Model for PlaceWord {
     ghost use Rattle.std.specs.Prelude.{Option};
-    ghost use Rattle.ic_unsafe_ref.specs.declared.place.Place.{Place};
+    ghost use Rattle.ic_link_ops.specs.Prelude.{Place, place_at};
     ghost use Rattle.ic_unsafe_ref.specs.PlaceWords.{IsWord};
-    ghost use Rattle.ic_unsafe_ref.specs.Places.{place_at};
 
     ghost Value = { Option Place };
 

@@ -6,8 +6,7 @@
 //! ```
 
 ghost use Rattle.std.specs.Prelude.{◌≡◌, ◌≢◌, Option, []};
-ghost use Rattle.ic_unsafe_ref.specs.declared.place.Place.{Place};
-ghost use Rattle.ic_link_ops.specs.Tables.{IsLinked, IsNameable, ChangesOnly};
+ghost use Rattle.ic_link_ops.specs.Prelude.{Place, IsLinked, IsNameable, ChangesOnly};
 ghost use Rattle.ic_link_ops.specs.RedBlackTree.{Node, node_at};
 ghost use Rattle.ic_link_ops.specs.declared.color.Color.{Color};
 
@@ -59,7 +58,7 @@ pub trait RBTreeOps: link_ops::LinkOps {
         ensures set { node_at node (Self.table self.new) place
             ≡ record (node_at node (Self.table self.old) place) { left = left } }
         ensures frame { ChangesOnly (Self.table self.old) (Self.table self.new) place }
-        ensures no_step { Self.Does self.old self.new [] };
+        ensures trace_stays { Self.Trace self.old self.new [] };
 
     /// Sets the right child of `place`. It requires that the place is linked, and that the table can name the child. O(1).
     fn set_right(&mut self, place: Place, right: Option<Place>)
@@ -68,7 +67,7 @@ pub trait RBTreeOps: link_ops::LinkOps {
         ensures set { node_at node (Self.table self.new) place
             ≡ record (node_at node (Self.table self.old) place) { right = right } }
         ensures frame { ChangesOnly (Self.table self.old) (Self.table self.new) place }
-        ensures no_step { Self.Does self.old self.new [] };
+        ensures trace_stays { Self.Trace self.old self.new [] };
 
     /// Sets the parent of `place`. It requires that the place is linked, and that the table can name the parent. O(1).
     fn set_parent(&mut self, place: Place, parent: Option<Place>)
@@ -77,7 +76,7 @@ pub trait RBTreeOps: link_ops::LinkOps {
         ensures set { node_at node (Self.table self.new) place
             ≡ record (node_at node (Self.table self.old) place) { parent = parent } }
         ensures frame { ChangesOnly (Self.table self.old) (Self.table self.new) place }
-        ensures no_step { Self.Does self.old self.new [] };
+        ensures trace_stays { Self.Trace self.old self.new [] };
 
     /// Sets the color of `place`. It requires that the place is linked. O(1).
     fn set_color(&mut self, place: Place, color: Color)
@@ -85,7 +84,7 @@ pub trait RBTreeOps: link_ops::LinkOps {
         ensures set { node_at node (Self.table self.new) place
             ≡ record (node_at node (Self.table self.old) place) { color = color } }
         ensures frame { ChangesOnly (Self.table self.old) (Self.table self.new) place }
-        ensures no_step { Self.Does self.old self.new [] };
+        ensures trace_stays { Self.Trace self.old self.new [] };
 
     /// Sets the parent and the color of `place`, at once. It requires that the place is linked, and that the table can name the parent. O(1).
     fn set_parent_and_color(&mut self, place: Place, parent: Option<Place>, color: Color)
@@ -94,7 +93,7 @@ pub trait RBTreeOps: link_ops::LinkOps {
         ensures set { node_at node (Self.table self.new) place
             ≡ record (node_at node (Self.table self.old) place) { parent = parent; color = color } }
         ensures frame { ChangesOnly (Self.table self.old) (Self.table self.new) place }
-        ensures no_step { Self.Does self.old self.new [] };
+        ensures trace_stays { Self.Trace self.old self.new [] };
 
     // The law: both traits say alike whether a place is linked.
     ghost linked_alike: { (e : Self.Entry) → (node e).linked ≡ Self.linked e };
@@ -131,7 +130,7 @@ pub type NarrowLinkOpsWith<V, A = Global> = PlainTable<ThreeNarrowWords, A, V>;
 
 impl link::Link<ThreeWords> {
     ghost use Rattle.ic_link_ops.specs.Links.{words_of};
-    ghost use Rattle.ic_link_ops.specs.ThreeWords.{told_in_order};
+    ghost use Rattle.ic_link_ops.specs.ThreeWords.{printed_words};
 
     /// The three words: those of the left and the right child, and that of the parent and the color.
     ///
@@ -140,7 +139,7 @@ impl link::Link<ThreeWords> {
     /// as four times, and twice, as much.
     #[inline]
     pub fn words(&self) -> [u64; 3]
-        ensures { result ≡ told_in_order (words_of self.now) }
+        ensures { result ≡ printed_words (words_of self.now) }
     {
         [
             Place::to_word(self.words.left.get()) / 4,

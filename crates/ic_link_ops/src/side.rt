@@ -7,8 +7,8 @@
 /// Left or right: what comes in two mirrored halves is written once, for a side.
 #[derive(Clone, Copy, PartialEq, Eq, Debug)]
 pub enum Side {
-    /// The members in front.
+    /// The members before.
     Left,
-    /// The members behind.
+    /// The members after.
     Right,
 }

@@ -7,9 +7,7 @@
 
 ghost use Rattle.std.specs.Prelude.{◌≡◌, Option, true, [], ◌∷◌};
 ghost use Rattle.std.specs.Bool.{OnTrue, OnFalse};
-ghost use Rattle.ic_unsafe_ref.specs.declared.place.Place.{Place};
-ghost use Rattle.ic_link_ops.specs.Tables.{IsCovered, IsLinked, IsNameable, ChangesOnly};
-ghost use Rattle.ic_link_ops.specs.LinkSteps.{acquires};
+ghost use Rattle.ic_link_ops.specs.Prelude.{Place, IsCovered, IsLinked, IsNameable, ChangesOnly, acquires};
 ghost use Rattle.ic_link_ops.specs.SinglyLinkedList.{Successor, successor_at};
 
 use crate::lent_table::LentTable;
@@ -23,26 +21,26 @@ use crate::word::Word;
 use ic_unsafe_ref::Place;
 use std::alloc::{Allocator, Global};
 
-/// A table whose entries name what stands behind, which is what a singly linked list asks for.
+/// A table whose entries name what stands after, which is what a singly linked list asks for.
 pub trait SinglyLinkedListOps: link_ops::LinkOps {
-    // What an entry says: whether its place is linked, and what stands behind it.
+    // What an entry says: whether its place is linked, and what stands after it.
     ghost successor: { Self.Entry → Successor };
 
-    /// The place behind `place`. It requires that the place is linked. O(1).
+    /// The place after `place`. It requires that the place is linked. O(1).
     fn next(&self, place: Place) -> Option<Place>
         requires linked { IsLinked Self.linked (Self.table self.now) place }
         ensures { result ≡ (successor_at successor (Self.table self.now) place).next };
 
-    /// Sets the place behind `place`. It requires that the place is linked, and that the table can name that one. O(1).
+    /// Sets the place after `place`. It requires that the place is linked, and that the table can name that one. O(1).
     fn set_next(&mut self, place: Place, next: Option<Place>)
         requires linked { IsLinked Self.linked (Self.table self.old) place }
         requires next { IsNameable Self.CanName next }
         ensures set { successor_at successor (Self.table self.new) place
             ≡ record (successor_at successor (Self.table self.old) place) { next = next } }
         ensures frame { ChangesOnly (Self.table self.old) (Self.table self.new) place }
-        ensures no_step { Self.Does self.old self.new [] };
+        ensures trace_stays { Self.Trace self.old self.new [] };
 
-    /// Links `place` in front of another, unless it is refused, and says whether it did. It requires that the place is covered, and that the
+    /// Links `place` before another, unless it is refused, and says whether it did. It requires that the place is covered, and that the
     /// table can name the other. O(1).
     ///
     /// It is `acquire_link` and `set_next` in one, for a table that can write the word once.
@@ -50,7 +48,7 @@ pub trait SinglyLinkedListOps: link_ops::LinkOps {
     fn link_before(&mut self, place: Place, next: Option<Place>) -> bool
         requires covered { IsCovered (Self.table self.old) place }
         requires next { IsNameable Self.CanName next }
-        ensures acquired { OnTrue result (Self.Does self.old self.new (acquires place ∷ [])) }
+        ensures acquired { OnTrue result (Self.Trace self.old self.new (acquires place ∷ [])) }
         ensures set { OnTrue result (successor_at successor (Self.table self.new) place ≡ record { linked = true; next = next }) }
         ensures refused { OnFalse result (Self.Refused self.old self.new place) }
         ensures frame { ChangesOnly (Self.table self.old) (Self.table self.new) place }

@@ -8,8 +8,7 @@
 
 ghost use Rattle.std.specs.Prelude.{◌≡◌, ◌<◌, ◌≤◌, ◌↔◌, length, max, OnOk, OnErr, IsOk, Err};
 ghost use Rattle.std.specs.Bool.{OnTrue, OnFalse};
-ghost use Rattle.ic_unsafe_ref.specs.declared.place.Place.{Place};
-ghost use Rattle.ic_link_ops.specs.Tables.{IsCovered, IsLinked, IsUnlinked, ChangesOnly};
+ghost use Rattle.ic_link_ops.specs.Prelude.{Place, IsCovered, IsLinked, IsUnlinked, ChangesOnly};
 
 use crate::errors::CoverError;
 use crate::link::{Link, Words};
@@ -36,7 +35,7 @@ impl<W: Words, A: Allocator, V: LinkValue> PlainTable<W, A, V> {
 
     /// A table that covers no place. It takes no memory.
     pub fn new(alloc: A) -> PlainTable<W, A, V>
-        ensures { (table_beside W.width W.unlinked V.initial V.told result).extent.places ≡ 0 }
+        ensures { (table_beside W.width W.unlinked V.initial V.printed result).extent.places ≡ 0 }
     {
         PlainTable {
             entries: Vec::new(alloc),
@@ -47,7 +46,7 @@ impl<W: Words, A: Allocator, V: LinkValue> PlainTable<W, A, V> {
     #[inline]
     #[tactic(auto, using(crate::proofs::WidthLemmas::nameable_count, crate::proofs::WidthLemmas::nameable_fits, crate::proofs::WidthLemmas::nameable_read, crate::proofs::WidthLemmas::nameable_written))]
     pub fn covers(&self) -> usize
-        ensures { result ≡ (table_beside W.width W.unlinked V.initial V.told self.now).extent.places }
+        ensures { result ≡ (table_beside W.width W.unlinked V.initial V.printed self.now).extent.places }
     {
         W::count_nameable(self.entries.len())
     }
@@ -56,7 +55,7 @@ impl<W: Words, A: Allocator, V: LinkValue> PlainTable<W, A, V> {
     #[inline]
     #[tactic(auto, using(crate::proofs::WidthLemmas::nameable_fits))]
     pub(crate) fn slot(&self, place: Place) -> usize
-        requires covered { IsCovered (table_beside W.width W.unlinked V.initial V.told self.now) place }
+        requires covered { IsCovered (table_beside W.width W.unlinked V.initial V.printed self.now) place }
         ensures value { result ≡ index_of place }
         ensures within { result < length (entries self.now) }
     {
@@ -66,7 +65,7 @@ impl<W: Words, A: Allocator, V: LinkValue> PlainTable<W, A, V> {
     // The index of the link of a place that is linked.
     #[inline]
     pub(crate) fn slot_of_linked(&self, place: Place) -> usize
-        requires linked { IsLinked (linked_by W.is_linked) (table_beside W.width W.unlinked V.initial V.told self.now) place }
+        requires linked { IsLinked (linked_by W.is_linked) (table_beside W.width W.unlinked V.initial V.printed self.now) place }
         ensures value { result ≡ index_of place }
         ensures within { result < length (entries self.now) }
     {
@@ -77,8 +76,8 @@ impl<W: Words, A: Allocator, V: LinkValue> PlainTable<W, A, V> {
     #[inline]
     #[tactic(auto, using(crate::proofs::WidthLemmas::nameable_count, crate::proofs::WidthLemmas::nameable_fits, crate::proofs::WidthLemmas::nameable_read, crate::proofs::WidthLemmas::nameable_written))]
     pub fn link(&self, place: Place) -> &Link<W, V>
-        requires covered { IsCovered (table_beside W.width W.unlinked V.initial V.told self.now) place }
-        ensures { result.now ≡ (table_beside W.width W.unlinked V.initial V.told self.now).entry place }
+        requires covered { IsCovered (table_beside W.width W.unlinked V.initial V.printed self.now) place }
+        ensures { result.now ≡ (table_beside W.width W.unlinked V.initial V.printed self.now).entry place }
     {
         &self.entries[place.index()]
     }
@@ -87,8 +86,8 @@ impl<W: Words, A: Allocator, V: LinkValue> PlainTable<W, A, V> {
     #[inline]
     #[tactic(auto, using(crate::proofs::WidthLemmas::nameable_count, crate::proofs::WidthLemmas::nameable_fits, crate::proofs::WidthLemmas::nameable_read, crate::proofs::WidthLemmas::nameable_written))]
     pub fn is_linked(&self, place: Place) -> bool
-        requires covered { IsCovered (table_beside W.width W.unlinked V.initial V.told self.now) place }
-        ensures { result ≡ linked_by W.is_linked ((table_beside W.width W.unlinked V.initial V.told self.now).entry place) }
+        requires covered { IsCovered (table_beside W.width W.unlinked V.initial V.printed self.now) place }
+        ensures { result ≡ linked_by W.is_linked ((table_beside W.width W.unlinked V.initial V.printed self.now).entry place) }
     {
         self.entries[place.index()].is_linked()
     }
@@ -100,9 +99,9 @@ impl<W: Words, A: Allocator, V: LinkValue> PlainTable<W, A, V> {
     #[inline]
     #[tactic(auto, using(crate::proofs::WidthLemmas::nameable_count, crate::proofs::WidthLemmas::nameable_fits, crate::proofs::WidthLemmas::nameable_read, crate::proofs::WidthLemmas::nameable_written))]
     pub fn force_unlink(&mut self, place: Place)
-        requires covered { IsCovered (table_beside W.width W.unlinked V.initial V.told self.old) place }
-        ensures unlinked { IsUnlinked (linked_by W.is_linked) (table_beside W.width W.unlinked V.initial V.told self.new) place }
-        ensures frame { ChangesOnly (table_beside W.width W.unlinked V.initial V.told self.old) (table_beside W.width W.unlinked V.initial V.told self.new) place }
+        requires covered { IsCovered (table_beside W.width W.unlinked V.initial V.printed self.old) place }
+        ensures unlinked { IsUnlinked (linked_by W.is_linked) (table_beside W.width W.unlinked V.initial V.printed self.new) place }
+        ensures frame { ChangesOnly (table_beside W.width W.unlinked V.initial V.printed self.old) (table_beside W.width W.unlinked V.initial V.printed self.new) place }
     {
         let index = self.slot(place);
         let entry = &mut self.entries[index];
@@ -127,11 +126,11 @@ impl<W: Words, A: Allocator, V: LinkValue> PlainTable<W, A, V> {
     /// nothing changes. At most one request for memory.
     pub fn cover(&mut self, count: usize) -> Result<(), CoverError>
         ensures too_many { (result ≡ Err CoverError.TooManyPlaces) ↔ most_places W.width < count }
-        ensures covers { OnOk result ((table_beside W.width W.unlinked V.initial V.told self.new).extent.places ≡ max (table_beside W.width W.unlinked V.initial V.told self.old).extent.places count) }
-        ensures stays { (q : Place) → (table_beside W.width W.unlinked V.initial V.told self.new).entry q
-            ≡ (table_beside W.width W.unlinked V.initial V.told self.old).entry q }
-        ensures covered { (q : Place) → IsCovered (table_beside W.width W.unlinked V.initial V.told self.old) q → IsCovered (table_beside W.width W.unlinked V.initial V.told self.new) q }
-        ensures enough { count ≤ (table_beside W.width W.unlinked V.initial V.told self.old).extent.places → count ≤ most_places W.width → IsOk result }
+        ensures covers { OnOk result ((table_beside W.width W.unlinked V.initial V.printed self.new).extent.places ≡ max (table_beside W.width W.unlinked V.initial V.printed self.old).extent.places count) }
+        ensures stays { (q : Place) → (table_beside W.width W.unlinked V.initial V.printed self.new).entry q
+            ≡ (table_beside W.width W.unlinked V.initial V.printed self.old).entry q }
+        ensures covered { (q : Place) → IsCovered (table_beside W.width W.unlinked V.initial V.printed self.old) q → IsCovered (table_beside W.width W.unlinked V.initial V.printed self.new) q }
+        ensures enough { count ≤ (table_beside W.width W.unlinked V.initial V.printed self.old).extent.places → count ≤ most_places W.width → IsOk result }
         ensures refused { OnErr result (entries self.new ≡ entries self.old) }
     {
         if count > W::most_places() {
@@ -162,22 +161,22 @@ impl<W: Words, A: Allocator, V: LinkValue> LinkOps for PlainTable<W, A, V> {
     ghost use Rattle.ic_link_ops.specs.Links.{link_with};
     ghost use Rattle.ic_link_ops.specs.PlainTables.{entries, table_beside, linked_by};
     ghost use Rattle.ic_link_ops.specs.EntryLaws.{linked_in_range};
-    ghost use Rattle.ic_link_ops.specs.LinkSteps.{Replays};
+    ghost use Rattle.ic_link_ops.specs.LinkSteps.{TraceIs};
     ghost use Rattle.ic_link_ops.specs.StepLaws.{replays_on};
     ghost use Rattle.std.proofs.Common.{ap, refl};
     ghost use Rattle.ic_link_ops.specs.Widths.{HasRoom, nameable, nameable_has_room};
 
     type Entry = Link<W, V>;
 
-    ghost table = { table_beside W.width W.unlinked V.initial V.told };
+    ghost table = { table_beside W.width W.unlinked V.initial V.printed };
 
     ghost linked = { linked_by W.is_linked };
 
     ghost CanName = { HasRoom W.width };
 
-    ghost Does = { λ old new s. Replays (linked_by W.is_linked) (table_beside W.width W.unlinked V.initial V.told old) (table_beside W.width W.unlinked V.initial V.told new) s };
+    ghost Trace = { λ old new s. TraceIs (linked_by W.is_linked) (table_beside W.width W.unlinked V.initial V.printed old) (table_beside W.width W.unlinked V.initial V.printed new) s };
 
-    ghost Refused = { λ old new p. IsLinked (linked_by W.is_linked) (table_beside W.width W.unlinked V.initial V.told old) p × (new ≡ old) };
+    ghost Refused = { λ old new p. IsLinked (linked_by W.is_linked) (table_beside W.width W.unlinked V.initial V.printed old) p × (new ≡ old) };
 
     #[inline]
     fn acquire_link(&mut self, place: Place) -> bool {
@@ -203,9 +202,9 @@ impl<W: Words, A: Allocator, V: LinkValue> LinkOps for PlainTable<W, A, V> {
 
     ghost does_nothing = { λ t q. refl };
 
-    ghost does_on = { λ a b c s t h k. replays_on (linked_by W.is_linked) s t (table_beside W.width W.unlinked V.initial V.told a) (table_beside W.width W.unlinked V.initial V.told b) (table_beside W.width W.unlinked V.initial V.told c) h k };
+    ghost does_on = { λ a b c s t h k. replays_on (linked_by W.is_linked) s t (table_beside W.width W.unlinked V.initial V.printed a) (table_beside W.width W.unlinked V.initial V.printed b) (table_beside W.width W.unlinked V.initial V.printed c) h k };
 
     ghost does_replay = { λ old new s h. h };
 
-    ghost refused_keeps = { λ old new p h. ap (table_beside W.width W.unlinked V.initial V.told) h.1 };
+    ghost refused_keeps = { λ old new p h. ap (table_beside W.width W.unlinked V.initial V.printed) h.1 };
 }

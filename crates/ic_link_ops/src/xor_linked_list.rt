@@ -7,9 +7,7 @@
 
 ghost use Rattle.std.specs.Prelude.{◌≡◌, Option, [], ◌∷◌};
 ghost use Rattle.std.specs.Bool.{OnTrue, OnFalse};
-ghost use Rattle.ic_unsafe_ref.specs.declared.place.Place.{Place};
-ghost use Rattle.ic_link_ops.specs.Tables.{IsCovered, IsLinked, IsNameable, ChangesOnly};
-ghost use Rattle.ic_link_ops.specs.LinkSteps.{acquires};
+ghost use Rattle.ic_link_ops.specs.Prelude.{Place, IsCovered, IsLinked, IsNameable, ChangesOnly, acquires};
 
 use crate::lent_table::LentTable;
 use crate::link::{self, NextWord};
@@ -32,12 +30,12 @@ pub trait XorLinkedListOps: link_ops::LinkOps {
     // The neighbor on the other side of the one that is told.
     ghost other: { Self.Entry → Option Place → Option Place };
 
-    /// The place behind `place`, if `prev` stands before it. It requires that the place is linked. O(1).
+    /// The place after `place`, if `prev` stands before it. It requires that the place is linked. O(1).
     fn next(&self, place: Place, prev: Option<Place>) -> Option<Place>
         requires linked { IsLinked Self.linked (Self.table self.now) place }
         ensures { result ≡ other ((Self.table self.now).entry place) prev };
 
-    /// The place before `place`, if `next` stands behind it. It requires that the place is linked. O(1).
+    /// The place before `place`, if `next` stands after it. It requires that the place is linked. O(1).
     fn prev(&self, place: Place, next: Option<Place>) -> Option<Place>
         requires linked { IsLinked Self.linked (Self.table self.now) place }
         ensures { result ≡ other ((Self.table self.now).entry place) next };
@@ -50,7 +48,7 @@ pub trait XorLinkedListOps: link_ops::LinkOps {
         ensures set { Joins ((Self.table self.new).entry place) prev next }
         ensures linked { IsLinked Self.linked (Self.table self.new) place }
         ensures frame { ChangesOnly (Self.table self.old) (Self.table self.new) place }
-        ensures no_step { Self.Does self.old self.new [] };
+        ensures trace_stays { Self.Trace self.old self.new [] };
 
     /// Puts `new` where `old` stood beside `place`. It requires that the place is linked, and that the table can name both. O(1).
     fn replace_next_or_prev(&mut self, place: Place, old: Option<Place>, new: Option<Place>)
@@ -61,7 +59,7 @@ pub trait XorLinkedListOps: link_ops::LinkOps {
             → Joins ((Self.table self.new).entry place) new x }
         ensures linked { IsLinked Self.linked (Self.table self.new) place }
         ensures frame { ChangesOnly (Self.table self.old) (Self.table self.new) place }
-        ensures no_step { Self.Does self.old self.new [] };
+        ensures trace_stays { Self.Trace self.old self.new [] };
 
     /// Links `place` between two others, unless it is refused, and says whether it did. It requires that the place is covered, and that the
     /// table can name the others. O(1).
@@ -72,7 +70,7 @@ pub trait XorLinkedListOps: link_ops::LinkOps {
         requires covered { IsCovered (Self.table self.old) place }
         requires prev { IsNameable Self.CanName prev }
         requires next { IsNameable Self.CanName next }
-        ensures acquired { OnTrue result (Self.Does self.old self.new (acquires place ∷ [])) }
+        ensures acquired { OnTrue result (Self.Trace self.old self.new (acquires place ∷ [])) }
         ensures set { OnTrue result (Joins ((Self.table self.new).entry place) prev next) }
         ensures refused { OnFalse result (Self.Refused self.old self.new place) }
         ensures frame { ChangesOnly (Self.table self.old) (Self.table self.new) place }
@@ -116,13 +114,13 @@ pub type NarrowLinkOpsWith<V, A = Global> = PlainTable<OneNarrowWord<Xor>, A, V>
 impl link::Link<OneWord<Xor>> {
     ghost use Rattle.ic_link_ops.specs.Links.{words_of};
     ghost use Rattle.ic_link_ops.specs.OneWord.{next_word_of};
-    ghost use Rattle.ic_link_ops.specs.Words.{told};
+    ghost use Rattle.ic_link_ops.specs.Words.{printed};
 
     /// The exclusive or of the neighbors' numbers: `2 * (index + 1)` for a place, and 0 for none. The mark 1 while the
     /// place is unlinked. What is kept of neighbors is four times as much.
     #[inline]
     pub fn word(&self) -> u64
-        ensures { result ≡ told (next_word_of (words_of self.now)) }
+        ensures { result ≡ printed (next_word_of (words_of self.now)) }
     {
         let bits = self.words.word.bits();
         bits / 4 + bits % 2

@@ -1,8 +1,7 @@
 //! What the tests share.
 
 ghost use Rattle.std.specs.Prelude.{◌≡◌};
-ghost use Rattle.ic_unsafe_ref.specs.Places.{index_of};
-ghost use Rattle.ic_link_ops.specs.Tables.{IsCovered, IsLinked};
+ghost use Rattle.ic_link_ops.specs.Prelude.{index_of, IsCovered, IsLinked};
 ghost use Rattle.ic_link_ops.specs.PlainTables.{table, linked_by};
 
 use ic_link_ops::{LinkOps, PlainTable, Words};

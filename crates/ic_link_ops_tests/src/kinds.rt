@@ -1,8 +1,7 @@
 //! What the links of a table say of neighbors, for each kind of collection that the table carries.
 
 ghost use Rattle.std.specs.Prelude.{◌≡◌};
-ghost use Rattle.ic_unsafe_ref.specs.declared.place.Place.{Place};
-ghost use Rattle.ic_link_ops.specs.Tables.{IsCovered, IsLinked, IsNameable};
+ghost use Rattle.ic_link_ops.specs.Prelude.{Place, IsCovered, IsLinked, IsNameable};
 ghost use Rattle.ic_link_ops.specs.Widths.{HasRoom};
 
 use crate::fixture::{LAST, LAST_NARROW, at, check, one_linked};
@@ -13,7 +12,7 @@ use ic_link_ops::xor_linked_list::{self, XorLinkedListOps};
 use ic_link_ops::{Color, LentTable, Link, LinkOps, NodeWords, linked_list};
 use ic_unsafe_ref::Place;
 
-// What stands behind a linked place, as it is set.
+// What stands after a linked place, as it is set.
 fn singly<L: SinglyLinkedListOps>(links: &mut L, place: Place, next: Option<Place>) -> Option<Place>
     requires linked { IsLinked L.linked (L.table links.old) place }
     requires next { IsNameable L.CanName next }
@@ -23,7 +22,7 @@ fn singly<L: SinglyLinkedListOps>(links: &mut L, place: Place, next: Option<Plac
     links.next(place)
 }
 
-// What stands before and behind, as it is set.
+// What stands before and after, as it is set.
 fn doubly<L: LinkedListOps>(
     links: &mut L,
     place: Place,
@@ -40,7 +39,7 @@ fn doubly<L: LinkedListOps>(
     [links.prev(place), links.next(place)]
 }
 
-// What stands before and behind in an XOR list, as it is set, the place behind in place of none.
+// What stands before and after in an XOR list, as it is set, the place after in place of none.
 fn xor<L: XorLinkedListOps>(
     links: &mut L,
     place: Place,
@@ -77,7 +76,7 @@ fn tree<L: RBTreeOps>(
     (found, links.color(place))
 }
 
-// Whether each kind of link reads what it wrote at a linked place: what is behind, what is before and behind, the same of an XOR
+// Whether each kind of link reads what it wrote at a linked place: what is after, what is before and after, the same of an XOR
 // list, and a red member of a tree. They name the first and the last place of which the table has names.
 fn four_kinds<L: RBTreeOps + LinkedListOps + SinglyLinkedListOps + XorLinkedListOps>(
     links: &mut L,
@@ -146,7 +145,7 @@ fn four_kinds_in_a_narrow_table_of_trees(rt: HostRuntime) {
     check(&rt, [is_kept, is_kept_by_view] == [[true; 4]; 2]);
 }
 
-// Whether the two lists that are no XOR lists read this place behind a linked one, where an XOR list wrote these neighbors.
+// Whether the two lists that are no XOR lists read this place after a linked one, where an XOR list wrote these neighbors.
 fn is_read<L: LinkedListOps + SinglyLinkedListOps + XorLinkedListOps>(
     links: &mut L,
     place: Place,

@@ -1,4 +1,4 @@
-//! Places, objects, references, tables, the words of links, and errors: what no session of the program shows. Each call is made
+//! Places, objects, references, tables, the words of links, and errors: what no session of the program represents. Each call is made
 //! once, on one kind of table, and what it answers is compared with what it is to.
 #![tactic(auto)]
 

@@ -9,7 +9,7 @@ fn index(place: Option<Place>) -> Option<usize> {
     Some(place?.index())
 }
 
-// The last place and none behind it; and the places that words name, up to twice as far.
+// The last place and none after it; and the places that words name, up to twice as far.
 fn limits() -> [Option<usize>; 7] {
     [
         index(Place::new(4_294_967_295)),

@@ -2,20 +2,15 @@
 use Rattle.std.proofs.Common.{◌≡◌, ◌≢◌, Bool, Option, Some, IsSome, IfSome, List, [], drop, take, ◌≤◌, is_some, length, ◌∷◌, ◌++◌, Result, OnOk, OnErr, ℕ, sym, ap, ◌∙◌, inl, inr}
 use Rattle.std.proofs.lemmas.List.{take_all}
 use Rattle.std.proofs.lemmas.Option.{same_Some}
-use Rattle.ic_unsafe_ref.specs.declared.place.Place.{Place}
-use Rattle.ic_unsafe_ref.specs.Objects.{Objects, Places, Frees, object_at}
+use Rattle.ic_link_ops.specs.Prelude.{Place, Objects, Places, Frees, object_at, first, Table, IsLinked, LinksAlso, Unlinks, object_there, RepresentsPlaced, StandAt}
 use Rattle.ic_unsafe_ref.proofs.PlaceLemmas.{same_or_not}
 use Rattle.ic_unsafe_ref.proofs.Placing.{placed_there, others_placed, others_left}
-use Rattle.ic_link_ops.specs.Sequences.{first}
-use Rattle.ic_link_ops.specs.Tables.{Table, IsLinked, LinksAlso, Unlinks}
 use Rattle.ic_link_ops.specs.Chains.{Ends}
-use Rattle.ic_link_ops.specs.LinkedList.{Neighbors, Shows}
+use Rattle.ic_link_ops.specs.LinkedList.{Neighbors, Represents}
 use Rattle.ic_link_ops.proofs.SequenceLemmas.{some_same}
 use Rattle.ic_link_ops.proofs.DoublyLists.{doubly_lists}
-use Rattle.ic_link_ops.specs.Positions.{object_there}
-use Rattle.ic_link_ops.specs.PlacedObjects.{ShowsPlaced, StandAt}
 use Rattle.ic_linked_list.specs.ListedValues.{HasValues}
-use Rattle.ic_link_ops.proofs.Calling.{accepted, still_shown}
+use Rattle.ic_link_ops.proofs.Calling.{accepted, still_represented}
 use Rattle.ic_link_ops.proofs.PlacedValues.{stand_begins, stand_beside, stand_placed, stand_rest}
 
 -- the first of them
@@ -27,9 +22,9 @@ front_of s {v} {values} stand = elim (stand_begins s stand) [
 ]
 
 module _ {E T : Type 0} {n : E → Neighbors} {linked : E → Bool} where
-  -- the members are shown and placed, as `iter` asks
+  -- the members are represented and placed, as `iter` asks
   pub has_placed : {t : Table E} {list : Ends} {objects : Objects T} {values : List T} → HasValues n linked t list objects values
-      → ShowsPlaced (Shows n t list) objects
+      → RepresentsPlaced (Represents n t list) objects
   has_placed has = record { members = has.members; shown = has.shown; placed = has.placed }
 
   stand_of : {t : Table E} {list : Ends} {objects : Objects T} {values : List T} (has : HasValues n linked t list objects values) → StandAt objects has.members values
@@ -37,7 +32,7 @@ module _ {E T : Type 0} {n : E → Neighbors} {linked : E → Bool} where
 
   -- the value at a position on the first member
   pub has_first : {t : Table E} {list : Ends} {objects : Objects T} {v : T} {values : List T} {position : Option Place} → HasValues n linked t list objects (v ∷ values)
-      → ((s : List Place) → Shows n t list s → position ≡ first s) → IsSome position × (object_there objects position ≡ Some v)
+      → ((s : List Place) → Represents n t list s → position ≡ first s) → IsSome position × (object_there objects position ≡ Some v)
   has_first {objects = objects} has answer =
       let f = front_of has.members (stand_of has) in
       let on = answer has.members has.shown ∙ sym f.1 in (ap is_some on, ap (object_there objects) on ∙ f.2)
@@ -52,7 +47,7 @@ module _ {E T : Type 0} {n : E → Neighbors} {linked : E → Bool} where
       → HasValues n linked old list objects values → HasValues n linked new list objects values
   has_covered stays has = record {
     members = has.members;
-    shown = still_shown stays has.shown;
+    shown = still_represented stays has.shown;
     placed = has.placed;
     are = has.are;
     vacant = λ p none. rw (stays p) (has.vacant p none);
@@ -60,7 +55,7 @@ module _ {E T : Type 0} {n : E → Neighbors} {linked : E → Bool} where
 
   -- AFTER `from_box` AND `push_back` of the new object, which is not refused
   pub has_pushed : {t0 t1 : Table E} {list0 list1 : Ends} {old new : Objects T} {values all : List T} {p : Place} {v : T} {A X : Type 0} (Same : Type 0) (r : Result A X)
-      → HasValues n linked t0 list0 old values → Places old new p v → ((s : List Place) → Shows n t0 list0 s → OnOk r (Shows n t1 list1 (s ++ p ∷ [])))
+      → HasValues n linked t0 list0 old values → Places old new p v → ((s : List Place) → Represents n t0 list0 s → OnOk r (Represents n t1 list1 (s ++ p ∷ [])))
       → OnOk r (LinksAlso linked t0 t1 p) → OnErr r (IsLinked linked t0 p × Same) → all ≡ values ++ v ∷ [] → HasValues n linked t1 list1 new all
   has_pushed {t0} {t1} {list0} {list1} {old} {new} {values} {all} {p} {v} Same r has places inserted acquired refused more =
       let off = has.vacant p places.vacant in
@@ -77,7 +72,7 @@ module _ {E T : Type 0} {n : E → Neighbors} {linked : E → Bool} where
 
   -- AFTER `pop_front` AND `into_box` of the object that came off: what was taken is the first value, and the others are left
   pub has_taken : ((e : E) → (n e).linked ≡ linked e) → {t0 t1 : Table E} {list0 list1 : Ends} {old new : Objects T} {v taken : T} {values : List T} {popped : Option Place} {p : Place}
-      → HasValues n linked t0 list0 old (v ∷ values) → ((s : List Place) → Shows n t0 list0 s → popped ≡ first s) → ((s : List Place) → Shows n t0 list0 s → Shows n t1 list1 (drop 1 s))
+      → HasValues n linked t0 list0 old (v ∷ values) → ((s : List Place) → Represents n t0 list0 s → popped ≡ first s) → ((s : List Place) → Represents n t0 list0 s → Represents n t1 list1 (drop 1 s))
       → IfSome popped (Unlinks linked t0 t1) → popped ≡ Some p → object_at old p ≡ Some taken → Frees old new p
       → (taken ≡ v) × HasValues n linked t1 list1 new values
   has_taken alike {t0} {t1} {list0} {list1} {old} {new} {v} {taken} {values} {popped} {p} has answer removed released is stood frees =

@@ -11,7 +11,7 @@
 //! list.push_back(&mut links, second)?;
 //! let taken = list.pop_front(&mut links); // the first
 //! let mut cursor = list.front_mut(&mut links);
-//! cursor.insert_after(object)?;           // behind the second
+//! cursor.insert_after(object)?;           // after the second
 //! ```
 #![tactic(auto)]
 
@@ -19,7 +19,7 @@ mod kind;
 
 use ic_chain::Chain;
 pub use ic_chain::laws;
-pub use ic_cursors::Listing;
+pub use ic_cursors::DebugWalk;
 pub use ic_link_ops::linked_list::{Link, LinkOps, LinkedListOps};
 use ic_unsafe_ref::Objects;
 pub use kind::DoublyLinked;
@@ -27,7 +27,7 @@ pub use kind::DoublyLinked;
 /// A doubly linked list of objects, of which it keeps the first and the last.
 ///
 /// Good for queues, and for lists from whose middle objects leave. A clause sees the list's ends; which sequence it has is what the
-/// table shows for them.
+/// table represents for them.
 pub type LinkedList<T> = Chain<DoublyLinked, T>;
 
 /// A position in a list: on a member, or null, which stands between the last and the first.

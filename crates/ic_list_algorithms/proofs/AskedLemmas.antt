@@ -2,20 +2,18 @@
 use Rattle.std.proofs.Common.{◌≡◌, Bool, true, false, not, cond, MatchBool, Option, Some, None, List, [], ◌∷◌, ◌++◌, length, append_assoc, append-nil, inl, inr, refl, sym, ◌∙◌, ap, subst, arith}
 use Rattle.std.specs.List.{items_where_true}
 use Rattle.std.specs.List.Retain.{IsFiltered, DedupsFrom, IsDeduped}
-use Rattle.ic_unsafe_ref.specs.declared.place.Place.{Place}
-use Rattle.ic_unsafe_ref.specs.Objects.{Objects, object_at}
-use Rattle.ic_link_ops.specs.Sequences.{last}
+use Rattle.ic_link_ops.specs.Prelude.{Place, Objects, object_at, last}
 use Rattle.ic_link_ops.proofs.SequenceLemmas.{last_of_push}
 use Rattle.ic_list_algorithms.specs.Asked.{AnswersNo, KeepsInTurn, OrderedInTurn, AsksAt, AsksBoth, AsksBeside}
 
 -- ONE MORE of which it answers no
 module _ {X F : Type 0} (asks : F → X → Bool → F → Type 0) where
-  no_behind : (f : F) (done : List X) (now next : F) (x : X) → AnswersNo asks f done now → asks now x false next → AnswersNo asks f (done ++ x ∷ []) next
-  no_behind f [] now next x said asked = (next, subst (λ k. asks k x false next) said asked, refl)
-  no_behind f (y ∷ done) now next x said asked = (said.0, said.1, no_behind said.0 done now next x said.2 asked)
+  no_after : (f : F) (done : List X) (now next : F) (x : X) → AnswersNo asks f done now → asks now x false next → AnswersNo asks f (done ++ x ∷ []) next
+  no_after f [] now next x said asked = (next, subst (λ k. asks k x false next) said asked, refl)
+  no_after f (y ∷ done) now next x said asked = (said.0, said.1, no_after said.0 done now next x said.2 asked)
 
   pub no_more : (f : F) (done : List X) (now next : F) (x : X) {more : List X} → AnswersNo asks f done now → asks now x false next → more ≡ done ++ x ∷ [] → AnswersNo asks f more next
-  no_more f done now next x said asked is = subst (λ s. AnswersNo asks f s next) (sym is) (no_behind f done now next x said asked)
+  no_more f done now next x said asked is = subst (λ s. AnswersNo asks f s next) (sym is) (no_after f done now next x said asked)
 
   -- and so of all
   pub no_all : (f : F) {done s : List X} (now : F) → done ≡ s → AnswersNo asks f done now → AnswersNo asks f s now

@@ -1,15 +1,10 @@
 -- A list of which some members are kept, one after the other, and the others unlinked.
 use Rattle.std.proofs.Common.{◌≡◌, ◌<◌, Bool, true, false, not, cond, inl, inr, Option, Some, None, List, [], ◌∷◌, ◌++◌, drop, length, append_assoc, append-nil, refl, sym, ◌∙◌, ap, subst, arith}
 use Rattle.std.specs.List.{AllByRecursion, filter}
-use Rattle.ic_unsafe_ref.specs.declared.place.Place.{Place}
-use Rattle.ic_unsafe_ref.specs.Objects.{Objects, object_at}
-use Rattle.ic_link_ops.specs.Sequences.{IsAbsent, first, last}
-use Rattle.ic_link_ops.specs.Tables.{Table, IsCovered, KeepsBeside}
-use Rattle.ic_link_ops.specs.LinkSteps.{LinkStep, releases_each}
+use Rattle.ic_link_ops.specs.Prelude.{Place, Objects, object_at, IsAbsent, first, last, Table, IsCovered, ChangesOnlyIn, ArePlaced, RepresentsPlaced, LinkStep, releases_each}
 use Rattle.ic_link_ops.specs.Walk.{walked}
-use Rattle.ic_link_ops.specs.Chains.{ListHead, ShowsChain}
-use Rattle.ic_link_ops.specs.PlacedObjects.{ArePlaced, ShowsPlaced}
-use Rattle.ic_chain.proofs.Standing.{one_shown}
+use Rattle.ic_link_ops.specs.Chains.{ListHead, RepresentsChain}
+use Rattle.ic_chain.proofs.Standing.{one_represented}
 use Rattle.ic_link_ops.proofs.Each.{all_both, all_front, all_back}
 use Rattle.ic_link_ops.proofs.SequenceLemmas.{absent_left, absent_right, absent_both, distinct_right, first_is, last_of_push, nothing_first}
 use Rattle.ic_link_ops.proofs.Chains.{chain_cut}
@@ -23,11 +18,11 @@ use Rattle.ic_list_algorithms.specs.Sifts.{sift, sift_out, IsMix, by_itself, obj
 abbrev pub no_keep : {V : Type 0} → Option V → V → Bool
 no_keep prev x = false
 
--- a sequence is shown and placed, whichever it is
+-- a sequence is represented and placed, whichever it is
 pub placed_here : {E W V : Type 0} {between : E → Option Place → Option Place → Type 0} {kept : Option Place → W} {step : E → Option Place → Option Place}
     → ((e : E) (b a : Option Place) → between e b a → step e b ≡ a) → {t : Table E} {list : ListHead W} {objects : Objects V} {s : List Place}
-    → ShowsPlaced (ShowsChain between kept t list) objects → ShowsChain between kept t list s → ArePlaced objects s
-placed_here leads {objects = objects} p shown = subst (ArePlaced objects) (one_shown leads p.shown shown) p.placed
+    → RepresentsPlaced (RepresentsChain between kept t list) objects → RepresentsChain between kept t list s → ArePlaced objects s
+placed_here leads {objects = objects} p shown = subst (ArePlaced objects) (one_represented leads p.shown shown) p.placed
 
 -- what is kept by the test of a member alone is kept by that of its place
 same_test : {V : Type 0} (holds : V → Bool) (before here : Option V) → keep_of (by_itself holds) before here ≡ passes holds here
@@ -61,26 +56,26 @@ module _ {V : Type 0} (holds : V → Bool) (objects : Objects V) where
   out_filtered prev (x ∷ s) =
       picked_out (keep_at (by_itself holds) objects prev x) (test_at holds objects x) x (same_test holds (object_there objects prev) (object_at objects x)) (out_filtered (Some x) s) (out_filtered prev s)
 
--- `Does`: the steps of the table. `Holds`: what holds of each member. `Lawful`, `keep`: what is asked for the answers to be those of the test
-module _ {L E W : Type 0} (between : E → Option Place → Option Place → Type 0) (kept : Option Place → W) (table : L → Table E) (Does : L → L → List LinkStep → Type 0)
+-- `Trace`: the steps of the table. `Holds`: what holds of each member. `Lawful`, `keep`: what is asked for the answers to be those of the test
+module _ {L E W : Type 0} (between : E → Option Place → Option Place → Type 0) (kept : Option Place → W) (table : L → Table E) (Trace : L → L → List LinkStep → Type 0)
     (Holds : Place → Type 0) (Lawful : Type 0) (keep : Option Place → Place → Bool) where
   -- the members of a front of s are kept, `done`, or unlinked, `out`; the rest is as it was
   pub record Sifting (old new : L) (list : ListHead W) (s : List Place) (prev current : Option Place) : Type 0 where
     pub done : List Place
     pub rest : List Place
     pub out : List Place
-    pub shown : ShowsChain between kept (table new) list (done ++ rest)
+    pub shown : RepresentsChain between kept (table new) list (done ++ rest)
     pub keeps : prev ≡ last done
     pub at : current ≡ first rest
     pub within : (q : Place) → IsAbsent q s → IsAbsent q (done ++ rest)
     pub holds : AllByRecursion Holds (done ++ rest)
     pub mixes : (k o : List Place) → IsMix k o rest → IsMix (done ++ k) (out ++ o) s
     pub by_test : Lawful → (sift keep None s ≡ done ++ sift keep prev rest) × (sift_out keep None s ≡ out ++ sift_out keep prev rest)
-    pub released : Does old new (releases_each out)
-    pub frame : KeepsBeside (table old) (table new) s
+    pub released : Trace old new (releases_each out)
+    pub frame : ChangesOnlyIn (table old) (table new) s
 
   -- AT FIRST
-  pub sift_begins : {t : L} {list : ListHead W} {s : List Place} {current : Option Place} → Does t t [] → ShowsChain between kept (table t) list s → current ≡ list.head
+  pub sift_begins : {t : L} {list : ListHead W} {s : List Place} {current : Option Place} → Trace t t [] → RepresentsChain between kept (table t) list s → current ≡ list.head
       → AllByRecursion Holds s → (k : Sifting t t list s None current) × (k.done ≡ []) × (k.rest ≡ s)
   sift_begins {s = s} nothing shown on holds = (
     record {
@@ -106,8 +101,8 @@ module _ {L E W : Type 0} (between : E → Option Place → Option Place → Typ
     pub sift_at : {p : Place} → current ≡ Some p → k.rest ≡ p ∷ drop 1 k.rest
     sift_at on = first_is k.rest (sym on ∙ k.at)
 
-    pub sift_shown : {p : Place} → current ≡ Some p → ShowsChain between kept (table new) list (k.done ++ p ∷ drop 1 k.rest)
-    sift_shown on = subst (λ (l : List Place). ShowsChain between kept (table new) list (k.done ++ l)) (sift_at on) k.shown
+    pub sift_represented : {p : Place} → current ≡ Some p → RepresentsChain between kept (table new) list (k.done ++ p ∷ drop 1 k.rest)
+    sift_represented on = subst (λ (l : List Place). RepresentsChain between kept (table new) list (k.done ++ l)) (sift_at on) k.shown
 
     pub sift_holds : {p : Place} → current ≡ Some p → Holds p
     sift_holds on = middle_holds Holds k.done (drop 1 k.rest) (subst (λ (l : List Place). AllByRecursion Holds (k.done ++ l)) (sift_at on) k.holds)
@@ -116,10 +111,10 @@ module _ {L E W : Type 0} (between : E → Option Place → Option Place → Typ
     sift_held on = last_holds Holds k.done k.rest (sym k.keeps ∙ on) k.holds
 
     -- AT THE END
-    pub sift_whole : current ≡ None → ShowsChain between kept (table new) list k.done
+    pub sift_whole : current ≡ None → RepresentsChain between kept (table new) list k.done
     sift_whole over = let none : k.rest ≡ [] = nothing_first k.rest (sym over ∙ k.at) in rw (none, append-nil) at k.shown
 
-    pub sift_ends : current ≡ None → SiftsTo (ShowsChain between kept) table Does Lawful old new list s (sift keep None s) (sift_out keep None s)
+    pub sift_ends : current ≡ None → SiftsTo (RepresentsChain between kept) table Trace Lawful old new list s (sift keep None s) (sift_out keep None s)
     sift_ends over =
         let none : k.rest ≡ [] = nothing_first k.rest (sym over ∙ k.at) in
         let by = k.by_test in
@@ -149,10 +144,10 @@ module _ {L E W : Type 0} (between : E → Option Place → Option Place → Typ
     sift_fewer k m fewer = omega (arith, sift_left k, sift_left m, fewer)
 
   -- ONE TURN
-  module _ (does_on : (a b c : L) (s t : List LinkStep) → Does a b s → Does b c t → Does a c (s ++ t))
+  module _ (does_on : (a b c : L) (s t : List LinkStep) → Trace a b s → Trace b c t → Trace a c (s ++ t))
       {old mid : L} {list : ListHead W} {s : List Place} {prev current : Option Place} {p : Place} {r : List Place} (k : Sifting old mid list s prev current) (is : k.rest ≡ p ∷ r) where
     pub sift_turns : {new : L} {list' : ListHead W} {prev' next : Option Place} (kept_here : Bool) → (Lawful → keep prev p ≡ kept_here)
-        → SiftsOne (ShowsChain between kept) table Does kept_here mid new list' k.done p r prev' next
+        → SiftsOne (RepresentsChain between kept) table Trace kept_here mid new list' k.done p r prev' next
         → (m : Sifting old new list' s prev' next) × (length m.rest < length k.rest) × (m.done ≡ k.done ++ cond kept_here (p ∷ []) []) × (m.rest ≡ r)
     sift_turns {new} {list'} {prev'} {next} true tells one = (
       record {
@@ -210,9 +205,9 @@ module _ {L E W : Type 0} (between : E → Option Place → Option Place → Typ
     )
 
 -- SIFTED by a test that says the same, where less is asked for
-pub sifts_as : {L E H : Type 0} {Shows : Table E → H → List Place → Type 0} {table : L → Table E} {Does : L → L → List LinkStep → Type 0} {Lawful Asked : Type 0} {old new : L} {head : H}
-    {s kept_by out_by kept_by' out_by' : List Place} → (Asked → Lawful) → kept_by ≡ kept_by' → out_by ≡ out_by' → SiftsTo Shows table Does Lawful old new head s kept_by out_by
-    → SiftsTo Shows table Does Asked old new head s kept_by' out_by'
+pub sifts_as : {L E H : Type 0} {Represents : Table E → H → List Place → Type 0} {table : L → Table E} {Trace : L → L → List LinkStep → Type 0} {Lawful Asked : Type 0} {old new : L} {head : H}
+    {s kept_by out_by kept_by' out_by' : List Place} → (Asked → Lawful) → kept_by ≡ kept_by' → out_by ≡ out_by' → SiftsTo Represents table Trace Lawful old new head s kept_by out_by
+    → SiftsTo Represents table Trace Asked old new head s kept_by' out_by'
 sifts_as law same same_out k = record {
   kept = k.kept;
   out = k.out;

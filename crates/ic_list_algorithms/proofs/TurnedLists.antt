@@ -1,26 +1,24 @@
--- A list that is cut behind its first members, and put together the other way round.
+-- A list that is cut after its first members, and put together the other way round.
 use Rattle.std.proofs.Common.{ℕ, Option, List, [], ◌++◌, drop, sym, ◌∙◌, subst, append-nil}
 use Rattle.std.specs.Prelude.{take}
 use Rattle.std.proofs.lemmas.List.{take-append-drop}
-use Rattle.ic_unsafe_ref.specs.declared.place.Place.{Place}
-use Rattle.ic_link_ops.specs.Sequences.{IsAbsent, IsDisjoint}
-use Rattle.ic_link_ops.specs.Tables.{Table, KeepsBeside}
-use Rattle.ic_link_ops.specs.Chains.{ListHead, ShowsChain}
+use Rattle.ic_link_ops.specs.Prelude.{Place, IsAbsent, IsDisjoint, Table, ChangesOnlyIn}
+use Rattle.ic_link_ops.specs.Chains.{ListHead, RepresentsChain}
 use Rattle.ic_link_ops.proofs.SequenceLemmas.{absent_left, absent_right, absent_both, distinct_disjoint}
 
 module _ {E W : Type 0} {between : E → Option Place → Option Place → Type 0} {kept : Option Place → W} {t : Table E} {list : ListHead W} {s : List Place} (n : ℕ)
-    (shown : ShowsChain between kept t list s) where
-  -- what is shown, cut
-  pub cut_shown : ShowsChain between kept t list (take n s ++ drop n s)
-  cut_shown = subst (λ (l : List Place). ShowsChain between kept t list l) (sym (take-append-drop n s)) shown
+    (shown : RepresentsChain between kept t list s) where
+  -- what is represented, cut
+  pub cut_represented : RepresentsChain between kept t list (take n s ++ drop n s)
+  cut_represented = subst (λ (l : List Place). RepresentsChain between kept t list l) (sym (take-append-drop n s)) shown
 
   -- its parts share no member
   pub parts_apart : IsDisjoint (take n s) (drop n s ++ [])
-  parts_apart = subst (λ (l : List Place). IsDisjoint (take n s) l) (sym (append-nil (drop n s))) (distinct_disjoint (take n s) (drop n s) cut_shown.distinct)
+  parts_apart = subst (λ (l : List Place). IsDisjoint (take n s) l) (sym (append-nil (drop n s))) (distinct_disjoint (take n s) (drop n s) cut_represented.distinct)
 
 module _ {E : Type 0} {old mid new : Table E} (n : ℕ) (s : List Place) where
   -- nothing but entries of members is changed, first by the cut, and then by the splice
-  pub turned_frame : KeepsBeside old mid (take n s ++ drop n s) → KeepsBeside mid new (drop n s ++ (take n s ++ [])) → KeepsBeside old new s
+  pub turned_frame : ChangesOnlyIn old mid (take n s ++ drop n s) → ChangesOnlyIn mid new (drop n s ++ (take n s ++ [])) → ChangesOnlyIn old new s
   turned_frame cut spliced = record {
     extent = spliced.extent ∙ cut.extent;
     others = λ q out.

@@ -4,19 +4,16 @@ use Rattle.std.proofs.Common.{◌≡◌, ◌+◌, ◌-◌, ◌<◌, ◌≤◌, �
 use Rattle.std.specs.Prelude.{IsTrue, ◌↔◌}
 use Rattle.std.specs.List.{AllByRecursion}
 use Rattle.std.specs.Cmp.{IsStrictWeakOrder}
-use Rattle.ic_unsafe_ref.specs.declared.place.Place.{Place}
-use Rattle.ic_unsafe_ref.specs.Objects.{Objects, object_at}
-use Rattle.ic_link_ops.specs.Sequences.{IsDistinct, first, last}
-use Rattle.ic_link_ops.specs.Tables.{Table, IsCovered}
+use Rattle.ic_link_ops.specs.Prelude.{Place, Objects, object_at, IsDistinct, first, last, Table, IsCovered}
 use Rattle.ic_link_ops.specs.Walk.{walked}
-use Rattle.ic_link_ops.specs.Chains.{ListHead, IsChain, ShowsChain}
+use Rattle.ic_link_ops.specs.Chains.{ListHead, IsChain, RepresentsChain}
 use Rattle.ic_link_ops.proofs.Each.{all_map, all_both}
 use Rattle.ic_link_ops.proofs.SequenceLemmas.{distinct_right, first_is, last_of_push, nothing_first}
 use Rattle.ic_link_ops.proofs.Walks.{stretch_through}
 use Rattle.ic_list_algorithms.specs.Ordered.{IsOrdered}
 use Rattle.ic_list_algorithms.specs.Walks.{test_at, HoldsNowhere, stands_behind, ordered_from, are_neighbors_ordered}
 
--- what holds of each holds of one in the middle, and of the last in front
+-- what holds of each holds of one in the middle, and of the last first
 pub middle_holds : (P : Place → Type 0) (front back : List Place) {p : Place} → AllByRecursion P (front ++ p ∷ back) → P p
 middle_holds P [] back h = h.0
 middle_holds P (x ∷ front) back h = middle_holds P front back h.1
@@ -27,7 +24,7 @@ last_holds P (x ∷ []) back {q} e h = let same : x ≡ q = cc in subst P same h
 last_holds P (x ∷ y ∷ front) back e h = last_holds P (y ∷ front) back e h.1
 
 module _ {E : Type 0} (between : E → Option Place → Option Place → Type 0) where
-  -- THE WALK has passed a front of s, and comes to `current`, with `prev` in front of that
+  -- THE WALK has passed a front of s, and comes to `current`, with `prev` before that
   pub record WalksTo (t : Table E) (s : List Place) (prev current : Option Place) : Type 0 where
     pub done : List Place
     pub rest : List Place
@@ -38,7 +35,7 @@ module _ {E : Type 0} (between : E → Option Place → Option Place → Type 0)
 
 module _ {E : Type 0} {between : E → Option Place → Option Place → Type 0} where
   -- at first it is on the first member
-  pub walk_begins : {W : Type 0} {kept : Option Place → W} {t : Table E} {list : ListHead W} {s : List Place} {current : Option Place} → ShowsChain between kept t list s
+  pub walk_begins : {W : Type 0} {kept : Option Place → W} {t : Table E} {list : ListHead W} {s : List Place} {current : Option Place} → RepresentsChain between kept t list s
       → current ≡ list.head → (k : WalksTo between t s None current) × (k.done ≡ []) × (k.rest ≡ s)
   walk_begins {s = s} shown on = (record { done = []; rest = s; parts = refl; chain = shown.chain; at = on ∙ shown.head; keeps = refl }, refl, refl)
 
@@ -58,7 +55,7 @@ module _ {E : Type 0} {between : E → Option Place → Option Place → Type 0}
       → between (t.entry p) (last k.done) (first (drop 1 k.rest))
   walk_between {t} {p = p} k on = (subst (λ (l : List Place). IsChain between t.entry (last k.done) l None) (walk_at k on).0 k.chain).0
 
-  -- what holds of each member holds of this one, and of the one in front of it
+  -- what holds of each member holds of this one, and of the one before it
   pub walk_holds : (P : Place → Type 0) {t : Table E} {s : List Place} {prev current : Option Place} {p : Place} (k : WalksTo between t s prev current) → current ≡ Some p
       → AllByRecursion P s → P p
   walk_holds P {p = p} k on all = middle_holds P k.done (drop 1 k.rest) (subst (AllByRecursion P) (walk_at k on).1 all)
@@ -109,7 +106,7 @@ one_more done p e m = omega (arith, e, ap length m, length-append done (p ∷ []
 pub one_left : (done : List Place) (p : Place) {n left : ℕ} {more : List Place} → n ≡ length done + left → more ≡ done ++ p ∷ [] → 1 ≤ left → n ≡ length more + (left - 1)
 one_left done p e m some = omega (arith, e, some, ap length m, length-append done (p ∷ []))
 
--- what is behind the first n, and these
+-- what is after the first n, and these
 pub drop_passed : (done rest : List Place) (n : ℕ) → n ≡ length done → drop n (done ++ rest) ≡ rest
 drop_passed [] rest n e = rw e refl
 drop_passed (x ∷ done) rest n e = rw e (drop_passed done rest (length done) refl)
@@ -144,7 +141,7 @@ module _ {E : Type 0} {between : E → Option Place → Option Place → Type 0}
   pub nth_is : {p : Place} → current ≡ Some p → n ≡ length k.done → Some p ≡ first (drop n s)
   nth_is on e = sym on ∙ nth_here e
 
-  -- with the gap behind the first n,
+  -- with the gap after the first n,
   pub gap_here : n ≡ length k.done → prev ≡ last (take n s)
   gap_here e = k.keeps ∙ ap last (sym (ap (take n) k.parts ∙ take_passed k.done k.rest n e))
 

@@ -1,7 +1,6 @@
 -- Of which members a test was asked, how often, in which order, and what it answered.
 use Rattle.std.specs.Prelude.{◌≡◌, ◌⊎◌, ℕ, Bool, true, false, not, cond, length, Option, Some, None, List, [], ◌∷◌, ◌++◌}
-use Rattle.ic_unsafe_ref.specs.declared.place.Place.{Place}
-use Rattle.ic_unsafe_ref.specs.Objects.{Objects, object_at}
+use Rattle.ic_link_ops.specs.Prelude.{Place, Objects, object_at}
 
 -- `asks f x answer g`: one call of the test f at x may answer so, and leave it as g
 module _ {X F : Type 0} (asks : F → X → Bool → F → Type 0) where
@@ -10,7 +9,7 @@ module _ {X F : Type 0} (asks : F → X → Bool → F → Type 0) where
   AnswersNo f [] g = g ≡ f
   AnswersNo f (x ∷ s) g = (next : F) × asks f x false next × AnswersNo next s g
 
-  -- FOUND q at this position: it was asked of each in front, and then of q, once each, and of none behind
+  -- FOUND q at this position: it was asked of each before, and then of q, once each, and of none after
   pub record FindsFirst (f : F) (s : List X) (after : F) (position : ℕ) (q : X) : Type 0 where
     pub front : List X
     pub back : List X

@@ -1,10 +1,6 @@
 -- Which members an edit of many keeps, and which it unlinks.
 use Rattle.std.specs.Prelude.{◌≡◌, ◌⊎◌, Bool, true, false, not, cond, Option, Some, None, List, [], ◌∷◌, ◌++◌}
-use Rattle.ic_unsafe_ref.specs.declared.place.Place.{Place}
-use Rattle.ic_unsafe_ref.specs.Objects.{Objects, object_at}
-use Rattle.ic_link_ops.specs.Sequences.{first, last}
-use Rattle.ic_link_ops.specs.Tables.{Table, KeepsBeside}
-use Rattle.ic_link_ops.specs.LinkSteps.{LinkStep, releases_each}
+use Rattle.ic_link_ops.specs.Prelude.{Place, Objects, object_at, first, last, Table, ChangesOnlyIn, LinkStep, releases_each}
 
 -- `keep prev x`: whether x is kept, where `prev` was kept last, none at first
 module _ {X : Type 0} (keep : Option X → X → Bool) where
@@ -23,7 +19,7 @@ IsMix {X} k o [] = (k ≡ []) × (o ≡ [])
 IsMix {X} k o (x ∷ s) = ((rest : List X) × (k ≡ x ∷ rest) × IsMix rest o s) ⊎ ((rest : List X) × (o ≡ x ∷ rest) × IsMix k rest s)
 
 module _ {V : Type 0} where
-  -- the object in front, if there is one
+  -- the object before, if there is one
   abbrev pub object_there : Objects V → Option Place → Option V
   object_there objects None = None
   object_there objects (Some p) = object_at objects p
@@ -52,23 +48,23 @@ dedup same objects s = sift (keep_at (differs same) objects) None s
 abbrev pub duplicates : {V : Type 0} → (V → V → Bool) → Objects V → List Place → List Place
 duplicates same objects s = sift_out (keep_at (differs same) objects) None s
 
--- `Shows t head s`: the table shows s for the collection with this head. `table`, `Does`: what clauses see of the table, and its steps
-module _ {L E H : Type 0} (Shows : Table E → H → List Place → Type 0) (table : L → Table E) (Does : L → L → List LinkStep → Type 0) where
-  -- SIFTED: of s some members are shown, in their order, and the others are unlinked. `Lawful`: what is asked for these to be `kept_by` and
+-- `Represents t head s`: the table represents s for the collection with this head. `table`, `Trace`: what clauses see of the table, and its steps
+module _ {L E H : Type 0} (Represents : Table E → H → List Place → Type 0) (table : L → Table E) (Trace : L → L → List LinkStep → Type 0) where
+  -- SIFTED: of s some members are represented, in their order, and the others are unlinked. `Lawful`: what is asked for these to be `kept_by` and
   -- `out_by`
   pub record SiftsTo (Lawful : Type 0) (old new : L) (head : H) (s kept_by out_by : List Place) : Type 0 where
     pub kept : List Place
     pub out : List Place
-    pub shown : Shows (table new) head kept
-    pub released : Does old new (releases_each out)
+    pub shown : Represents (table new) head kept
+    pub released : Trace old new (releases_each out)
     pub mixed : IsMix kept out s
     pub by_test : Lawful → (kept ≡ kept_by) × (out ≡ out_by)
-    pub frame : KeepsBeside (table old) (table new) s
+    pub frame : ChangesOnlyIn (table old) (table new) s
 
-  -- the member p between front and back is kept or not; then `prev` was kept last, and `next` is behind
+  -- the member p between front and back is kept or not; then `prev` was kept last, and `next` is after
   pub record SiftsOne (kept : Bool) (old new : L) (head : H) (front : List Place) (p : Place) (back : List Place) (prev next : Option Place) : Type 0 where
-    pub shown : Shows (table new) head ((front ++ cond kept (p ∷ []) []) ++ back)
-    pub released : Does old new (releases_each (cond kept [] (p ∷ [])))
-    pub frame : KeepsBeside (table old) (table new) (front ++ p ∷ back)
+    pub shown : Represents (table new) head ((front ++ cond kept (p ∷ []) []) ++ back)
+    pub released : Trace old new (releases_each (cond kept [] (p ∷ [])))
+    pub frame : ChangesOnlyIn (table old) (table new) (front ++ p ∷ back)
     pub last_kept : prev ≡ last (front ++ cond kept (p ∷ []) [])
     pub behind : next ≡ first back

@@ -1,8 +1,7 @@
 -- What walks over a list find, and which of its members an edit of many keeps.
 use Rattle.std.specs.Prelude.{◌≡◌, ℕ, Bool, true, false, not, ◌&&◌, length, Option, Some, None, List, [], ◌∷◌, ◌++◌}
 use Rattle.std.specs.List.{AllByRecursion}
-use Rattle.ic_unsafe_ref.specs.declared.place.Place.{Place}
-use Rattle.ic_unsafe_ref.specs.Objects.{Objects, object_at}
+use Rattle.ic_link_ops.specs.Prelude.{Place, Objects, object_at}
 
 module _ {V : Type 0} (test : V → Bool) where
   -- the test of what may stand at a place: nothing passes where nothing stands
@@ -29,12 +28,12 @@ module _ {X : Type 0} (holds : X → Bool) where
     pub here : holds q ≡ true
 
 module _ {X : Type 0} (lt : X → X → Bool) where
-  -- x may stand behind `prev`: it does not go before that
+  -- x may stand after `prev`: it does not go before that
   abbrev pub stands_behind : Option X → X → Bool
   stands_behind None x = true
   stands_behind (Some p) x = not (lt x p)
 
-  -- NEIGHBORS ARE IN ORDER: none goes before the one in front of it, the first not before `prev`
+  -- NEIGHBORS ARE IN ORDER: none goes before the one before it, the first not before `prev`
   abbrev pub ordered_from : Option X → List X → Bool
   ordered_from prev [] = true
   ordered_from prev (x ∷ s) = stands_behind prev x && ordered_from (Some x) s

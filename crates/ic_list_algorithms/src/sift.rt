@@ -9,11 +9,8 @@ ghost use Rattle.std.specs.Prelude.{◌≡◌, ◌∷◌, ◌++◌, Bool, true, 
 ghost use Rattle.std.specs.List.{filter};
 ghost use Rattle.std.specs.List.Retain.{IsFiltered, IsDeduped};
 ghost use Rattle.std.specs.Fn.{ComputesKey, ComputesOnPairs, CalledAt, CalledAtTwo};
-ghost use Rattle.ic_unsafe_ref.specs.declared.place.Place.{Place};
-ghost use Rattle.ic_unsafe_ref.specs.Objects.{is_placed};
-ghost use Rattle.ic_link_ops.specs.Sequences.{last};
-ghost use Rattle.ic_link_ops.specs.Chains.{ShowsChain};
-ghost use Rattle.ic_link_ops.specs.PlacedObjects.{ShowsPlaced};
+ghost use Rattle.ic_link_ops.specs.Prelude.{Place, is_placed, last, RepresentsPlaced};
+ghost use Rattle.ic_link_ops.specs.Chains.{RepresentsChain};
 ghost use Rattle.ic_list_algorithms.specs.Asked.{AsksAt, AsksBoth, AsksBeside, KeepsInTurn};
 ghost use Rattle.ic_list_algorithms.specs.Walks.{test_at};
 ghost use Rattle.ic_list_algorithms.specs.Sifts.{sift as sifted, sift_out, keep_at, dedup, duplicates, SiftsTo, SiftsOne};
@@ -34,12 +31,12 @@ pub fn retain<K: ForwardLinks<L>, T, V, L: LinkOps, O: Values<V>, F: FnMut(&V) -
     test: F,
 )
     requires callable { F.IsAlwaysCallable test }
-    requires placed { ShowsPlaced (ShowsChain K.Between K.kept (L.table links.old) list.old) (O.values objects.now) }
-    ensures retained { (s : List Place) (holds : V → Bool) → ShowsChain K.Between K.kept (L.table links.old) list.old s
-        → SiftsTo (ShowsChain K.Between K.kept) L.table L.Does (ComputesKey F.FnMut holds test) links.old links.new list.new s
+    requires placed { RepresentsPlaced (RepresentsChain K.Between K.kept (L.table links.old) list.old) (O.values objects.now) }
+    ensures retained { (s : List Place) (holds : V → Bool) → RepresentsChain K.Between K.kept (L.table links.old) list.old s
+        → SiftsTo (RepresentsChain K.Between K.kept) L.table L.Trace (ComputesKey F.FnMut holds test) links.old links.new list.new s
         (filter (test_at holds (O.values objects.now)) s) (filter (λ q. not (test_at holds (O.values objects.now) q)) s) }
-    ensures asked { (s : List Place) → ShowsChain K.Between K.kept (L.table links.old) list.old s
-        → (kept : List Place) × ShowsChain K.Between K.kept (L.table links.new) list.new kept
+    ensures asked { (s : List Place) → RepresentsChain K.Between K.kept (L.table links.old) list.old s
+        → (kept : List Place) × RepresentsChain K.Between K.kept (L.table links.new) list.new kept
         × IsFiltered (AsksAt (O.values objects.now) (CalledAt F.FnMut)) test s kept }
 {
     let mut keep = Passes::new(test);
@@ -48,7 +45,7 @@ pub fn retain<K: ForwardLinks<L>, T, V, L: LinkOps, O: Values<V>, F: FnMut(&V) -
 
 /// Of members that stand beside each other and are the same, keeps the first, and unlinks the others.
 ///
-/// The test is handed the member that was kept last, and the one behind it. It requires that all members are placed. O(n), with one test for
+/// The test is handed the member that was kept last, and the one after it. It requires that all members are placed. O(n), with one test for
 /// each member but the first, and no memory.
 pub fn dedup_by<K: ForwardLinks<L>, T, V, L: LinkOps, O: Values<V>, F: FnMut(&V, &V) -> bool>(
     list: &mut Chain<K, T>,
@@ -57,12 +54,12 @@ pub fn dedup_by<K: ForwardLinks<L>, T, V, L: LinkOps, O: Values<V>, F: FnMut(&V,
     same: F,
 )
     requires callable { F.IsAlwaysCallable same }
-    requires placed { ShowsPlaced (ShowsChain K.Between K.kept (L.table links.old) list.old) (O.values objects.now) }
-    ensures firsts_stay { (s : List Place) (alike : V → V → Bool) → ShowsChain K.Between K.kept (L.table links.old) list.old s
-        → SiftsTo (ShowsChain K.Between K.kept) L.table L.Does (ComputesOnPairs F.FnMut alike same) links.old links.new list.new s
+    requires placed { RepresentsPlaced (RepresentsChain K.Between K.kept (L.table links.old) list.old) (O.values objects.now) }
+    ensures firsts_stay { (s : List Place) (alike : V → V → Bool) → RepresentsChain K.Between K.kept (L.table links.old) list.old s
+        → SiftsTo (RepresentsChain K.Between K.kept) L.table L.Trace (ComputesOnPairs F.FnMut alike same) links.old links.new list.new s
         (dedup alike (O.values objects.now) s) (duplicates alike (O.values objects.now) s) }
-    ensures asked { (s : List Place) → ShowsChain K.Between K.kept (L.table links.old) list.old s
-        → (kept : List Place) × ShowsChain K.Between K.kept (L.table links.new) list.new kept
+    ensures asked { (s : List Place) → RepresentsChain K.Between K.kept (L.table links.old) list.old s
+        → (kept : List Place) × RepresentsChain K.Between K.kept (L.table links.new) list.new kept
         × IsDeduped (AsksBoth (O.values objects.now) (CalledAtTwo F.FnMut)) same s kept }
 {
     let mut keep = Differs::new(same);
@@ -77,12 +74,12 @@ fn sift<K: ForwardLinks<L>, T, V, L: LinkOps, O: Values<V>, S: Keeps<V>>(
     keep: &mut S,
 )
     requires ready { S.ready keep.old }
-    requires placed { ShowsPlaced (ShowsChain K.Between K.kept (L.table links.old) list.old) (O.values objects.now) }
-    ensures sifted { (s : List Place) (test : Option V → V → Bool) → ShowsChain K.Between K.kept (L.table links.old) list.old s
-        → SiftsTo (ShowsChain K.Between K.kept) L.table L.Does (S.obeys keep.old test) links.old links.new list.new s
+    requires placed { RepresentsPlaced (RepresentsChain K.Between K.kept (L.table links.old) list.old) (O.values objects.now) }
+    ensures sifted { (s : List Place) (test : Option V → V → Bool) → RepresentsChain K.Between K.kept (L.table links.old) list.old s
+        → SiftsTo (RepresentsChain K.Between K.kept) L.table L.Trace (S.obeys keep.old test) links.old links.new list.new s
         (sifted (keep_at test (O.values objects.now)) None s) (sift_out (keep_at test (O.values objects.now)) None s) }
-    ensures asked { (s : List Place) → ShowsChain K.Between K.kept (L.table links.old) list.old s
-        → (kept : List Place) × ShowsChain K.Between K.kept (L.table links.new) list.new kept
+    ensures asked { (s : List Place) → RepresentsChain K.Between K.kept (L.table links.old) list.old s
+        → (kept : List Place) × RepresentsChain K.Between K.kept (L.table links.new) list.new kept
         × KeepsInTurn (AsksBeside (O.values objects.now) S.asks) keep.old None s kept keep.new }
 {
     let mut current = list.first();
@@ -96,7 +93,7 @@ fn sift<K: ForwardLinks<L>, T, V, L: LinkOps, O: Values<V>, S: Keeps<V>>(
     }
 }
 
-// Keeps the member, or unlinks it. It returns the member that was kept last, and the one behind.
+// Keeps the member, or unlinks it. It returns the member that was kept last, and the one after.
 fn sift_one<K: ForwardLinks<L>, T, V, L: LinkOps, O: Values<V>, S: Keeps<V>>(
     list: &mut Chain<K, T>,
     links: &mut L,
@@ -106,12 +103,12 @@ fn sift_one<K: ForwardLinks<L>, T, V, L: LinkOps, O: Values<V>, S: Keeps<V>>(
     member: Place,
 ) -> (Option<Place>, Option<Place>)
     requires ready { S.ready keep.old }
-    requires shown { (front back : List Place) × ShowsChain K.Between K.kept (L.table links.old) list.old (front ++ member ∷ back) × (prev ≡ last front) }
+    requires shown { (front back : List Place) × RepresentsChain K.Between K.kept (L.table links.old) list.old (front ++ member ∷ back) × (prev ≡ last front) }
     requires placed { is_placed (O.values objects.now) member ≡ true }
     requires prev_placed { (q : Place) → prev ≡ Some q → is_placed (O.values objects.now) q ≡ true }
     ensures sifted { (kept : Bool) × ((test : Option V → V → Bool) → S.obeys keep.old test → keep_at test (O.values objects.now) prev member ≡ kept)
-        × ((front back : List Place) → ShowsChain K.Between K.kept (L.table links.old) list.old (front ++ member ∷ back) → prev ≡ last front
-        → SiftsOne (ShowsChain K.Between K.kept) L.table L.Does kept links.old links.new list.new front member back result.0 result.1)
+        × ((front back : List Place) → RepresentsChain K.Between K.kept (L.table links.old) list.old (front ++ member ∷ back) → prev ≡ last front
+        → SiftsOne (RepresentsChain K.Between K.kept) L.table L.Trace kept links.old links.new list.new front member back result.0 result.1)
         × AsksBeside (O.values objects.now) S.asks keep.old prev member kept keep.new }
     ensures again { S.ready keep.new }
     ensures obeys { (test : Option V → V → Bool) → S.obeys keep.old test → S.obeys keep.new test }

@@ -8,11 +8,8 @@
 
 ghost use Rattle.std.specs.Prelude.{◌≡◌, ◌↔◌, ℕ, Bool, true, Some, None, IsTrue, MatchOption, List, length, drop};
 ghost use Rattle.std.specs.Fn.{ComputesKey, CalledAt};
-ghost use Rattle.ic_unsafe_ref.specs.declared.place.Place.{Place};
-ghost use Rattle.ic_unsafe_ref.specs.Objects.{is_placed};
-ghost use Rattle.ic_link_ops.specs.Sequences.{first};
-ghost use Rattle.ic_link_ops.specs.Chains.{ShowsChain, ShowsSomeChain};
-ghost use Rattle.ic_link_ops.specs.PlacedObjects.{ShowsPlaced};
+ghost use Rattle.ic_link_ops.specs.Prelude.{Place, is_placed, first, RepresentsPlaced};
+ghost use Rattle.ic_link_ops.specs.Chains.{RepresentsChain, RepresentsSomeChain};
 ghost use Rattle.ic_list_algorithms.specs.Asked.{AnswersNo, AsksAt, AsksAfter, FindsFirst, OrderedInTurn};
 ghost use Rattle.ic_list_algorithms.specs.Ordered.{GoesBy, IsOrdered};
 ghost use Rattle.ic_list_algorithms.specs.Runs.{less_at};
@@ -26,8 +23,8 @@ use ic_unsafe_ref::{Place, UnsafeRef, Values};
 
 /// How many members the list has. It walks from the front: O(n), one reading for each.
 pub fn len<K: ForwardLinks<L>, T, L: LinkOps>(list: &Chain<K, T>, links: &L) -> usize
-    requires shown { ShowsSomeChain K.Between K.kept (L.table links.now) list.now }
-    ensures { (s : List Place) → ShowsChain K.Between K.kept (L.table links.now) list.now s → result ≡ length s }
+    requires shown { RepresentsSomeChain K.Between K.kept (L.table links.now) list.now }
+    ensures { (s : List Place) → RepresentsChain K.Between K.kept (L.table links.now) list.now s → result ≡ length s }
 {
     let mut count = 0;
     let mut current = list.first();
@@ -46,8 +43,8 @@ pub fn nth<K: ForwardLinks<L>, T, L: LinkOps>(
     links: &L,
     n: usize,
 ) -> Option<UnsafeRef<T>>
-    requires shown { ShowsSomeChain K.Between K.kept (L.table links.now) list.now }
-    ensures { (s : List Place) → ShowsChain K.Between K.kept (L.table links.now) list.now s → result ≡ first (drop n s) }
+    requires shown { RepresentsSomeChain K.Between K.kept (L.table links.now) list.now }
+    ensures { (s : List Place) → RepresentsChain K.Between K.kept (L.table links.now) list.now s → result ≡ first (drop n s) }
 {
     let (_, behind) = gap_at::<K, T, L>(list, links, n);
     match behind {
@@ -67,11 +64,11 @@ pub fn position<K: ForwardLinks<L>, T, V, L: LinkOps, O: Values<V>, F: FnMut(&V)
     test: F,
 ) -> Option<usize>
     requires callable { F.IsAlwaysCallable test }
-    requires placed { ShowsPlaced (ShowsChain K.Between K.kept (L.table links.now) list.now) (O.values objects.now) }
-    ensures found { (s : List Place) (holds : V → Bool) → ShowsChain K.Between K.kept (L.table links.now) list.now s → ComputesKey F.FnMut holds test
+    requires placed { RepresentsPlaced (RepresentsChain K.Between K.kept (L.table links.now) list.now) (O.values objects.now) }
+    ensures found { (s : List Place) (holds : V → Bool) → RepresentsChain K.Between K.kept (L.table links.now) list.now s → ComputesKey F.FnMut holds test
         → MatchOption result (HoldsNowhere (test_at holds (O.values objects.now)) s)
         (λ at. (q : Place) × HoldsFirst (test_at holds (O.values objects.now)) s at q) }
-    ensures asked { (s : List Place) → ShowsChain K.Between K.kept (L.table links.now) list.now s
+    ensures asked { (s : List Place) → RepresentsChain K.Between K.kept (L.table links.now) list.now s
         → MatchOption result ((after : F) × AnswersNo (AsksAt (O.values objects.now) (CalledAt F.FnMut)) test s after)
         (λ at. (q : Place) × (after : F) × FindsFirst (AsksAt (O.values objects.now) (CalledAt F.FnMut)) test s after at q) }
 {
@@ -88,11 +85,11 @@ pub fn find<K: ForwardLinks<L>, T, V, L: LinkOps, O: Values<V>, F: FnMut(&V) -> 
     test: F,
 ) -> Option<UnsafeRef<T>>
     requires callable { F.IsAlwaysCallable test }
-    requires placed { ShowsPlaced (ShowsChain K.Between K.kept (L.table links.now) list.now) (O.values objects.now) }
-    ensures found { (s : List Place) (holds : V → Bool) → ShowsChain K.Between K.kept (L.table links.now) list.now s → ComputesKey F.FnMut holds test
+    requires placed { RepresentsPlaced (RepresentsChain K.Between K.kept (L.table links.now) list.now) (O.values objects.now) }
+    ensures found { (s : List Place) (holds : V → Bool) → RepresentsChain K.Between K.kept (L.table links.now) list.now s → ComputesKey F.FnMut holds test
         → MatchOption result (HoldsNowhere (test_at holds (O.values objects.now)) s)
         (λ object. (at : ℕ) × HoldsFirst (test_at holds (O.values objects.now)) s at object) }
-    ensures asked { (s : List Place) → ShowsChain K.Between K.kept (L.table links.now) list.now s
+    ensures asked { (s : List Place) → RepresentsChain K.Between K.kept (L.table links.now) list.now s
         → MatchOption result ((after : F) × AnswersNo (AsksAt (O.values objects.now) (CalledAt F.FnMut)) test s after)
         (λ object. (at : ℕ) × (after : F) × FindsFirst (AsksAt (O.values objects.now) (CalledAt F.FnMut)) test s after at object) }
 {
@@ -109,11 +106,11 @@ fn find_first<K: ForwardLinks<L>, T, V, L: LinkOps, O: Values<V>, F: FnMut(&V) -
     test: &mut F,
 ) -> Option<(usize, Place)>
     requires callable { F.IsAlwaysCallable test.old }
-    requires placed { ShowsPlaced (ShowsChain K.Between K.kept (L.table links.now) list.now) (O.values objects.now) }
-    ensures found { (s : List Place) (holds : V → Bool) → ShowsChain K.Between K.kept (L.table links.now) list.now s → ComputesKey F.FnMut holds test.old
+    requires placed { RepresentsPlaced (RepresentsChain K.Between K.kept (L.table links.now) list.now) (O.values objects.now) }
+    ensures found { (s : List Place) (holds : V → Bool) → RepresentsChain K.Between K.kept (L.table links.now) list.now s → ComputesKey F.FnMut holds test.old
         → MatchOption result (HoldsNowhere (test_at holds (O.values objects.now)) s)
         (λ found. HoldsFirst (test_at holds (O.values objects.now)) s found.0 found.1) }
-    ensures asked { (s : List Place) → ShowsChain K.Between K.kept (L.table links.now) list.now s
+    ensures asked { (s : List Place) → RepresentsChain K.Between K.kept (L.table links.now) list.now s
         → MatchOption result (AnswersNo (AsksAt (O.values objects.now) (CalledAt F.FnMut)) test.old s test.new)
         (λ found. FindsFirst (AsksAt (O.values objects.now) (CalledAt F.FnMut)) test.old s test.new found.0 found.1) }
 {
@@ -132,10 +129,10 @@ fn find_first<K: ForwardLinks<L>, T, V, L: LinkOps, O: Values<V>, F: FnMut(&V) -
     None
 }
 
-/// Whether no member goes before the one in front of it. It walks from the front, with one comparison for each pair of neighbors, up to the
+/// Whether no member goes before the one before it. It walks from the front, with one comparison for each pair of neighbors, up to the
 /// first pair that is out of order.
 ///
-/// It requires that all members are placed. By an order of values the list is in order then: no member goes before any in front of it.
+/// It requires that all members are placed. By an order of values the list is in order then: no member goes before any before it.
 pub fn is_sorted_by<K: ForwardLinks<L>, T, V, L: LinkOps, O: Values<V>, C: Precedes<V>>(
     list: &Chain<K, T>,
     links: &L,
@@ -143,12 +140,12 @@ pub fn is_sorted_by<K: ForwardLinks<L>, T, V, L: LinkOps, O: Values<V>, C: Prece
     order: &mut C,
 ) -> bool
     requires ready { C.ready order.old }
-    requires placed { ShowsPlaced (ShowsChain K.Between K.kept (L.table links.now) list.now) (O.values objects.now) }
-    ensures neighbors { (s : List Place) (lt : V → V → Bool) → ShowsChain K.Between K.kept (L.table links.now) list.now s → C.obeys order.old lt
+    requires placed { RepresentsPlaced (RepresentsChain K.Between K.kept (L.table links.now) list.now) (O.values objects.now) }
+    ensures neighbors { (s : List Place) (lt : V → V → Bool) → RepresentsChain K.Between K.kept (L.table links.now) list.now s → C.obeys order.old lt
         → result ≡ are_neighbors_ordered (less_at lt (O.values objects.now)) s }
-    ensures ordered { (s : List Place) (lt : V → V → Bool) → ShowsChain K.Between K.kept (L.table links.now) list.now s → GoesBy C.obeys order.old lt
+    ensures ordered { (s : List Place) (lt : V → V → Bool) → RepresentsChain K.Between K.kept (L.table links.now) list.now s → GoesBy C.obeys order.old lt
         → IsTrue result ↔ IsOrdered (less_at lt (O.values objects.now)) s }
-    ensures asked { (s : List Place) → ShowsChain K.Between K.kept (L.table links.now) list.now s
+    ensures asked { (s : List Place) → RepresentsChain K.Between K.kept (L.table links.now) list.now s
         → OrderedInTurn (AsksAfter (O.values objects.now) C.asks) order.old None s result order.new }
     ensures again { C.ready order.new }
     ensures obeys { (lt : V → V → Bool) → C.obeys order.old lt → C.obeys order.new lt }
@@ -156,7 +153,7 @@ pub fn is_sorted_by<K: ForwardLinks<L>, T, V, L: LinkOps, O: Values<V>, C: Prece
     let mut current = list.first();
     let mut prev = None;
     while let Some(member) = current {
-        if !may_stand_behind::<V, O, C>(objects, order, prev, member) {
+        if !may_stand_after::<V, O, C>(objects, order, prev, member) {
             return false;
         }
         current = K::next(links, member, prev);
@@ -165,8 +162,8 @@ pub fn is_sorted_by<K: ForwardLinks<L>, T, V, L: LinkOps, O: Values<V>, C: Prece
     true
 }
 
-// Whether the member does not go before the one in front of it, if there is one.
-fn may_stand_behind<V, O: Values<V>, C: Precedes<V>>(
+// Whether the member does not go before the one before it, if there is one.
+fn may_stand_after<V, O: Values<V>, C: Precedes<V>>(
     objects: &O,
     order: &mut C,
     prev: Option<Place>,

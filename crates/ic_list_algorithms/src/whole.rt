@@ -1,23 +1,21 @@
-//! A list behind another, and a list turned.
+//! A list after another, and a list turned.
 //!
 //! ```text
 //! append(&mut list, &mut links, &mut other);   // `other` is empty then
-//! rotate_left(&mut list, &mut links, 2);       // the first two members go behind all others
+//! rotate_left(&mut list, &mut links, 2);       // the first two members go after all others
 //! ```
 
 ghost use Rattle.std.specs.Prelude.{◌≡◌, ◌++◌, List, [], drop, take};
-ghost use Rattle.ic_unsafe_ref.specs.declared.place.Place.{Place};
-ghost use Rattle.ic_link_ops.specs.Sequences.{IsDisjoint, at_back, first, last};
-ghost use Rattle.ic_link_ops.specs.Tables.{KeepsBeside};
+ghost use Rattle.ic_link_ops.specs.Prelude.{Place, IsDisjoint, at_back, first, last, ChangesOnlyIn};
 ghost use Rattle.ic_link_ops.specs.Edits.{Splices};
-ghost use Rattle.ic_link_ops.specs.Chains.{ShowsChain, ShowsSomeChain, empty_list};
+ghost use Rattle.ic_link_ops.specs.Chains.{RepresentsChain, RepresentsSomeChain, empty_list};
 ghost use Rattle.ic_list_algorithms.specs.TwoLists.{TwoLists};
 
 use ic_chain::{Chain, DoubleEnded, ForwardLinks, SingleEnded};
 use ic_link_ops::LinkOps;
 use ic_unsafe_ref::Place;
 
-/// Puts all of another list behind this one, and leaves that one empty. O(1).
+/// Puts all of another list after this one, and leaves that one empty. O(1).
 ///
 /// It requires that the two share no member. No link is acquired or released.
 pub fn append<K: DoubleEnded + ForwardLinks<L>, T, L: LinkOps>(
@@ -25,12 +23,12 @@ pub fn append<K: DoubleEnded + ForwardLinks<L>, T, L: LinkOps>(
     links: &mut L,
     other: &mut Chain<K, T>,
 )
-    requires two { TwoLists (ShowsChain K.Between K.kept) (L.table links.old) list.old other.old }
-    ensures appended { (s u : List Place) → ShowsChain K.Between K.kept (L.table links.old) list.old s
-        → ShowsChain K.Between K.kept (L.table links.old) other.old u → IsDisjoint u s
-        → Splices (ShowsChain K.Between K.kept) (L.table links.old) (L.table links.new) list.new (at_back s) u }
+    requires two { TwoLists (RepresentsChain K.Between K.kept) (L.table links.old) list.old other.old }
+    ensures appended { (s u : List Place) → RepresentsChain K.Between K.kept (L.table links.old) list.old s
+        → RepresentsChain K.Between K.kept (L.table links.old) other.old u → IsDisjoint u s
+        → Splices (RepresentsChain K.Between K.kept) (L.table links.old) (L.table links.new) list.new (at_back s) u }
     ensures empty { other.new ≡ empty_list K.kept }
-    ensures no_step { L.Does links.old links.new [] }
+    ensures trace_stays { L.Trace links.old links.new [] }
 {
     let last = list.last();
     let end = other.last();
@@ -38,7 +36,7 @@ pub fn append<K: DoubleEnded + ForwardLinks<L>, T, L: LinkOps>(
     list.splice_between(links, last, given, end, None);
 }
 
-/// Puts all of another list behind this one, and leaves that one empty, where lists keep no last member: it walks to the last one of this
+/// Puts all of another list after this one, and leaves that one empty, where lists keep no last member: it walks to the last one of this
 /// list. O(n).
 ///
 /// It requires what [`append`] does. No link is acquired or released.
@@ -47,19 +45,19 @@ pub fn append_walking<K: SingleEnded + ForwardLinks<L>, T, L: LinkOps>(
     links: &mut L,
     other: &mut Chain<K, T>,
 )
-    requires two { TwoLists (ShowsChain K.Between K.kept) (L.table links.old) list.old other.old }
-    ensures appended { (s u : List Place) → ShowsChain K.Between K.kept (L.table links.old) list.old s
-        → ShowsChain K.Between K.kept (L.table links.old) other.old u → IsDisjoint u s
-        → Splices (ShowsChain K.Between K.kept) (L.table links.old) (L.table links.new) list.new (at_back s) u }
+    requires two { TwoLists (RepresentsChain K.Between K.kept) (L.table links.old) list.old other.old }
+    ensures appended { (s u : List Place) → RepresentsChain K.Between K.kept (L.table links.old) list.old s
+        → RepresentsChain K.Between K.kept (L.table links.old) other.old u → IsDisjoint u s
+        → Splices (RepresentsChain K.Between K.kept) (L.table links.old) (L.table links.new) list.new (at_back s) u }
     ensures empty { other.new ≡ empty_list K.kept }
-    ensures no_step { L.Does links.old links.new [] }
+    ensures trace_stays { L.Trace links.old links.new [] }
 {
     let last = last_walking::<K, T, L>(&*list, &*links);
     let given = other.take();
     list.splice_between(links, last, given, None, None);
 }
 
-/// Turns the list: its first `n` members go behind all others, in their order. A list of no more than n members stays as it is.
+/// Turns the list: its first `n` members go after all others, in their order. A list of no more than n members stays as it is.
 ///
 /// It walks from the front to the back. O(n), and no link is acquired or released.
 pub fn rotate_left<K: ForwardLinks<L>, T, L: LinkOps>(
@@ -67,12 +65,12 @@ pub fn rotate_left<K: ForwardLinks<L>, T, L: LinkOps>(
     links: &mut L,
     n: usize,
 )
-    requires shown { ShowsSomeChain K.Between K.kept (L.table links.old) list.old }
-    ensures rotated { (s : List Place) → ShowsChain K.Between K.kept (L.table links.old) list.old s
-        → ShowsChain K.Between K.kept (L.table links.new) list.new (drop n s ++ take n s) }
-    ensures frame { (s : List Place) → ShowsChain K.Between K.kept (L.table links.old) list.old s
-        → KeepsBeside (L.table links.old) (L.table links.new) s }
-    ensures no_step { L.Does links.old links.new [] }
+    requires shown { RepresentsSomeChain K.Between K.kept (L.table links.old) list.old }
+    ensures rotated { (s : List Place) → RepresentsChain K.Between K.kept (L.table links.old) list.old s
+        → RepresentsChain K.Between K.kept (L.table links.new) list.new (drop n s ++ take n s) }
+    ensures frame { (s : List Place) → RepresentsChain K.Between K.kept (L.table links.old) list.old s
+        → ChangesOnlyIn (L.table links.old) (L.table links.new) s }
+    ensures trace_stays { L.Trace links.old links.new [] }
 {
     let (before, behind) = gap_at::<K, T, L>(&*list, &*links, n);
     let mut rest = list.split_between(links, before, behind);
@@ -82,14 +80,14 @@ pub fn rotate_left<K: ForwardLinks<L>, T, L: LinkOps>(
     *list = rest;
 }
 
-// The members in front of the gap behind the first `n` members, and behind it; the last gap, if there are no more than n.
+// The members before the gap after the first `n` members, and after it; the last gap, if there are no more than n.
 pub(crate) fn gap_at<K: ForwardLinks<L>, T, L: LinkOps>(
     list: &Chain<K, T>,
     links: &L,
     n: usize,
 ) -> (Option<Place>, Option<Place>)
-    requires shown { ShowsSomeChain K.Between K.kept (L.table links.now) list.now }
-    ensures { (s : List Place) → ShowsChain K.Between K.kept (L.table links.now) list.now s
+    requires shown { RepresentsSomeChain K.Between K.kept (L.table links.now) list.now }
+    ensures { (s : List Place) → RepresentsChain K.Between K.kept (L.table links.now) list.now s
         → (result.0 ≡ last (take n s)) × (result.1 ≡ first (drop n s)) }
 {
     let mut left = n;
@@ -108,8 +106,8 @@ pub(crate) fn gap_at<K: ForwardLinks<L>, T, L: LinkOps>(
 
 // The last member, `None` of an empty list. It walks from the front.
 fn last_walking<K: ForwardLinks<L>, T, L: LinkOps>(list: &Chain<K, T>, links: &L) -> Option<Place>
-    requires shown { ShowsSomeChain K.Between K.kept (L.table links.now) list.now }
-    ensures { (s : List Place) → ShowsChain K.Between K.kept (L.table links.now) list.now s → result ≡ last s }
+    requires shown { RepresentsSomeChain K.Between K.kept (L.table links.now) list.now }
+    ensures { (s : List Place) → RepresentsChain K.Between K.kept (L.table links.now) list.now s → result ≡ last s }
 {
     let (last, _) = gap_at::<K, T, L>(list, links, usize::MAX);
     last

@@ -127,8 +127,8 @@ module _ {A : Type 0} (stacks : Stacks A) where
   begun order (x ∷ xs) others each zero d low = each 0 (account_of x) refl
   begun order (x ∷ xs) others each (suc k) d low = begun order xs others (λ i a at. each (suc i) a at) k d (omega (arith, low))
 
-  pub told : (hs : List Holder) (v w : Hand) → v ≡ hand_with stacks (map account_of hs) → Compares stacks.table.shared.key v w → Told hs w
-  told hs v w has c =
+  pub answered : (hs : List Holder) (v w : Hand) → v ≡ hand_with stacks (map account_of hs) → Compares stacks.table.shared.key v w → Told hs w
+  answered hs v w has c =
       let here : Compares stacks.table.shared.key (hand_with stacks (map account_of hs)) w = subst (λ (y : Hand). Compares stacks.table.shared.key y w) has c in
       let one : IsHistory here.one.order (map party_of_account (map account_of hs ++ here.others)) = history stacks.table.shared.key here.words (map account_of hs ++ here.others) here.one in
       record {

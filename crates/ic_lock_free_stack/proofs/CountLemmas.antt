@@ -106,7 +106,7 @@ nothing_lost order parties k p was =
     let c = balanced_from at_first order k p was.legal in
     omega (arith, a, b, c)
 
--- CALLS IN TURN: where all holders are together before a step and behind it, the history has that step more and no other
+-- CALLS IN TURN: where all holders are together before a step and after it, the history has that step more and no other
 sum_same : (f g : ℕ → ℕ) (names : List ℕ) → ((i m : ℕ) → get_elem? names i ≡ some m → f m ≡ g m) → sum_by f names ≡ sum_by g names
 sum_same f g [] each = refl
 sum_same f g (x ∷ xs) each =

@@ -192,21 +192,21 @@ module _ {A : Type 0} (stacks : Stacks A) (h : Holder) (chain : Chain) (p : Plac
       (x.inside, all.held p (rw (same_place p) refl), subst (λ l. is_in p (drop 1 l) ≡ false) (sym x.is) all.once.0)
 
 -- A HEAD IS LOOKED AT
-module _ {A : Type 0} (stacks : Stacks A) (old new : Holder) (k n : ℕ) (table : IsSeatOf stacks new.seat) (told : Sees stacks.table.shared.key (account_of old) k n new.seat.me.0) where
-  sees_is : account_of new ≡ sees told.order (account_of old)
-  sees_is = account_is stacks new (sees told.order (account_of old)) table told.same
+module _ {A : Type 0} (stacks : Stacks A) (old new : Holder) (k n : ℕ) (table : IsSeatOf stacks new.seat) (answered : Sees stacks.table.shared.key (account_of old) k n new.seat.me.0) where
+  sees_is : account_of new ≡ sees answered.order (account_of old)
+  sees_is = account_is stacks new (sees answered.order (account_of old)) table answered.same
 
   pub sees_of : IsOf stacks new
-  sees_of = is_of stacks new (sees told.order (account_of old)) table told.same
+  sees_of = is_of stacks new (sees answered.order (account_of old)) table answered.same
 
-  seen_is : seen_of new ≡ told.order
+  seen_is : seen_of new ≡ answered.order
   seen_is = ap (λ (b : Account). b.seen) sees_is
 
   pub sees_looks : Looks old new
   sees_looks = record {
     name = ap (λ (b : Account). b.name) sees_is;
     record_is = ap (λ (b : Account). b.steps) sees_is;
-    goes = subst (LooksOn (name_of old) (seen_of old)) (sym seen_is) told.goes;
+    goes = subst (LooksOn (name_of old) (seen_of old)) (sym seen_is) answered.goes;
   }
 
   pub sees_keeps : KeepsChains stacks old new (λ p. false)
@@ -221,7 +221,7 @@ module _ {A : Type 0} (stacks : Stacks A) (old new : Holder) (k n : ℕ) (table 
 
   pub tells_empty : OnTrue (n == 1) (stack_after (seen_of new) k ≡ []) × OnFalse (n == 1) (stack_after (seen_of new) k ≢ [])
   tells_empty = subst (λ (o : List Entry). OnTrue (n == 1) (stack_after o k ≡ []) × OnFalse (n == 1) (stack_after o k ≢ [])) (sym seen_is)
-      (empty_by (stack_after told.order k) (n == 1) (λ e. eq-eqb n 1 e) (λ e. eqb-true n 1 e) told.head)
+      (empty_by (stack_after answered.order k) (n == 1) (λ e. eq-eqb n 1 e) (λ e. eqb-true n 1 e) answered.head)
 
 -- of two places of which one is in a list and the other is not
 pub apart_in : (s : List Place) (p q : Place) → is_in p s ≡ false → is_in q s ≡ true → same q p ≡ false
@@ -245,7 +245,7 @@ one_sequence stacks h chain s t a b = same_from (account_of h).known s t (sym a.
 pub empty_chain : {A : Type 0} (stacks : Stacks A) (h : Holder) (chain : Chain) → IsNoChain chain → HasChain stacks h chain []
 empty_chain stacks h chain e = record { starts = e; once = tt; linked = tt; known = omega arith; inside = λ p f. absurd (true≢false (sym f)); held = λ p f. absurd (true≢false (sym f)) }
 
--- A PLACE IS LINKED in front of a chain
+-- A PLACE IS LINKED at the front of a chain
 module _ {A : Type 0} (stacks : Stacks A) (old new : Holder) (p : Place) (n : ℕ) (table : IsSeatOf stacks new.seat)
     (e : new.seat.me.0 ≡ only stacks.table.shared.key (noted (account_of old) (knows p n ∷ (account_of old).known) (account_of old).stack (account_of old).saw (account_of old).looked)) where
   abbrev linked_account : Account

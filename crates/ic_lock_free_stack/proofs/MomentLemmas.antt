@@ -145,7 +145,7 @@ pub by_case : (P : Bool → Type 0) (b : Bool) → (b ≡ true → P b) → (b �
 by_case P true yes_it no_it = yes_it refl
 by_case P false yes_it no_it = no_it refl
 
--- members of two lists, one behind the other
+-- members of two lists, one after the other
 pub in_both : (p : Place) (s t : List Place) → is_in p (s ++ t) ≡ (is_in p s || is_in p t)
 in_both p [] t = refl
 in_both p (q ∷ s) t = by_test (λ b. (b || is_in p (s ++ t)) ≡ ((b || is_in p s) || is_in p t)) (same p q) (λ _. refl) (λ _. in_both p s t)

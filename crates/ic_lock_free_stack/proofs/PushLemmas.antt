@@ -30,7 +30,7 @@ pub record IsTrying {A : Type 0} (stacks : Stacks A) (old now : Holder) (k : ℕ
   pub counted : tries ≤ looked
   pub few : looked < 18446744073709551615
 
--- the last of a list is in it, and its first one is in front of the others
+-- the last of a list is in it, and its first one is before the others
 pub last_in : (s : List Place) (p : Place) → last s ≡ Some p → is_in p s ≡ true
 last_in [] p e = absurd (cc e)
 last_in (q ∷ []) p e = rw (ap (same p) (same_Some q p e) ∙ same_place p) refl

@@ -39,15 +39,15 @@ module _ (t : TableStep (Unit {0})) (me : Mine) (size : Size) (a : Account) (is 
   one_account : (z : Size) (b : Account) → me.0 ≡ only z b → a ≡ b
   one_account z b e = ap (λ (v : Hand). get_or v.accounts 0 a) (sym is ∙ e)
 
-  pub of_place : (told : Size → Account → Place → Type 0) (p : Place) → index_of p ≡ t.word → told size a p → OfPlace t me told
-  of_place told p on here z b q e f =
-      subst (λ y. told y b q) (one_size z b e) (subst (λ c. told size c q) (one_account z b e) (subst (told size a) (same_index p q (on ∙ sym f)) here))
+  pub of_place : (answered : Size → Account → Place → Type 0) (p : Place) → index_of p ≡ t.word → answered size a p → OfPlace t me answered
+  of_place answered p on here z b q e f =
+      subst (λ y. answered y b q) (one_size z b e) (subst (λ c. answered size c q) (one_account z b e) (subst (answered size a) (same_index p q (on ∙ sym f)) here))
 
-  pub of_head : (told : Size → Account → ℕ → Type 0) (k : ℕ) → size.places + k ≡ t.word → told size a k → OfHead t me told
-  of_head told k on here z b j e f =
-      let here' : told z b k = subst (λ y. told y b k) (one_size z b e) (subst (λ c. told size c k) (one_account z b e) here) in
+  pub of_head : (answered : Size → Account → ℕ → Type 0) (k : ℕ) → size.places + k ≡ t.word → answered size a k → OfHead t me answered
+  of_head answered k on here z b j e f =
+      let here' : answered z b k = subst (λ y. answered y b k) (one_size z b e) (subst (λ c. answered size c k) (one_account z b e) here) in
       let same_stack : k ≡ j = (let f' : size.places + j ≡ t.word = ap (λ (y : Size). y.places + j) (one_size z b e) ∙ f in omega (arith, on, f')) in
-      subst (told z b) same_stack here'
+      subst (answered z b) same_stack here'
 
 link_some : (o : Option Place) → link_to o ≢ 0
 link_some o e = absurd (omega (arith, e))

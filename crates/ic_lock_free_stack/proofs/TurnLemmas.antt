@@ -16,7 +16,7 @@ use Rattle.ic_lock_free_stack.proofs.PushLemmas.{from_first}
 pub first_in : (l : List Place) (p : Place) → first l ≡ Some p → is_in p l ≡ true
 first_in l p e = ap (is_in p) (from_first l p e) ∙ in_here p (drop 1 l)
 
--- between two places: the chain was s, of which the places behind are left, and those in front are turned round
+-- between two places: the chain was s, of which the places after are left, and those before are turned round
 pub record IsTurning {A : Type 0} (stacks : Stacks A) (old now : Holder) (chain left turned : Chain) (s : List Place) : Type 0 where
   pub was : HasChain stacks old chain s
   pub made : IsOf stacks now

@@ -23,7 +23,7 @@ linked_beside words i n (p ∷ s) beside was = (
   linked_beside words i n s (λ q inside. beside q (by_test (λ b. (b || is_in q s) ≡ true) (same q p) (λ _. refl) (λ _. inside))) was.1,
 )
 
--- members that are linked to what is behind them
+-- members that are linked to what is after them
 pub linked_both : (words : List ℕ) (s t : List Place) → AreLinkedTo words s (link_to (first t)) → AreLinked words t → AreLinked words (s ++ t)
 linked_both words [] t front back = back
 linked_both words (p ∷ []) t front back = (front.0, back)

@@ -40,7 +40,7 @@ without_first v = hand v.size (drop 1 v.accounts)
 abbrev pub only_first : Hand → Hand
 only_first v = hand v.size (take 1 v.accounts)
 
--- a hand with its own accounts, and those of another behind them
+-- a hand with its own accounts, and those of another after them
 abbrev pub both_hands : Hand → Hand → Hand
 both_hands v w = hand v.size (v.accounts ++ w.accounts)
 

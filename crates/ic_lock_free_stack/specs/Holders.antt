@@ -62,7 +62,7 @@ spent_by holder = pushes_and_takes (record_of holder)
 abbrev pub IsNew : Holder → Type 0
 IsNew holder = (record_of holder ≡ []) × (seen_of holder ≡ [])
 
--- A CALL MADE ONE STEP: the holder's record has it behind all others, and the holder has seen the history up to it
+-- A CALL MADE ONE STEP: the holder's record has it after all others, and the holder has seen the history up to it
 pub record Steps (old new : Holder) (e : Step) : Type 0 where
   pub name : name_of new ≡ name_of old
   pub gained : record_of new ≡ record_of old ++ e ∷ []

@@ -85,8 +85,8 @@ after m a e = record {
   stack = λ k. members_after k (m.stack k) e;
 }
 
--- WHAT A STEP MAY SAY at a moment: a claim is true exactly if the place is with nobody, a holder gives up what it holds and pushes such places, each once,
--- and a call that takes all answers the members, the last pushed first
+-- WHAT A STEP MAY SAY at a moment: a claim is true exactly if the place is with nobody, a holder gives up what it holds and pushes such places, each
+-- once, and a call that takes all answers the members, the last pushed first
 abbrev pub Fits : Moment → ℕ → Step → Type 0
 Fits m a (Claim q got) = got ≡ is_nowhere (m.place q)
 Fits m a (Release q) = m.place q ≡ with_holder a

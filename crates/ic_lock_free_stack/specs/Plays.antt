@@ -24,11 +24,11 @@ only size a = hand size (a ∷ [])
 
 -- whichever the size, the account and the place whose word this is
 abbrev pub OfPlace : TableStep (Unit {0}) → Mine → (Size → Account → Place → Type 0) → Type 0
-OfPlace t me told = (size : Size) (a : Account) (p : Place) → me.0 ≡ only size a → index_of p ≡ t.word → told size a p
+OfPlace t me answered = (size : Size) (a : Account) (p : Place) → me.0 ≡ only size a → index_of p ≡ t.word → answered size a p
 
 -- whichever the size, the account and the stack whose head this is
 abbrev pub OfHead : TableStep (Unit {0}) → Mine → (Size → Account → ℕ → Type 0) → Type 0
-OfHead t me told = (size : Size) (a : Account) (k : ℕ) → me.0 ≡ only size a → size.places + k ≡ t.word → told size a k
+OfHead t me answered = (size : Size) (a : Account) (k : ℕ) → me.0 ≡ only size a → size.places + k ≡ t.word → answered size a k
 
 -- the account has one step more, and has seen the history up to it
 pub record Makes (size : Size) (a : Account) (e : Step) (ks : List Known) (new : Hand) : Type 0 where
@@ -60,7 +60,7 @@ pub record Misses (size : Size) (a : Account) (k n : ℕ) (new : Hand) : Type 0 
   pub few : count < 18446744073709551615
   pub same : new ≡ only size (noted a a.known k n count)
 
--- a compare-exchange of a head: where it is as it was seen, the chain is in front, whichever that is whose last word the head was
+-- a compare-exchange of a head: where it is as it was seen, the chain is before, whichever that is whose last word the head was
 abbrev pub tried : TableStep (Unit {0}) → Mine → ℕ → Mine → Type 0
 tried t me n me' = OfHead t me (λ size a k.
     (n ≡ t.first → (s : List Place) → t.second ≡ link_to (first s) → IsOnce s → AreKnownTo a.known s t.first → Makes size a (Push k s) (forgets s a.known) me'.0)

@@ -23,7 +23,7 @@ abbrev pub AreLinked : List ℕ → List Place → Type 0
 AreLinked words [] = Unit {0}
 AreLinked words (p ∷ s) = (word_at words p ≡ link_to (first s)) × AreLinked words s
 
--- the link to the first of the list, or to what is behind it
+-- the link to the first of the list, or to what is after it
 abbrev pub link_or : List Place → ℕ → ℕ
 link_or [] behind = behind
 link_or (p ∷ s) behind = link_to (Some p)

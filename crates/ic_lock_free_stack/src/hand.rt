@@ -18,7 +18,7 @@ pub(crate) struct Known {
     pub(crate) word: u64,
 }
 
-// A holder: its name, its steps, the history up to the last of them or to an audit behind it, the words that it knows, and what it last saw
+// A holder: its name, its steps, the history up to the last of them or to an audit after it, the words that it knows, and what it last saw
 // of a head, when so many steps on heads had been made.
 pub(crate) struct Account {
     pub(crate) name: usize,

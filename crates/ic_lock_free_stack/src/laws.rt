@@ -26,7 +26,7 @@ pub fn places_come_in_order()
         → of_history (sent k) order ≡ of_history (got k) order ++ reverse (stack_after order k) }
 {}
 
-/// The law of calls in turn: where all holders are together before a call and behind it, the history has its step more, and no other.
+/// The law of calls in turn: where all holders are together before a call and after it, the history has its step more, and no other.
 ///
 /// So of one thread that has all holders the stacks are plain lists: the laws of a history say what each call does to them.
 pub fn calls_go_in_turn()
@@ -37,7 +37,7 @@ pub fn calls_go_in_turn()
 
 /// The laws of a history in which each step says what it may.
 ///
-/// A push puts its places in front of its stack; a call that takes all answers just what the stack has, and leaves it empty; no other step
+/// A push puts its places before its stack; a call that takes all answers just what the stack has, and leaves it empty; no other step
 /// changes a stack. The members of a stack are the places that are in it, each once.
 pub fn history_laws()
     ensures pushes { (order : List Entry) (h k : ℕ) (s : List Place)

@@ -15,7 +15,7 @@
 //! stacks.audit(&mut holders);
 //! ```
 //!
-//! Since nothing takes a single member, a head that is again what it was is no trap: the members behind it are those of that moment.
+//! Since nothing takes a single member, a head that is again what it was is no trap: the members after it are those of that moment.
 #![tactic(auto)]
 
 mod hand;

@@ -116,10 +116,10 @@ impl Split<Hand> for FirstOff {
     ghost right = { only_first };
 }
 
-// The accounts of another seat come behind.
-pub(crate) struct Behind;
+// The accounts of another seat come after.
+pub(crate) struct After;
 
-impl Join<Hand> for Behind {
+impl Join<Hand> for After {
     ghost use Rattle.ic_lock_free_stack.specs.Hands.{both_hands, nothing_left};
 
     ghost both = { both_hands };

@@ -8,7 +8,7 @@ ghost use Rattle.ic_lock_free_stack.specs.Ends.{first};
 
 use crate::hand::{Hand, Size};
 use crate::rule::{
-    Behind, Claimed, Compared, FirstOff, Followed, Linked, Looked, OneHistory, Peeked, Released,
+    After, Claimed, Compared, FirstOff, Followed, Linked, Looked, OneHistory, Peeked, Released,
     Seated, TookAll, Tried,
 };
 use atomic_table::{Seat, Table};
@@ -194,14 +194,14 @@ impl<A: Allocator> Stacks<A> {
         self.table.shared.split_seat::<FirstOff>(seat)
     }
 
-    // Puts the accounts of another seat behind those of this one, and that seat is gone.
-    fn put_behind(&self, seat: &mut Seat<(), Hand>, other: Seat<(), Hand>)
+    // Puts the accounts of another seat after those of this one, and that seat is gone.
+    fn put_after(&self, seat: &mut Seat<(), Hand>, other: Seat<(), Hand>)
         requires seat { IsSeatOf self.now seat.old }
         requires other { IsSeatOf self.now other × (other.me.1 ≡ []) }
         ensures seat { IsSeatOf self.now seat.new }
         ensures both { seat.new.me.0 ≡ both_hands seat.old.me.0 other.me.0 }
     {
-        self.table.shared.join_seat::<Behind>(seat, other);
+        self.table.shared.join_seat::<After>(seat, other);
     }
 
     /// How many places there are: those with a smaller index.
@@ -241,12 +241,12 @@ impl<A: Allocator> Stacks<A> {
         let mut all = words.load_new_seat::<Seated>(0).1;
         for i in 0..holders.len() {
             let account = self.first_of(&mut holders[i].seat);
-            self.put_behind(&mut all, account);
+            self.put_after(&mut all, account);
         }
         words.load::<Compared>(&mut all, 0);
         for i in 0..holders.len() {
             let account = self.first_of(&mut all);
-            self.put_behind(&mut holders[i].seat, account);
+            self.put_after(&mut holders[i].seat, account);
         }
     }
 
@@ -300,7 +300,7 @@ impl<A: Allocator> Stacks<A> {
         words.load::<Peeked>(&mut holder.seat, self.places + stack) == 1
     }
 
-    /// Puts `place` in front of the stack of that number, and the holder then holds it no longer.
+    /// Puts `place` at the front of the stack of that number, and the holder then holds it no longer.
     ///
     /// It requires that the holder holds the place, and that it has made fewer than 281,474,976,710,656 pushes and calls that take all. It is
     /// never refused, takes no lock and waits for nobody. A load, and then a store and a compare-exchange a try: a try fails only if some
@@ -320,7 +320,7 @@ impl<A: Allocator> Stacks<A> {
         self.push_linked(holder, stack, place, place);
     }
 
-    /// Puts a chain in front of the stack of that number, as it is: its first place is then the stack's first. The holder holds none of it then.
+    /// Puts a chain at the front of the stack of that number, as it is: its first place is then the stack's first. The holder holds none of it then.
     ///
     /// It requires that `last` is the last place of the chain, which has one at least: the first that was linked, say. In all else it is as
     /// [`Stacks::push`], with as many steps for any number of places.
@@ -393,7 +393,7 @@ impl<A: Allocator> Stacks<A> {
         }
     }
 
-    /// Links `place` in front of a chain. One store, O(1).
+    /// Links `place` at the front of a chain. One store, O(1).
     ///
     /// It requires that the holder holds the place, and that the chain lacks it. It makes no step: no other holder sees a chain.
     #[inline]

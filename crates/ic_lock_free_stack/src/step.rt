@@ -11,7 +11,7 @@ pub enum Step {
     Claim(Place, bool),
     /// It gave up the place.
     Release(Place),
-    /// It put these places in front of the stack of that number, in this order.
+    /// It put these places at the front of the stack of that number, in this order.
     Push(usize, LinkedList<Place>),
     /// It took all members of the stack of that number, which were these.
     TakeAll(usize, LinkedList<Place>),

@@ -6,18 +6,13 @@ use Rattle.std.specs.List.{cons_option, filter}
 use Rattle.std.specs.Ordering.{is_gt}
 use Rattle.std.specs.declared.cmp.Ordering.{Ordering}
 use Rattle.std.specs.declared.cmp.Ordering.TheVariants.{Less, Equal, Greater}
-use Rattle.ic_unsafe_ref.specs.declared.place.Place.{Place}
-use Rattle.ic_unsafe_ref.specs.Objects.{Objects, Places, object_at}
+use Rattle.ic_link_ops.specs.Prelude.{Place, Objects, Places, object_at, join, insert, first, last, but_last, Table, HasMember, ArePlaced, RepresentsPlaced, values_at}
 use Rattle.ic_unsafe_ref.proofs.Placing.{others_placed}
-use Rattle.ic_link_ops.specs.PlacedObjects.{ArePlaced, ShowsPlaced, values_at}
-use Rattle.ic_link_ops.specs.Positions.{HasMember}
-use Rattle.ic_link_ops.specs.RedBlackTree.{Node, Shows}
-use Rattle.ic_link_ops.specs.Sequences.{join, insert, first, last, but_last}
-use Rattle.ic_link_ops.specs.Tables.{Table}
+use Rattle.ic_link_ops.specs.RedBlackTree.{Node, Represents}
 use Rattle.ic_link_ops.proofs.Each.{all_back, all_with, all_without}
 use Rattle.ic_link_ops.proofs.PlacedValues.{stand_beside, vacant_absent}
 use Rattle.ic_link_ops.proofs.SequenceLemmas.{first_is, none_not, some_same, split_last}
-use Rattle.ic_link_ops.proofs.ShownTrees.{shows_kept, shows_nothing}
+use Rattle.ic_link_ops.proofs.RepresentedTrees.{represents_kept, represents_nothing}
 use Rattle.ic_rbtree.specs.Borders.{Finds, IsBorder, IsLowerBorder, IsSorted, IsSortedFor, at_most_at, equal_at, less_at}
 use Rattle.ic_rbtree.specs.Comparing.{compared, order_of, own_order}
 use Rattle.ic_rbtree.specs.Ordered.{InsertsInOrder}
@@ -25,11 +20,11 @@ use Rattle.ic_rbtree.specs.Tree.{adapter_of, root_of}
 use Rattle.ic_rbtree.specs.declared.tree.RBTree.{RBTree}
 use Rattle.ic_rbtree.specs.declared.keys.key_adapter.Bound.TheVariants.{Included}
 use Rattle.ic_rbtree.proofs.KeyLaws.{cuts_at_most, found_is, lower_is, sorted_for, stays_sorted, value_there}
-use Rattle.ic_rbtree.proofs.SortedAnswers.{put_behind}
+use Rattle.ic_rbtree.proofs.SortedAnswers.{put_after}
 use Rattle.ic_rbtree.proofs.SortedValues.{own_order_is}
-use Rattle.ic_plain.specs.SortedTrees.{IsInOrder, ShowsInOrder}
+use Rattle.ic_plain.specs.SortedTrees.{IsInOrder, RepresentsInOrder}
 
--- a member at an end of what is shown
+-- a member at an end of what is represented
 pub first_member : {shows : List Place → Type 0} (s : List Place) → shows s → {p : Place} → Some p ≡ first s → HasMember shows p
 first_member {shows} s shown is = record { front = []; back = drop 1 s; shown = subst shows (first_is s is) shown }
 
@@ -70,12 +65,12 @@ module _ {T K : Type 0} {cmp : K → K → Ordering} (total : IsTotalOrder cmp) 
 
 module _ {T K : Type 0} {cmp : K → K → Ordering} (key : T → K) where
   -- A NEW TREE is in order
-  pub nothing_in_order : {E : Type 0} {n : E → Node} (t : Table E) {root : Option Place} (objects : Objects T) → root ≡ None → ShowsInOrder cmp key (Shows n t root) objects
-  nothing_in_order {n = n} t objects none = record { placed = record { members = []; shown = rw none (shows_nothing {n = n} t); placed = tt }; sorted = tt }
+  pub nothing_in_order : {E : Type 0} {n : E → Node} (t : Table E) {root : Option Place} (objects : Objects T) → root ≡ None → RepresentsInOrder cmp key (Represents n t root) objects
+  nothing_in_order {n = n} t objects none = record { placed = record { members = []; shown = rw none (represents_nothing {n = n} t); placed = tt }; sorted = tt }
 
 module _ {T K : Type 0} {cmp : K → K → Ordering} (total : IsTotalOrder cmp) (key : T → K) {old : List Place → Type 0} (one : (s u : List Place) → old s → old u → s ≡ u) where
-  module _ (objects : Objects T) (o : ShowsInOrder cmp key old objects) where
-    -- of whatever sequence is shown, the objects are placed and sorted for each key
+  module _ (objects : Objects T) (o : RepresentsInOrder cmp key old objects) where
+    -- of whatever sequence is represented, the objects are placed and sorted for each key
     placed_in : (s : List Place) → old s → ArePlaced objects s
     placed_in s shown = subst (ArePlaced objects) (one o.placed.members s o.placed.shown shown) o.placed.placed
 
@@ -93,15 +88,15 @@ module _ {T K : Type 0} {cmp : K → K → Ordering} (total : IsTotalOrder cmp) 
     bounded k s shown border = lower_is (cuts_at_most (sorted_in s shown k)) border
 
     -- AN INSERT IN ORDER puts the object in by its key, and leaves the order
-    module _ {E H : Type 0} {Shows : Table E → H → List Place → Type 0} {t u : Table E} {head : H} {p : Place} (there : IsSome (object_at objects p)) where
-      pub inserted : (s : List Place) → old s → InsertsInOrder Shows (compared (own_order cmp key objects p) objects) t u head s p
-          → Shows u head (filter (λ q. not (less_at (compared (own_order cmp key objects p) objects) q)) s ++ p ∷ filter (less_at (compared (own_order cmp key objects p) objects)) s)
+    module _ {E H : Type 0} {Represents : Table E → H → List Place → Type 0} {t u : Table E} {head : H} {p : Place} (there : IsSome (object_at objects p)) where
+      pub inserted : (s : List Place) → old s → InsertsInOrder Represents (compared (own_order cmp key objects p) objects) t u head s p
+          → Represents u head (filter (λ q. not (less_at (compared (own_order cmp key objects p) objects) q)) s ++ p ∷ filter (less_at (compared (own_order cmp key objects p) objects)) s)
       inserted s shown x =
           let v = value_there total key objects (object_at objects p) there in
           let sorted = subst (λ at. IsSortedFor at s) (sym (own_order_is cmp key objects p v.1)) (sorted_in s shown (key v.0)) in
-          subst (Shows u head) (put_behind sorted x.gap x.same x.border p) x.inserted.shows
+          subst (Represents u head) (put_after sorted x.gap x.same x.border p) x.inserted.shows
 
-      pub inserted_in_order : InsertsInOrder Shows (compared (own_order cmp key objects p) objects) t u head o.placed.members p → ShowsInOrder cmp key (Shows u head) objects
+      pub inserted_in_order : InsertsInOrder Represents (compared (own_order cmp key objects p) objects) t u head o.placed.members p → RepresentsInOrder cmp key (Represents u head) objects
       inserted_in_order x =
           let v = value_there total key objects (object_at objects p) there in
           let placed : ArePlaced objects (join x.gap) = subst (ArePlaced objects) (sym x.same) o.placed.placed in
@@ -118,7 +113,7 @@ module _ {T K : Type 0} {cmp : K → K → Ordering} (total : IsTotalOrder cmp) 
 
   -- A REMOVAL leaves the order
   pub removed_in_order : {new : List Place → Type 0} {p : Place} → HasMember old p → ((front back : List Place) → old (front ++ p ∷ back) → new (front ++ back))
-      → (objects : Objects T) → ShowsInOrder cmp key old objects → ShowsInOrder cmp key new objects
+      → (objects : Objects T) → RepresentsInOrder cmp key old objects → RepresentsInOrder cmp key new objects
   removed_in_order {p = p} m off objects o =
       let whole = m.front ++ p ∷ m.back in
       let placed = placed_in objects o whole m.shown in
@@ -139,8 +134,8 @@ module _ {T K : Type 0} {cmp : K → K → Ordering} (total : IsTotalOrder cmp) 
 
 -- A TREE IN ORDER
 module _ {D T K E : Type 0} (cmp : K → K → Ordering) (key_of : D → T → K) (node : E → Node) (t : Table E) (tree : RBTree D (Option Place)) (objects : Objects T) (o : IsInOrder cmp key_of node t tree objects) where
-  -- is shown, with an object at each member,
-  pub in_order_placed : ShowsPlaced (Shows node t (root_of tree)) objects
+  -- is represented, with an object at each member,
+  pub in_order_placed : RepresentsPlaced (Represents node t (root_of tree)) objects
   unfolding IsInOrder
   in_order_placed = o.placed
 
@@ -151,6 +146,6 @@ module _ {D T K E : Type 0} (cmp : K → K → Ordering) (key_of : D → T → K
       let s = o.placed.members in
       let stood = stand_beside objects more p (others_placed places) (vacant_absent objects p places.vacant s o.placed.placed) (record { placed = o.placed.placed; are = refl }) in
       record {
-        placed = record { members = s; shown = shows_kept o.placed.shown (λ q m. entries q); placed = stood.placed };
+        placed = record { members = s; shown = represents_kept o.placed.shown (λ q m. entries q); placed = stood.placed };
         sorted = subst (λ (l : List T). IsSorted cmp (map (key_of (adapter_of tree)) l)) (sym stood.are) o.sorted;
       }

@@ -2,13 +2,10 @@
 use Rattle.std.specs.Prelude.{⊤, Option, Bool, not, List, ◌∷◌, ◌++◌, map}
 use Rattle.std.specs.List.{filter}
 use Rattle.std.specs.declared.cmp.Ordering.{Ordering}
-use Rattle.ic_unsafe_ref.specs.declared.place.Place.{Place}
-use Rattle.ic_unsafe_ref.specs.Objects.{Objects}
+use Rattle.ic_link_ops.specs.Prelude.{Place, Objects, Table, RepresentsPlaced, values_at}
 use Rattle.ic_link_ops.specs.declared.link.Link.{Link}
 use Rattle.ic_link_ops.specs.declared.three_narrow_words.ThreeNarrowWords.{ThreeNarrowWords}
-use Rattle.ic_link_ops.specs.PlacedObjects.{ShowsPlaced, values_at}
-use Rattle.ic_link_ops.specs.RedBlackTree.{Node, Shows}
-use Rattle.ic_link_ops.specs.Tables.{Table}
+use Rattle.ic_link_ops.specs.RedBlackTree.{Node, Represents}
 use Rattle.ic_link_ops.specs.ThreeNarrowWords.{node_in}
 use Rattle.ic_rbtree.specs.declared.tree.RBTree.{RBTree}
 use Rattle.ic_rbtree.specs.Borders.{IsSorted, at_most_at, equal_at, less_at}
@@ -24,18 +21,18 @@ abbrev pub narrow_node_of : NarrowTreeLink → Node
 narrow_node_of = node_by node_in
 
 module _ {T K : Type 0} (cmp : K → K → Ordering) (key : T → K) where
-  -- a sequence is shown, an object stands at each of its members, and from one to the next their keys never fall
-  pub record ShowsInOrder (shows : List Place → Type 0) (objects : Objects T) : Type 0 where
-    pub placed : ShowsPlaced shows objects
+  -- a sequence is represented, an object stands at each of its members, and from one to the next their keys never fall
+  pub record RepresentsInOrder (shows : List Place → Type 0) (objects : Objects T) : Type 0 where
+    pub placed : RepresentsPlaced shows objects
     pub sorted : IsSorted cmp (map key (values_at objects placed.members))
 
 -- `cmp`: how two keys compare. `key_of`: the key of an object, as an adapter finds it
 module _ {D T K : Type 0} (cmp : K → K → Ordering) (key_of : D → T → K) where
   -- `node`: what an entry says of a tree
   module _ {E : Type 0} (node : E → Node) where
-    -- THE TREE IS IN ORDER: its members stand in the order of their keys, as the table shows them
+    -- THE TREE IS IN ORDER: its members stand in the order of their keys, as the table represents them
     unfoldable pub IsInOrder : Table E → RBTree D (Option Place) → Objects T → Type 0
-    IsInOrder t tree objects = ShowsInOrder cmp (key_of (adapter_of tree)) (Shows node t (root_of tree)) objects
+    IsInOrder t tree objects = RepresentsInOrder cmp (key_of (adapter_of tree)) (Represents node t (root_of tree)) objects
 
     -- THE ORDER STAYS, whatever objects there are
     abbrev pub StaysInOrder : Table E → RBTree D (Option Place) → Table E → RBTree D (Option Place) → Type 0
@@ -53,6 +50,6 @@ module _ {D T K : Type 0} (cmp : K → K → Ordering) (key_of : D → T → K) 
     abbrev pub is_before : Place → Place → Bool
     is_before p q = less_at (compared (own_order cmp (key_of (adapter_of tree)) objects p) objects) q
 
-    -- p put in by its key: behind those whose keys are equal or less, in front of those whose keys are greater
+    -- p put in by its key: after those whose keys are equal or less, before those whose keys are greater
     abbrev pub put_by_key : List Place → Place → List Place
     put_by_key s p = filter (λ q. not (is_before p q)) s ++ p ∷ filter (is_before p) s

@@ -1,6 +1,6 @@
 -- The links of the plain table of XOR lists.
 use Rattle.std.specs.Prelude.{List, Bool, ⊤}
-use Rattle.ic_unsafe_ref.specs.declared.place.Place.{Place}
+use Rattle.ic_link_ops.specs.Prelude.{Place, Table}
 use Rattle.ic_link_ops.specs.declared.link.Link.{Link}
 use Rattle.ic_link_ops.specs.declared.one_word.OneWord.{OneWord}
 use Rattle.ic_link_ops.specs.declared.xor_linked_list.Xor.{Xor}
@@ -10,8 +10,7 @@ use Rattle.ic_link_ops.specs.OneWord.{no_word, has_word, next_word_of}
 use Rattle.ic_link_ops.specs.PlainTables.{table, linked_by}
 use Rattle.ic_link_ops.specs.Widths.{wide}
 use Rattle.ic_link_ops.specs.Readings.{XorJoins}
-use Rattle.ic_link_ops.specs.Tables.{Table}
-use Rattle.ic_link_ops.specs.XorLinkedList.{Shows, ShowsSome}
+use Rattle.ic_link_ops.specs.XorLinkedList.{Represents, RepresentsSome}
 
 -- the link of an XOR list, and a table of such links
 abbrev pub XorLink : Type 0
@@ -28,17 +27,17 @@ is_linked = linked_by has_word
 abbrev pub plain_table : {A : Type 0} → XorLinkOps A → Table XorLink
 plain_table links = table wide no_word links
 
--- a table of XOR links shows s for the list with these ends
-abbrev pub ShowsList : Table XorLink → Ends → List Place → Type 0
-ShowsList = Shows is_linked (XorJoins next_word_of)
+-- a table of XOR links represents s for the list with these ends
+abbrev pub RepresentsList : Table XorLink → Ends → List Place → Type 0
+RepresentsList = Represents is_linked (XorJoins next_word_of)
 
 -- and some sequence
-abbrev pub ShowsSomeList : Table XorLink → Ends → Type 0
-ShowsSomeList = ShowsSome is_linked (XorJoins next_word_of)
+abbrev pub RepresentsSomeList : Table XorLink → Ends → Type 0
+RepresentsSomeList = RepresentsSome is_linked (XorJoins next_word_of)
 
--- the plain table does; and it shows some sequence
-abbrev pub PlainShows : {A : Type 0} → XorLinkOps A → Ends → List Place → Type 0
-PlainShows links list s = ShowsList (plain_table links) list s
+-- the plain table does; and it represents some sequence
+abbrev pub PlainRepresents : {A : Type 0} → XorLinkOps A → Ends → List Place → Type 0
+PlainRepresents links list s = RepresentsList (plain_table links) list s
 
-abbrev pub PlainShowsSome : {A : Type 0} → XorLinkOps A → Ends → Type 0
-PlainShowsSome links list = ShowsSomeList (plain_table links) list
+abbrev pub PlainRepresentsSome : {A : Type 0} → XorLinkOps A → Ends → Type 0
+PlainRepresentsSome links list = RepresentsSomeList (plain_table links) list

@@ -2,24 +2,20 @@
 //!
 //! ```text
 //! example::add(&mut recent, &mut links, object);
-//! example::reuse(&mut recent, &mut links, &other);  // in front of all others
-//! example::requeue(&mut waiting, &mut links, &job); // behind all others
+//! example::reuse(&mut recent, &mut links, &other);  // before all others
+//! example::requeue(&mut waiting, &mut links, &job); // after all others
 //! example::slide(&mut window, &mut narrow_links, object); // the first one, which is out of the window now
 //!
 //! example::schedule(&mut timers, &mut links, &objects, timer);
 //! example::first_from(&timers, &links, &objects, 30); // the number of the first that is due at 30 or later
-//! example::reschedule(&mut timers, &mut links, &objects, &timer); // behind those with the same deadline
+//! example::reschedule(&mut timers, &mut links, &objects, &timer); // after those with the same deadline
 //! ```
 
 ghost use Rattle.std.specs.Prelude.{◌≡◌, ◌++◌, ◌∷◌, [], true, List, drop};
 ghost use Rattle.std.specs.Ordering.{nat_cmp};
-ghost use Rattle.ic_unsafe_ref.specs.declared.place.Place.{Place};
-ghost use Rattle.ic_unsafe_ref.specs.Objects.{is_placed};
-ghost use Rattle.ic_link_ops.specs.Positions.{HasMember};
-ghost use Rattle.ic_link_ops.specs.Tables.{IsCovered, IsUnlinked};
-ghost use Rattle.ic_link_ops.specs.DoublyEntries.{is_linked, plain_table, PlainShows, PlainShowsSome};
-ghost use Rattle.ic_link_ops.specs.LinkedList.{Shows, ShowsSome};
-ghost use Rattle.ic_link_ops.specs.Sequences.{first};
+ghost use Rattle.ic_link_ops.specs.Prelude.{Place, is_placed, first, IsCovered, IsUnlinked, HasMember};
+ghost use Rattle.ic_link_ops.specs.DoublyEntries.{is_linked, plain_table, PlainRepresents, PlainRepresentsSome};
+ghost use Rattle.ic_link_ops.specs.LinkedList.{Represents, RepresentsSome};
 ghost use Rattle.ic_link_ops.specs.ThreeWords.{node_of};
 ghost use Rattle.ic_rbtree.specs.PlainTrees as tree;
 ghost use Rattle.ic_rbtree.specs.Tree.{root_of};
@@ -34,44 +30,44 @@ use ic_rbtree::{KeyAdapter, RBTree};
 use ic_unsafe_ref::{Objects, UnsafeRef};
 use std::alloc::Allocator;
 
-/// Adds an object that is not linked, in front of all others.
+/// Adds an object that is not linked, before all others.
 pub fn add<T, A: Allocator>(list: &mut LinkedList<T>, links: &mut LinkOps<A>, object: UnsafeRef<T>)
     requires covered { IsCovered (plain_table links.old) object }
     requires unlinked { IsUnlinked is_linked (plain_table links.old) object }
-    requires shown { PlainShowsSome links.old list.old }
-    ensures added { (s : List Place) → PlainShows links.old list.old s → PlainShows links.new list.new (object ∷ s) }
+    requires shown { PlainRepresentsSome links.old list.old }
+    ensures added { (s : List Place) → PlainRepresents links.old list.old s → PlainRepresents links.new list.new (object ∷ s) }
 {
     linked_list::push_front(list, links, object);
 }
 
-/// Puts a member in front of all others, since it was used.
+/// Puts a member before all others, since it was used.
 pub fn reuse<T, A: Allocator>(
     list: &mut LinkedList<T>,
     links: &mut LinkOps<A>,
     object: &UnsafeRef<T>,
 )
-    requires member { HasMember (PlainShows links.old list.old) object.now }
-    ensures moved { (front back : List Place) → PlainShows links.old list.old (front ++ object.now ∷ back)
-        → PlainShows links.new list.new (object.now ∷ (front ++ back)) }
+    requires member { HasMember (PlainRepresents links.old list.old) object.now }
+    ensures moved { (front back : List Place) → PlainRepresents links.old list.old (front ++ object.now ∷ back)
+        → PlainRepresents links.new list.new (object.now ∷ (front ++ back)) }
 {
     linked_list::move_to_front(list, links, object);
 }
 
-/// Takes a member off, and puts it in again behind all others.
+/// Takes a member off, and puts it in again after all others.
 pub fn requeue<T, A: Allocator>(
     list: &mut LinkedList<T>,
     links: &mut LinkOps<A>,
     object: &UnsafeRef<T>,
 )
-    requires member { HasMember (PlainShows links.old list.old) object.now }
-    ensures moved { (front back : List Place) → PlainShows links.old list.old (front ++ object.now ∷ back)
-        → PlainShows links.new list.new ((front ++ back) ++ object.now ∷ []) }
+    requires member { HasMember (PlainRepresents links.old list.old) object.now }
+    ensures moved { (front back : List Place) → PlainRepresents links.old list.old (front ++ object.now ∷ back)
+        → PlainRepresents links.new list.new ((front ++ back) ++ object.now ∷ []) }
 {
     linked_list::remove(list, links, object);
     linked_list::push_back(list, links, UnsafeRef::new(object.place()));
 }
 
-/// Adds an object that is not linked, behind all others, and takes the first member off, as a window slides over what comes. The links have
+/// Adds an object that is not linked, after all others, and takes the first member off, as a window slides over what comes. The links have
 /// words of 8 bytes or of 4.
 pub fn slide<T, L: LinkedListOps + AcceptsUnlinked>(
     window: &mut LinkedList<T>,
@@ -80,11 +76,11 @@ pub fn slide<T, L: LinkedListOps + AcceptsUnlinked>(
 ) -> Option<UnsafeRef<T>>
     requires covered { IsCovered (L.table links.old) object }
     requires unlinked { IsUnlinked L.linked (L.table links.old) object }
-    requires shown { ShowsSome L.neighbors (L.table links.old) window.old }
-    ensures first { (s : List Place) → Shows L.neighbors (L.table links.old) window.old s → result ≡ first (s ++ object ∷ []) }
-    ensures left { (s : List Place) → Shows L.neighbors (L.table links.old) window.old s
-        → Shows L.neighbors (L.table links.new) window.new (drop 1 (s ++ object ∷ [])) }
-    ensures shown { ShowsSome L.neighbors (L.table links.new) window.new }
+    requires shown { RepresentsSome L.neighbors (L.table links.old) window.old }
+    ensures first { (s : List Place) → Represents L.neighbors (L.table links.old) window.old s → result ≡ first (s ++ object ∷ []) }
+    ensures left { (s : List Place) → Represents L.neighbors (L.table links.old) window.old s
+        → Represents L.neighbors (L.table links.new) window.new (drop 1 (s ++ object ∷ [])) }
+    ensures shown { RepresentsSome L.neighbors (L.table links.new) window.new }
 {
     linked_list::push_back(window, links, object);
     linked_list::pop_front(window, links)
@@ -116,7 +112,7 @@ impl KeyAdapter for ByDeadline {
     }
 }
 
-/// Adds a timer that is not linked, behind those with the same deadline or an earlier one.
+/// Adds a timer that is not linked, after those with the same deadline or an earlier one.
 pub fn schedule<A: Allocator, B: Allocator>(
     timers: &mut RBTree<ByDeadline>,
     links: &mut TreeLinkOps<A>,
@@ -145,14 +141,14 @@ pub fn first_from<A: Allocator, B: Allocator>(
     Some(objects.get(place)?.number)
 }
 
-/// Takes a timer off, and puts it in again behind those with the same deadline.
+/// Takes a timer off, and puts it in again after those with the same deadline.
 pub fn reschedule<A: Allocator, B: Allocator>(
     timers: &mut RBTree<ByDeadline>,
     links: &mut TreeLinkOps<A>,
     objects: &Objects<Timer, B>,
     timer: &UnsafeRef<Timer>,
 )
-    requires member { HasMember (tree.PlainShows links.old (root_of timers.old)) timer.now }
+    requires member { HasMember (tree.PlainRepresents links.old (root_of timers.old)) timer.now }
     requires object { is_placed objects.now timer.now ≡ true }
     requires sorted { IsInOrder nat_cmp ⟦<ByDeadline as KeyAdapter>⟧.key_of node_of (tree.plain_table links.old) timers.old objects.now }
     ensures sorted { IsInOrder nat_cmp ⟦<ByDeadline as KeyAdapter>⟧.key_of node_of (tree.plain_table links.new) timers.new objects.now }

@@ -1,9 +1,9 @@
 //! The lists and the tree over plain tables, by calls that are not refused.
 //!
 //! A collection takes any table, and so its contracts speak of a link that may be refused. Here the table accepts each place that is not
-//! linked ([`AcceptsUnlinked`](ic_link_ops::AcceptsUnlinked)), and the object is not linked yet. Plain tables do so, whether their words have 8 bytes or 4. The contracts
-//! are a few clauses, and most callers need no proof file. A call by the name of the collection's own call is that call, and costs what that
-//! costs.
+//! linked ([`AcceptsUnlinked`](ic_link_ops::AcceptsUnlinked)), and the object is not linked yet. Plain tables do so, whether their words have 8 bytes
+//! or 4. The contracts are a few clauses, and most callers need no proof file. A call by the name of the collection's own call is that call, and
+//! costs what that costs.
 //!
 //! ```text
 //! use ic_plain::{linked_list, rbtree};
@@ -18,7 +18,10 @@
 #![tactic(auto)]
 
 pub mod example;
-pub mod linked_list;
+pub mod list;
 pub mod rbtree;
-pub mod singly_linked_list;
-pub mod xor_linked_list;
+
+// The calls on lists, by the name of each kind.
+pub use list as linked_list;
+pub use list as singly_linked_list;
+pub use list as xor_linked_list;

@@ -8,13 +8,9 @@
 //! ```
 
 ghost use Rattle.std.specs.Prelude.{◌≡◌, ◌↔◌, ◌++◌, ◌∷◌, [], None, true, List, IsTrue, IfSome, IfNone, drop};
-ghost use Rattle.ic_unsafe_ref.specs.declared.place.Place.{Place};
-ghost use Rattle.ic_unsafe_ref.specs.Objects.{Objects as Placed, is_placed};
-ghost use Rattle.ic_link_ops.specs.Positions.{HasMember};
-ghost use Rattle.ic_link_ops.specs.RedBlackTree.{Shows, ShowsSome};
-ghost use Rattle.ic_link_ops.specs.Sequences.{first, last, but_last};
+ghost use Rattle.ic_link_ops.specs.Prelude.{Place, Objects as Placed, is_placed, first, last, but_last, Table, IsCovered, IsUnlinked, LinksAlso, Unlinks, ChangesOnlyIn, HasMember};
+ghost use Rattle.ic_link_ops.specs.RedBlackTree.{Represents, RepresentsSome};
 ghost use Rattle.ic_link_ops.specs.ThreeWords.{node_of};
-ghost use Rattle.ic_link_ops.specs.Tables.{Table, IsCovered, IsUnlinked, LinksAlso, Unlinks, KeepsBeside};
 ghost use Rattle.ic_rbtree.specs.PlainTrees.{TreeLink};
 ghost use Rattle.ic_rbtree.specs.Tree.{adapter_of, root_of};
 ghost use Rattle.ic_plain.specs.SortedTrees.{IsInOrder, StaysInOrder, NarrowTreeLink, narrow_node_of, with_key, from_key, put_by_key};
@@ -26,7 +22,7 @@ use ic_rbtree::{Bound, KeyAdapter, RBTree};
 use ic_unsafe_ref::{Objects, Place, UnsafeRef};
 use std::alloc::Allocator;
 
-/// A tree with no members, in the order of the keys that the adapter finds, for which every table shows the empty sequence. It takes no
+/// A tree with no members, in the order of the keys that the adapter finds, for which every table represents the empty sequence. It takes no
 /// memory.
 #[inline]
 pub fn new<K: KeyAdapter>(adapter: K) -> RBTree<K>
@@ -42,8 +38,8 @@ pub fn new<K: KeyAdapter>(adapter: K) -> RBTree<K>
 /// Whether the tree has no members. O(1).
 #[inline]
 pub fn is_empty<K: KeyAdapter, L: RBTreeOps>(tree: &RBTree<K>, links: &L) -> bool
-    requires shown { ShowsSome L.node (L.table links.now) (root_of tree.now) }
-    ensures empty { (s : List Place) → Shows L.node (L.table links.now) (root_of tree.now) s → IsTrue result ↔ (s ≡ []) }
+    requires shown { RepresentsSome L.node (L.table links.now) (root_of tree.now) }
+    ensures empty { (s : List Place) → Represents L.node (L.table links.now) (root_of tree.now) s → IsTrue result ↔ (s ≡ []) }
 {
     let _ = links;
     tree.is_empty()
@@ -52,8 +48,8 @@ pub fn is_empty<K: KeyAdapter, L: RBTreeOps>(tree: &RBTree<K>, links: &L) -> boo
 /// The place of the first member, `None` in an empty tree. In a tree in order this member has the lowest key. O(log n).
 #[inline]
 pub fn first<K: KeyAdapter, L: RBTreeOps>(tree: &RBTree<K>, links: &L) -> Option<Place>
-    requires shown { ShowsSome L.node (L.table links.now) (root_of tree.now) }
-    ensures first { (s : List Place) → Shows L.node (L.table links.now) (root_of tree.now) s → result ≡ first s }
+    requires shown { RepresentsSome L.node (L.table links.now) (root_of tree.now) }
+    ensures first { (s : List Place) → Represents L.node (L.table links.now) (root_of tree.now) s → result ≡ first s }
 {
     tree.first(links)
 }
@@ -61,8 +57,8 @@ pub fn first<K: KeyAdapter, L: RBTreeOps>(tree: &RBTree<K>, links: &L) -> Option
 /// The place of the last member, `None` in an empty tree. In a tree in order this member has the highest key. O(log n).
 #[inline]
 pub fn last<K: KeyAdapter, L: RBTreeOps>(tree: &RBTree<K>, links: &L) -> Option<Place>
-    requires shown { ShowsSome L.node (L.table links.now) (root_of tree.now) }
-    ensures last { (s : List Place) → Shows L.node (L.table links.now) (root_of tree.now) s → result ≡ last s }
+    requires shown { RepresentsSome L.node (L.table links.now) (root_of tree.now) }
+    ensures last { (s : List Place) → Represents L.node (L.table links.now) (root_of tree.now) s → result ≡ last s }
 {
     tree.last(links)
 }
@@ -77,7 +73,7 @@ pub fn find<K: KeyAdapter, L: RBTreeOps, B: Allocator>(
     key: &K::Key,
 ) -> Option<Place>
     requires sorted { IsInOrder K.Key.cmp K.key_of L.node (L.table links.now) tree.now objects.now }
-    ensures found { (s : List Place) → Shows L.node (L.table links.now) (root_of tree.now) s
+    ensures found { (s : List Place) → Represents L.node (L.table links.now) (root_of tree.now) s
         → result ≡ first (with_key K.Key.cmp K.key_of tree.now objects.now key.now s) }
 {
     tree.find(links, objects, key).get_ptr()
@@ -93,34 +89,34 @@ pub fn lower_bound<K: KeyAdapter, L: RBTreeOps, B: Allocator>(
     key: &K::Key,
 ) -> Option<Place>
     requires sorted { IsInOrder K.Key.cmp K.key_of L.node (L.table links.now) tree.now objects.now }
-    ensures found { (s : List Place) → Shows L.node (L.table links.now) (root_of tree.now) s
+    ensures found { (s : List Place) → Represents L.node (L.table links.now) (root_of tree.now) s
         → result ≡ first (from_key K.Key.cmp K.key_of tree.now objects.now key.now s) }
 {
     tree.lower_bound(links, objects, Bound::Included(key))
         .get_ptr()
 }
 
-/// The place of the member behind this one, `None` behind the last. It requires that the place is that of a member. O(log n), and O(1) on
+/// The place of the member after this one, `None` after the last. It requires that the place is that of a member. O(log n), and O(1) on
 /// average over a walk.
 #[inline]
 pub fn next<K: KeyAdapter, L: RBTreeOps>(tree: &RBTree<K>, links: &L, place: Place) -> Option<Place>
-    requires member { HasMember (Shows L.node (L.table links.now) (root_of tree.now)) place }
-    ensures next { (front back : List Place) → Shows L.node (L.table links.now) (root_of tree.now) (front ++ place ∷ back) → result ≡ first back }
+    requires member { HasMember (Represents L.node (L.table links.now) (root_of tree.now)) place }
+    ensures next { (front back : List Place) → Represents L.node (L.table links.now) (root_of tree.now) (front ++ place ∷ back) → result ≡ first back }
 {
     tree.next_of(links, &PlaceWord::of(Some(place))).get()
 }
 
-/// The place of the member in front of this one, `None` in front of the first. It requires that the place is that of a member. O(log n), and
+/// The place of the member before this one, `None` before the first. It requires that the place is that of a member. O(log n), and
 /// O(1) on average over a walk.
 #[inline]
 pub fn prev<K: KeyAdapter, L: RBTreeOps>(tree: &RBTree<K>, links: &L, place: Place) -> Option<Place>
-    requires member { HasMember (Shows L.node (L.table links.now) (root_of tree.now)) place }
-    ensures prev { (front back : List Place) → Shows L.node (L.table links.now) (root_of tree.now) (front ++ place ∷ back) → result ≡ last front }
+    requires member { HasMember (Represents L.node (L.table links.now) (root_of tree.now)) place }
+    ensures prev { (front back : List Place) → Represents L.node (L.table links.now) (root_of tree.now) (front ++ place ∷ back) → result ≡ last front }
 {
     tree.prev_of(links, &PlaceWord::of(Some(place))).get()
 }
 
-/// Puts the object in by its key, behind the members with the same key or a lower one. It requires that its place is covered, that it is
+/// Puts the object in by its key, after the members with the same key or a lower one. It requires that its place is covered, that it is
 /// placed and not linked, and that the members stand in the order of their keys. O(log n).
 #[inline]
 pub fn insert<K: KeyAdapter, L: RBTreeOps + AcceptsUnlinked, B: Allocator>(
@@ -133,14 +129,14 @@ pub fn insert<K: KeyAdapter, L: RBTreeOps + AcceptsUnlinked, B: Allocator>(
     requires unlinked { IsUnlinked L.linked (L.table links.old) object }
     requires object { is_placed objects.now object ≡ true }
     requires sorted { IsInOrder K.Key.cmp K.key_of L.node (L.table links.old) tree.old objects.now }
-    ensures shown { (s : List Place) → Shows L.node (L.table links.old) (root_of tree.old) s → Shows L.node (L.table links.new) (root_of tree.new)
+    ensures shown { (s : List Place) → Represents L.node (L.table links.old) (root_of tree.old) s → Represents L.node (L.table links.new) (root_of tree.new)
         (put_by_key K.Key.cmp K.key_of tree.old objects.now s object) }
-    ensures shows { ShowsSome L.node (L.table links.new) (root_of tree.new) }
+    ensures shows { RepresentsSome L.node (L.table links.new) (root_of tree.new) }
     ensures sorted { IsInOrder K.Key.cmp K.key_of L.node (L.table links.new) tree.new objects.now }
     ensures linked { LinksAlso L.linked (L.table links.old) (L.table links.new) object }
     ensures adapter { adapter_of tree.new ≡ adapter_of tree.old }
-    ensures frame { (s : List Place) → Shows L.node (L.table links.old) (root_of tree.old) s
-        → KeepsBeside (L.table links.old) (L.table links.new) (object ∷ s) }
+    ensures frame { (s : List Place) → Represents L.node (L.table links.old) (root_of tree.old) s
+        → ChangesOnlyIn (L.table links.old) (L.table links.new) (object ∷ s) }
 {
     let _ = tree.insert(links, objects, object); // proved: it is not linked
 }
@@ -152,14 +148,14 @@ pub fn remove<K: KeyAdapter, L: RBTreeOps>(
     links: &mut L,
     object: &UnsafeRef<K::Value>,
 )
-    requires member { HasMember (Shows L.node (L.table links.old) (root_of tree.old)) object.now }
-    ensures shown { (front back : List Place) → Shows L.node (L.table links.old) (root_of tree.old) (front ++ object.now ∷ back)
-        → Shows L.node (L.table links.new) (root_of tree.new) (front ++ back) }
-    ensures shows { ShowsSome L.node (L.table links.new) (root_of tree.new) }
+    requires member { HasMember (Represents L.node (L.table links.old) (root_of tree.old)) object.now }
+    ensures shown { (front back : List Place) → Represents L.node (L.table links.old) (root_of tree.old) (front ++ object.now ∷ back)
+        → Represents L.node (L.table links.new) (root_of tree.new) (front ++ back) }
+    ensures shows { RepresentsSome L.node (L.table links.new) (root_of tree.new) }
     ensures sorted { StaysInOrder K.Key.cmp K.key_of L.node (L.table links.old) tree.old (L.table links.new) tree.new }
     ensures unlinked { Unlinks L.linked (L.table links.old) (L.table links.new) object.now }
     ensures adapter { adapter_of tree.new ≡ adapter_of tree.old }
-    ensures frame { (s : List Place) → Shows L.node (L.table links.old) (root_of tree.old) s → KeepsBeside (L.table links.old) (L.table links.new) s }
+    ensures frame { (s : List Place) → Represents L.node (L.table links.old) (root_of tree.old) s → ChangesOnlyIn (L.table links.old) (L.table links.new) s }
 {
     tree.remove(links, object);
 }
@@ -174,16 +170,16 @@ pub fn remove_key<K: KeyAdapter, L: RBTreeOps, B: Allocator>(
     key: &K::Key,
 ) -> Option<UnsafeRef<K::Value>>
     requires sorted { IsInOrder K.Key.cmp K.key_of L.node (L.table links.old) tree.old objects.now }
-    ensures answer { (s : List Place) → Shows L.node (L.table links.old) (root_of tree.old) s
+    ensures answer { (s : List Place) → Represents L.node (L.table links.old) (root_of tree.old) s
         → result ≡ first (with_key K.Key.cmp K.key_of tree.old objects.now key.now s) }
-    ensures shown { IfSome result (λ object. (front back : List Place) → Shows L.node (L.table links.old) (root_of tree.old) (front ++ object ∷ back)
-        → Shows L.node (L.table links.new) (root_of tree.new) (front ++ back)) }
-    ensures shows { ShowsSome L.node (L.table links.new) (root_of tree.new) }
+    ensures shown { IfSome result (λ object. (front back : List Place) → Represents L.node (L.table links.old) (root_of tree.old) (front ++ object ∷ back)
+        → Represents L.node (L.table links.new) (root_of tree.new) (front ++ back)) }
+    ensures shows { RepresentsSome L.node (L.table links.new) (root_of tree.new) }
     ensures sorted { IsInOrder K.Key.cmp K.key_of L.node (L.table links.new) tree.new objects.now }
     ensures unlinked { IfSome result (λ object. Unlinks L.linked (L.table links.old) (L.table links.new) object) }
     ensures none { IfNone result ((tree.new ≡ tree.old) × (links.new ≡ links.old)) }
     ensures adapter { adapter_of tree.new ≡ adapter_of tree.old }
-    ensures frame { (s : List Place) → Shows L.node (L.table links.old) (root_of tree.old) s → KeepsBeside (L.table links.old) (L.table links.new) s }
+    ensures frame { (s : List Place) → Represents L.node (L.table links.old) (root_of tree.old) s → ChangesOnlyIn (L.table links.old) (L.table links.new) s }
 {
     let object = UnsafeRef::new(find(tree, &*links, objects, key)?);
     remove(tree, links, &object);
@@ -196,15 +192,15 @@ pub fn pop_front<K: KeyAdapter, L: RBTreeOps>(
     tree: &mut RBTree<K>,
     links: &mut L,
 ) -> Option<UnsafeRef<K::Value>>
-    requires shown { ShowsSome L.node (L.table links.old) (root_of tree.old) }
-    ensures answer { (s : List Place) → Shows L.node (L.table links.old) (root_of tree.old) s → result ≡ first s }
-    ensures shown { (s : List Place) → Shows L.node (L.table links.old) (root_of tree.old) s → Shows L.node (L.table links.new) (root_of tree.new) (drop 1 s) }
-    ensures shows { ShowsSome L.node (L.table links.new) (root_of tree.new) }
+    requires shown { RepresentsSome L.node (L.table links.old) (root_of tree.old) }
+    ensures answer { (s : List Place) → Represents L.node (L.table links.old) (root_of tree.old) s → result ≡ first s }
+    ensures shown { (s : List Place) → Represents L.node (L.table links.old) (root_of tree.old) s → Represents L.node (L.table links.new) (root_of tree.new) (drop 1 s) }
+    ensures shows { RepresentsSome L.node (L.table links.new) (root_of tree.new) }
     ensures sorted { StaysInOrder K.Key.cmp K.key_of L.node (L.table links.old) tree.old (L.table links.new) tree.new }
     ensures unlinked { IfSome result (λ object. Unlinks L.linked (L.table links.old) (L.table links.new) object) }
     ensures empty { IfNone result ((tree.new ≡ tree.old) × (links.new ≡ links.old)) }
     ensures adapter { adapter_of tree.new ≡ adapter_of tree.old }
-    ensures frame { (s : List Place) → Shows L.node (L.table links.old) (root_of tree.old) s → KeepsBeside (L.table links.old) (L.table links.new) s }
+    ensures frame { (s : List Place) → Represents L.node (L.table links.old) (root_of tree.old) s → ChangesOnlyIn (L.table links.old) (L.table links.new) s }
 {
     let object = UnsafeRef::new(first(tree, &*links)?);
     remove(tree, links, &object);
@@ -217,15 +213,15 @@ pub fn pop_back<K: KeyAdapter, L: RBTreeOps>(
     tree: &mut RBTree<K>,
     links: &mut L,
 ) -> Option<UnsafeRef<K::Value>>
-    requires shown { ShowsSome L.node (L.table links.old) (root_of tree.old) }
-    ensures answer { (s : List Place) → Shows L.node (L.table links.old) (root_of tree.old) s → result ≡ last s }
-    ensures shown { (s : List Place) → Shows L.node (L.table links.old) (root_of tree.old) s → Shows L.node (L.table links.new) (root_of tree.new) (but_last s) }
-    ensures shows { ShowsSome L.node (L.table links.new) (root_of tree.new) }
+    requires shown { RepresentsSome L.node (L.table links.old) (root_of tree.old) }
+    ensures answer { (s : List Place) → Represents L.node (L.table links.old) (root_of tree.old) s → result ≡ last s }
+    ensures shown { (s : List Place) → Represents L.node (L.table links.old) (root_of tree.old) s → Represents L.node (L.table links.new) (root_of tree.new) (but_last s) }
+    ensures shows { RepresentsSome L.node (L.table links.new) (root_of tree.new) }
     ensures sorted { StaysInOrder K.Key.cmp K.key_of L.node (L.table links.old) tree.old (L.table links.new) tree.new }
     ensures unlinked { IfSome result (λ object. Unlinks L.linked (L.table links.old) (L.table links.new) object) }
     ensures empty { IfNone result ((tree.new ≡ tree.old) × (links.new ≡ links.old)) }
     ensures adapter { adapter_of tree.new ≡ adapter_of tree.old }
-    ensures frame { (s : List Place) → Shows L.node (L.table links.old) (root_of tree.old) s → KeepsBeside (L.table links.old) (L.table links.new) s }
+    ensures frame { (s : List Place) → Represents L.node (L.table links.old) (root_of tree.old) s → ChangesOnlyIn (L.table links.old) (L.table links.new) s }
 {
     let object = UnsafeRef::new(last(tree, &*links)?);
     remove(tree, links, &object);

@@ -2,8 +2,7 @@
 use Rattle.std.specs.Prelude.{Option}
 use Rattle.std.specs.Borrow.{LendsIf, Fml, RattleType, MutBor}
 use Rattle.std.specs.declared.alloc.Allocator.{Ghosts}
-use Rattle.ic_unsafe_ref.specs.declared.place.Place.{Place}
-use Rattle.ic_unsafe_ref.specs.Objects.{with_object}
+use Rattle.ic_link_ops.specs.Prelude.{Place, with_object}
 use Rattle.ic_pool.specs.declared.pool.Pool.{Pool}
 use Rattle.ic_pool.specs.contracts.pool.Pool.{the_row}
 

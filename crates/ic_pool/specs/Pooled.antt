@@ -1,8 +1,6 @@
 -- Objects and a table that has room for their links.
 use Rattle.std.specs.Prelude.{◌≡◌, Bool, true, None, refl}
-use Rattle.ic_unsafe_ref.specs.declared.place.Place.{Place}
-use Rattle.ic_unsafe_ref.specs.Objects.{Objects, object_at, is_placed}
-use Rattle.ic_link_ops.specs.Tables.{Table, IsCovered, IsUnlinked}
+use Rattle.ic_link_ops.specs.Prelude.{Place, Objects, object_at, is_placed, Table, IsCovered, IsUnlinked}
 
 -- THE TABLE MAY HAVE GROWN: each entry stays as it was, and what was covered is covered
 pub record Grows {E : Type 0} (old new : Table E) : Type 0 where

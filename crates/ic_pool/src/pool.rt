@@ -9,8 +9,7 @@
 ghost use Rattle.std.specs.Prelude.{◌≡◌, ◌≤◌, ◌↔◌, ◌^◌, true, None, Some, Err, IfOk, IfErr};
 ghost use Rattle.std.specs.FinMap as map;
 ghost use Rattle.std.specs.Option.{option_copied};
-ghost use Rattle.ic_unsafe_ref.specs.declared.place.Place.{Place};
-ghost use Rattle.ic_unsafe_ref.specs.Objects.{Frees, Places, is_placed, object_at};
+ghost use Rattle.ic_link_ops.specs.Prelude.{Place, Frees, Places, is_placed, object_at};
 ghost use Rattle.ic_pool.specs.Refusals.{value_of};
 
 use crate::{PlaceError, Tables};
@@ -98,7 +97,7 @@ impl<T, L: Tables, A: Allocator> Pool<T, L, A> {
 
     /// The object to be changed, if one stands at its place. O(1).
     ///
-    /// What is left behind the reference when it ends stands there then, and nothing else has changed.
+    /// What is left after the reference when it ends stands there then, and nothing else has changed.
     #[inline]
     pub fn get_mut(&mut self, object: &UnsafeRef<T>) -> Option<&mut T>
         ensures* writes_back { sem 𝓛 (LendsPooled T.row L.row A.row A.Allocator self.entry object.now result) }

@@ -6,8 +6,7 @@
 //! ```
 
 ghost use Rattle.std.specs.Prelude.{◌≡◌, ◌<◌, ◌↔◌, ℕ, min, OnOk, Err};
-ghost use Rattle.ic_unsafe_ref.specs.declared.place.Place.{Place};
-ghost use Rattle.ic_unsafe_ref.specs.Places.{index_of};
+ghost use Rattle.ic_link_ops.specs.Prelude.{Place, index_of};
 
 use ic_link_ops::{CoverError, LinkValue, PlainTable, Words};
 use std::alloc::Allocator;
@@ -56,11 +55,11 @@ impl<W: Words, A: Allocator, V: LinkValue> Tables for PlainTable<W, A, V> {
 
     ghost most = { most_places W.width };
 
-    ghost Covers = { λ t place. IsCovered (table_beside W.width W.unlinked V.initial V.told t) place };
+    ghost Covers = { λ t place. IsCovered (table_beside W.width W.unlinked V.initial V.printed t) place };
 
-    ghost IsFree = { λ t place. IsUnlinked (linked_by W.is_linked) (table_beside W.width W.unlinked V.initial V.told t) place };
+    ghost IsFree = { λ t place. IsUnlinked (linked_by W.is_linked) (table_beside W.width W.unlinked V.initial V.printed t) place };
 
-    ghost Keeps = { λ old new. Grows (table_beside W.width W.unlinked V.initial V.told old) (table_beside W.width W.unlinked V.initial V.told new) };
+    ghost Keeps = { λ old new. Grows (table_beside W.width W.unlinked V.initial V.printed old) (table_beside W.width W.unlinked V.initial V.printed new) };
 
     #[inline]
     fn most_places() -> usize {
@@ -76,7 +75,7 @@ impl<W: Words, A: Allocator, V: LinkValue> Tables for PlainTable<W, A, V> {
 
     ghost keeps_free = { λ old new place grows free. grows_free (linked_by W.is_linked) grows place free };
 
-    ghost keeps_itself = { λ tables. grows_itself (table_beside W.width W.unlinked V.initial V.told tables) };
+    ghost keeps_itself = { λ tables. grows_itself (table_beside W.width W.unlinked V.initial V.printed tables) };
 }
 
 /// Two tables, or pairs of tables: an object has a link in each.

@@ -24,7 +24,7 @@ use Rattle.ic_program.specs.Grammar.{command_in, said_in, before_others, command
 use Rattle.std.specs.Str.{IsUtf8}
 use Rattle.std.specs.Str.Lines.{lines}
 use Rattle.ic_program.specs.Printed.{line_of, lines_of}
-use Rattle.ic_program.specs.Text.{line_in, behind_line, words_in}
+use Rattle.ic_program.specs.Text.{line_in, after_line, words_in}
 use Rattle.ic_program.proofs.LinesLemmas.{text_lines}
 use Rattle.ic_program.proofs.CutLemmas.{cut_nothing, cut_more}
 use Rattle.ic_program.specs.Played.{own_key, CutTo, NoCommandLeft}
@@ -58,9 +58,9 @@ step_lawful old new asked command reply replied is sound step same =
     subst (λ c. IsLawful nat_cmp own_key old c replied new) (sym is)
     (subst (λ r. IsLawful nat_cmp own_key old command r new) (sym same) (is_lawful nat_cmp_total own_key old sound command reply new step))
 
-pub fast_answered : (text rest : List ℕ) (old new : Family OwnKey ℕ) (command : Command ℕ ℕ) (reply replied : Reply) → (command_in (words_in text) ≡ Some command) × (rest ≡ behind_line text)
+pub fast_answered : (text rest : List ℕ) (old new : Family OwnKey ℕ) (command : Command ℕ ℕ) (reply replied : Reply) → (command_in (words_in text) ≡ Some command) × (rest ≡ after_line text)
     → IsSound old → Step nat_cmp own_key old command reply new → replied ≡ reply
-    → (command : Command ℕ ℕ) × (command_in (words_in text) ≡ Some command) × IsLawful nat_cmp own_key old command replied new × (rest ≡ behind_line text)
+    → (command : Command ℕ ℕ) × (command_in (words_in text) ≡ Some command) × IsLawful nat_cmp own_key old command replied new × (rest ≡ after_line text)
 fast_answered text rest old new command reply replied said sound step same = (command, said.0, step_lawful old new command command reply replied refl sound step same, said.1)
 
 -- no line was answered; one was; and then others
@@ -90,14 +90,14 @@ more_answered xs ys old mid new output then_output now a b = record {
   printed = subst (Appends output now) (sym (flat_map-append line_of a.replies b.replies)) (Appends-trans output then_output now (lines_of a.replies) (lines_of b.replies) a.printed b.printed);
 }
 
--- what was answered may wait behind what is written, and is written then
-behind_known : (known : Option (List ℕ)) (output now text : List ℕ) → now ≡ output ++ text → Appends (append_known known output) (append_known known now) text
-behind_known None output now text line = tt
-behind_known (Some xs) output now text line = ap (λ (l : List ℕ). xs ++ l) line ∙ sym (append_assoc xs output text)
+-- what was answered may wait after what is written, and is written then
+after_known : (known : Option (List ℕ)) (output now text : List ℕ) → now ≡ output ++ text → Appends (append_known known output) (append_known known now) text
+after_known None output now text line = tt
+after_known (Some xs) output now text line = ap (λ (l : List ℕ). xs ++ l) line ∙ sym (append_assoc xs output text)
 
-answered_behind : (xs : List (List ℕ)) (old new : Family OwnKey ℕ) (known : Option (List ℕ)) (output now : List ℕ)
+answered_after : (xs : List (List ℕ)) (old new : Family OwnKey ℕ) (known : Option (List ℕ)) (output now : List ℕ)
     → Answered xs old new (Some output) (Some now) → Answered xs old new (append_known known output) (append_known known now)
-answered_behind xs old new known output now a = record { commands = a.commands; said = a.said; replies = a.replies; lawful = a.lawful; printed = behind_known known output now (lines_of a.replies) a.printed }
+answered_after xs old new known output now a = record { commands = a.commands; said = a.said; replies = a.replies; lawful = a.lawful; printed = after_known known output now (lines_of a.replies) a.printed }
 
 answered_kept : (xs : List (List ℕ)) (old new : Family OwnKey ℕ) (output then_output now : Option (List ℕ)) → Answered xs old new output then_output → Keeps then_output now → Answered xs old new output now
 answered_kept xs old new output then_output now a kept = record { commands = a.commands; said = a.said; replies = a.replies; lawful = a.lawful; printed = Appends-kept output then_output now (lines_of a.replies) a.printed kept }
@@ -140,16 +140,16 @@ and_then (Some ls) more Next Then IsLeft old mid new output then_output now a b 
       );
     }
 
-pub first_behind : (all : Option (List (List ℕ))) (IsLeft : ℕ → List (List ℕ) → Type 0) (old new : Family OwnKey ℕ) (known : Option (List ℕ)) (output now : List ℕ)
+pub first_after : (all : Option (List (List ℕ))) (IsLeft : ℕ → List (List ℕ) → Type 0) (old new : Family OwnKey ℕ) (known : Option (List ℕ)) (output now : List ℕ)
     → AnsweredFirst all IsLeft old new (Some output) (Some now) → AnsweredFirst all IsLeft old new (append_known known output) (append_known known now)
-first_behind all IsLeft old new known output now a = record { answered = a.answered; is = answered_behind a.answered old new known output now a.is; left = a.left }
+first_after all IsLeft old new known output now a = record { answered = a.answered; is = answered_after a.answered old new known output now a.is; left = a.left }
 
 pub first_kept : (all : Option (List (List ℕ))) (IsLeft : ℕ → List (List ℕ) → Type 0) (old new same : Family OwnKey ℕ) (output then_output now : Option (List ℕ))
     → AnsweredFirst all IsLeft old new output then_output → Keeps then_output now → same ≡ new → AnsweredFirst all IsLeft old same output now
 first_kept all IsLeft old new same output then_output now a kept is =
     record { answered = a.answered; is = subst (λ w. Answered a.answered old w output now) (sym is) (answered_kept a.answered old new output then_output now a.is kept); left = a.left }
 
--- WHAT IS CUT SHORT: answers that are known so far; others behind them
+-- WHAT IS CUT SHORT: answers that are known so far; others after them
 pub short_first : (all : Option (List (List ℕ))) (IsLeft : ℕ → List (List ℕ) → Type 0) (old new : Family OwnKey ℕ) (output whole now : Option (List ℕ))
     → AnsweredFirst all IsLeft old new output whole → CutTo whole now → AnsweredShort all old output now
 short_first None IsLeft old new output whole now a cut = record { answered = a.answered; new = new; whole = whole; is = a.is; cut = cut; left = tt }
@@ -189,14 +189,14 @@ short_then (Some ls) more Next old mid output then_output now a s goes_on =
       left = (rest.0, a.left.1 ∙ ap (λ (l : List (List ℕ)). a.answered ++ l) rest.1 ∙ sym (append_assoc a.answered s.answered rest.0));
     }
 
--- behind what is known
-cut_behind_known : (known : Option (List ℕ)) (whole now : List ℕ) → CutTo (Some whole) (Some now) → CutTo (append_known known whole) (append_known known now)
-cut_behind_known None whole now cut = tt
-cut_behind_known (Some xs) whole now cut = (cut.0, ap (λ (l : List ℕ). xs ++ l) cut.1 ∙ sym (append_assoc xs now cut.0))
+-- after what is known
+cut_after_known : (known : Option (List ℕ)) (whole now : List ℕ) → CutTo (Some whole) (Some now) → CutTo (append_known known whole) (append_known known now)
+cut_after_known None whole now cut = tt
+cut_after_known (Some xs) whole now cut = (cut.0, ap (λ (l : List ℕ). xs ++ l) cut.1 ∙ sym (append_assoc xs now cut.0))
 
-pub short_behind : (all : Option (List (List ℕ))) (old : Family OwnKey ℕ) (known : Option (List ℕ)) (output now : List ℕ)
+pub short_after : (all : Option (List (List ℕ))) (old : Family OwnKey ℕ) (known : Option (List ℕ)) (output now : List ℕ)
     → AnsweredShort all old (Some output) (Some now) → AnsweredShort all old (append_known known output) (append_known known now)
-short_behind all old known output now s = at s.whole s.is s.cut
+short_after all old known output now s = at s.whole s.is s.cut
   where
     at : (whole : Option (List ℕ)) → Answered s.answered old s.new (Some output) whole → CutTo whole (Some now) → AnsweredShort all old (append_known known output) (append_known known now)
     at None is cut = absurd is.printed
@@ -204,8 +204,8 @@ short_behind all old known output now s = at s.whole s.is s.cut
       answered = s.answered;
       new = s.new;
       whole = append_known known whole;
-      is = answered_behind s.answered old s.new known output whole is;
-      cut = cut_behind_known known whole now cut;
+      is = answered_after s.answered old s.new known output whole is;
+      cut = cut_after_known known whole now cut;
       left = s.left;
     }
 
@@ -260,33 +260,27 @@ stop_first text stop read before w output some none count how =
           (λ others all. subst (NotTextLeft read (before + 0)) (left others all) (omega (arith, count), none, is.1)))
     ]
   where
-    left : (others : List (List ℕ)) → Some (lines text) ≡ Some others → line_in text ∷ lines (behind_line text) ≡ others
+    left : (others : List (List ℕ)) → Some (lines text) ≡ Some others → line_in text ∷ lines (after_line text) ≡ others
     left others is = sym (text_lines text some) ∙ same_Some (lines text) others is
 
 -- THE FIRST LINE OF A TEXT was answered: it has no words, or it is a call
-pub empty_first : (text rest : List ℕ) (read before : ℕ) (w : Family OwnKey ℕ) (output : Option (List ℕ)) → 0 < length text → said_in (line_in text) ≡ Empty → rest ≡ behind_line text → read ≡ before + 1
+pub empty_first : (text rest : List ℕ) (read before : ℕ) (w : Family OwnKey ℕ) (output : Option (List ℕ)) → 0 < length text → said_in (line_in text) ≡ Empty → rest ≡ after_line text → read ≡ before + 1
     → AnsweredFirst (Some (lines text)) (λ count others. (read ≡ before + count) × (others ≡ lines rest)) w w output output
 empty_first text rest read before w output some empty behind count =
-    one_first (line_in text) (lines (behind_line text)) (lines text) (λ count others. (read ≡ before + count) × (others ≡ lines rest)) w w output output
+    one_first (line_in text) (lines (after_line text)) (lines text) (λ count others. (read ≡ before + count) × (others ≡ lines rest)) w w output output
     (text_lines text some) (empty_answered (line_in text) w output empty) (count, ap lines (sym behind))
 
-pub call_first : (text rest : List ℕ) (command : Command ℕ ℕ) (read before : ℕ) (old new : Family OwnKey ℕ) (output now : List ℕ) → 0 < length text → said_in (line_in text) ≡ Call command → rest ≡ behind_line text → read ≡ before + 1
+pub call_first : (text rest : List ℕ) (command : Command ℕ ℕ) (read before : ℕ) (old new : Family OwnKey ℕ) (output now : List ℕ) → 0 < length text → said_in (line_in text) ≡ Call command → rest ≡ after_line text → read ≡ before + 1
     → AnswersCall command old new output now → AnsweredFirst (Some (lines text)) (λ count others. (read ≡ before + count) × (others ≡ lines rest)) old new (Some output) (Some now)
 call_first text rest command read before old new output now some call behind count a =
-    one_first (line_in text) (lines (behind_line text)) (lines text) (λ count others. (read ≡ before + count) × (others ≡ lines rest)) old new (Some output) (Some now)
+    one_first (line_in text) (lines (after_line text)) (lines text) (λ count others. (read ≡ before + count) × (others ≡ lines rest)) old new (Some output) (Some now)
     (text_lines text some) (call_answered (line_in text) command old new output now call a) (count, ap lines (sym behind))
 
 -- NO LINE WAS ANSWERED, and so many were read
 pub reading_first : (all : Option (List (List ℕ))) (before : ℕ) (w : Family OwnKey ℕ) (output : Option (List ℕ)) → AnsweredFirst all (λ count others. before ≡ before + count) w w output output
 reading_first all before w output = none_first all (λ count others. before ≡ before + count) w output (λ others is. omega arith)
 
-pub none_taken : (text : List ℕ) (read : ℕ) (old new : Family OwnKey ℕ) (output : Option (List ℕ)) → new ≡ old
-    → AnsweredFirst (Some (lines text)) (λ count others. (read ≡ read + count) × (others ≡ lines text)) old new output output
-none_taken text read old new output same =
-    subst (λ w. AnsweredFirst (Some (lines text)) (λ count others. (read ≡ read + count) × (others ≡ lines text)) old w output output) (sym same)
-    (none_first (Some (lines text)) (λ count others. (read ≡ read + count) × (others ≡ lines text)) old output (λ others is. (omega arith, sym (same_Some (lines text) others is))))
-
--- ONE LINE MORE is answered behind others, and what waits may be written
+-- ONE LINE MORE is answered after others, and what waits may be written
 pub then_first : (text mid rest : List ℕ) (before at after last : ℕ) (old then_old new same : Family OwnKey ℕ) (output known then_known : Option (List ℕ)) (waits then_waits now : List ℕ)
     → AnsweredFirst (Some (lines text)) (λ count others. (at ≡ before + count) × (others ≡ lines mid)) old then_old output (append_known known waits)
     → AnsweredFirst (Some (lines mid)) (λ count others. (after ≡ at + count) × (others ≡ lines rest)) then_old new (Some waits) (Some then_waits)
@@ -296,7 +290,7 @@ then_first text mid rest before at after last old then_old new same output known
     first_kept (Some (lines text)) (λ count others. (last ≡ before + count) × (others ≡ lines rest)) old new same output (append_known known then_waits) (append_known then_known now)
     (and_then (Some (lines text)) (Some (lines mid)) (λ count others. (at ≡ before + count) × (others ≡ lines mid)) (λ count others. (after ≡ at + count) × (others ≡ lines rest))
     (λ count others. (last ≡ before + count) × (others ≡ lines rest)) old then_old new output (append_known known waits) (append_known known then_waits)
-    a (first_behind (Some (lines mid)) (λ count others. (after ≡ at + count) × (others ≡ lines rest)) then_old new known waits then_waits b)
+    a (first_after (Some (lines mid)) (λ count others. (after ≡ at + count) × (others ≡ lines rest)) then_old new known waits then_waits b)
     (λ count others next. ap (λ (l : List (List ℕ)). Some l) (sym next.1))
     (λ count count2 others others2 next then. (omega (arith, next.0, then.0, last_is), then.1)))
     kept is
@@ -318,7 +312,7 @@ pub then_stop : (text mid : List ℕ) (stop : Stop) (before at after : ℕ) (old
 then_stop text mid stop before at after old then_old new output known waits then_waits a b =
     and_then (Some (lines text)) (Some (lines mid)) (λ count others. (at ≡ before + count) × (others ≡ lines mid)) (λ count others. StopLeft stop after (at + count) others)
     (λ count others. StopLeft stop after (before + count) others) old then_old new output (append_known known waits) (append_known known then_waits)
-    a (first_behind (Some (lines mid)) (λ count others. StopLeft stop after (at + count) others) then_old new known waits then_waits b)
+    a (first_after (Some (lines mid)) (λ count others. StopLeft stop after (at + count) others) then_old new known waits then_waits b)
     (λ count others next. ap (λ (l : List (List ℕ)). Some l) (sym next.1))
     (λ count count2 others others2 next then.
     let same : at + count2 ≡ before + (count + count2) = omega (arith, next.0) in
@@ -331,22 +325,7 @@ pub then_short : (text mid : List ℕ) (before at : ℕ) (old then_old : Family 
     → AnsweredShort (Some (lines text)) old output (append_known known then_waits)
 then_short text mid before at old then_old output known waits then_waits a s =
     short_then (Some (lines text)) (Some (lines mid)) (λ count others. (at ≡ before + count) × (others ≡ lines mid)) old then_old output (append_known known waits) (append_known known then_waits)
-    a (short_behind (Some (lines mid)) then_old known waits then_waits s) (λ count others next. ap (λ (l : List (List ℕ)). Some l) (sym next.1))
-
--- or whatever the result says
-pub then_far : {T : Type 0} (r : Result T Stop) (text : List ℕ) (before at after : ℕ) (IsLeft : T → List (List ℕ) → Type 0) (old mid new : Family OwnKey ℕ) (output waits now : List ℕ)
-    → AnsweredFirst (Some (lines text)) (λ count others. (at ≡ before + count) × (others ≡ lines text)) old mid (Some output) (Some waits)
-    → HowFar r at after IsLeft (Some (lines text)) mid new (Some waits) (Some now)
-    → HowFar r before after IsLeft (Some (lines text)) old new (Some output) (Some now)
-then_far (Ok x) text before at after IsLeft old mid new output waits now a far =
-    and_then (Some (lines text)) (Some (lines text)) (λ count others. (at ≡ before + count) × (others ≡ lines text)) (λ count others. (after ≡ at + count) × IsLeft x others)
-    (λ count others. (after ≡ before + count) × IsLeft x others) old mid new (Some output) (Some waits) (Some now)
-    a far (λ count others next. ap (λ (l : List (List ℕ)). Some l) (sym next.1)) (λ count count2 others others2 next then. (omega (arith, next.0, then.0), then.1))
-then_far (Err stop) text before at after IsLeft old mid new output waits now a far =
-    unless_loss_map stop
-    (λ short. then_short text text before at old mid (Some output) (Some []) waits now a short)
-    (λ stopped. then_stop text text stop before at after old mid new (Some output) (Some []) waits now a stopped)
-    far
+    a (short_after (Some (lines mid)) then_old known waits then_waits s) (λ count others next. ap (λ (l : List (List ℕ)). Some l) (sym next.1))
 
 -- or the line was answered, but what waits could not be written
 pub then_room : (text mid rest : List ℕ) (before at after : ℕ) (old then_old new : Family OwnKey ℕ) (output known then_known : Option (List ℕ)) (waits then_waits now : List ℕ)
@@ -387,15 +366,15 @@ all_of_front front more all left before after old new output now split left_is a
     front_of front more all (λ count others. (after ≡ before + count) × (others ≡ [])) (λ count others. (after ≡ before + count) × (others ≡ left)) old new output now split a
     (λ count others is. (is.0, ap (λ (l : List (List ℕ)). l ++ more) is.1 ∙ sym left_is))
 
-pub stop_in_front : (front more all : List (List ℕ)) (stop : Stop) (before after : ℕ) (old new : Family OwnKey ℕ) (output now : Option (List ℕ)) → all ≡ front ++ more
+pub stop_before : (front more all : List (List ℕ)) (stop : Stop) (before after : ℕ) (old new : Family OwnKey ℕ) (output now : Option (List ℕ)) → all ≡ front ++ more
     → AnsweredFirst (Some front) (λ count others. StopLeft stop after (before + count) others) old new output now
     → AnsweredFirst (Some all) (λ count others. StopLeft stop after (before + count) others) old new output now
-stop_in_front front more all stop before after old new output now split a =
+stop_before front more all stop before after old new output now split a =
     front_of front more all (λ count others. StopLeft stop after (before + count) others) (λ count others. StopLeft stop after (before + count) others) old new output now split a
     (λ count others is. stop_more stop after (before + count) others more is)
 
-pub short_in_front : (front more all : List (List ℕ)) (old : Family OwnKey ℕ) (output now : Option (List ℕ)) → all ≡ front ++ more → AnsweredShort (Some front) old output now → AnsweredShort (Some all) old output now
-short_in_front front more all old output now split s = record {
+pub short_before : (front more all : List (List ℕ)) (old : Family OwnKey ℕ) (output now : Option (List ℕ)) → all ≡ front ++ more → AnsweredShort (Some front) old output now → AnsweredShort (Some all) old output now
+short_before front more all old output now split s = record {
   answered = s.answered;
   new = s.new;
   whole = s.whole;

@@ -6,14 +6,14 @@ use Rattle.std.proofs.lemmas.Slice.Eq.{bytes_eq-Decides}
 use Rattle.ic_world.specs.declared.call.Command.{Command}
 use Rattle.ic_program.specs.Grammar.{calls, named, command_among, command_in}
 use Rattle.ic_program.specs.Slots.{slots, fast_slots, is_fast, with_slot, IsNoCallAt}
-use Rattle.ic_program.specs.Text.{begins_with, words_in, behind_line, without_last, IsCall, IsNoCall}
+use Rattle.ic_program.specs.Text.{begins_with, words_in, after_line, without_last, IsCall, IsNoCall}
 
 abbrev Entry : Type 0
 Entry = List ℕ × (List (List ℕ) → Option (Command ℕ ℕ))
 
--- THE LINE IS A CALL, by its name and the words behind it
+-- THE LINE IS A CALL, by its name and the words after it
 pub is_call : (name : List ℕ) (read : List (List ℕ) → Option (Command ℕ ℕ)) (text : List ℕ) (command : Command ℕ ℕ) (rest : List ℕ)
-    → IsCall name read text command rest → named calls (without_last name) ≡ Some read → (command_in (words_in text) ≡ Some command) × (rest ≡ behind_line text)
+    → IsCall name read text command rest → named calls (without_last name) ≡ Some read → (command_in (words_in text) ≡ Some command) × (rest ≡ after_line text)
 unfolding command_in
 is_call name read text command rest is entry = (ap (command_among calls) is.are ∙ ap (λ o. option_and_then (λ r. r is.words) o) entry ∙ is.said, is.behind)
 

@@ -36,19 +36,19 @@ nothing_waits (Some xs) waits is = sym (append-nil xs) ∙ ap (λ (l : List ℕ)
 pub some_written : (a b : Option (List ℕ)) (bytes : List ℕ) (n : ℕ) → Appends a b (take n bytes) → Keeps (append_known a bytes) (append_known b (drop n bytes))
 some_written a b bytes n took = append_known-moved a b (take n bytes) (drop n bytes) bytes took (sym (take-append-drop n bytes))
 
--- it was cut short in front of more
+-- it was cut short before more
 pub cut_before : (a c : Option (List ℕ)) (bytes more : List ℕ) → CutTo (append_known a bytes) c → CutTo (append_known a (bytes ++ more)) c
 cut_before None c bytes more p = tt
 cut_before (Some xs) None bytes more p = absurd p
 cut_before (Some xs) (Some ys) bytes more p =
     (p.0 ++ more, sym (append_assoc xs bytes more) ∙ ap (λ (l : List ℕ). l ++ more) p.1 ∙ append_assoc ys p.0 more)
 
--- or behind what was written
-pub cut_behind : (a b c : Option (List ℕ)) (bytes more : List ℕ) → Keeps (append_known a bytes) b → CutTo (append_known b more) c → CutTo (append_known a (bytes ++ more)) c
-cut_behind None b c bytes more p q = tt
-cut_behind (Some xs) None c bytes more p q = absurd p
-cut_behind (Some xs) (Some ys) None bytes more p q = absurd q
-cut_behind (Some xs) (Some ys) (Some zs) bytes more p q =
+-- or after what was written
+pub cut_after : (a b c : Option (List ℕ)) (bytes more : List ℕ) → Keeps (append_known a bytes) b → CutTo (append_known b more) c → CutTo (append_known a (bytes ++ more)) c
+cut_after None b c bytes more p q = tt
+cut_after (Some xs) None c bytes more p q = absurd p
+cut_after (Some xs) (Some ys) None bytes more p q = absurd q
+cut_after (Some xs) (Some ys) (Some zs) bytes more p q =
     (q.0, sym (append_assoc xs bytes more) ∙ ap (λ (l : List ℕ). l ++ more) (sym p) ∙ q.1)
 
 -- one after the other was written
@@ -63,10 +63,10 @@ written_appends None b bytes p = tt
 written_appends (Some xs) None bytes p = absurd p
 written_appends (Some xs) (Some ys) bytes p = p
 
--- what is written behind known bytes
-pub appended_behind : (known : Option (List ℕ)) (bytes : List ℕ) → Appends known (append_known known bytes) bytes
-appended_behind None bytes = tt
-appended_behind (Some xs) bytes = refl
+-- what is written after known bytes
+pub appended_after : (known : Option (List ℕ)) (bytes : List ℕ) → Appends known (append_known known bytes) bytes
+appended_after None bytes = tt
+appended_after (Some xs) bytes = refl
 
 -- what an error says
 pub on_err : {T E P : Type 0} (r : Result T E) → P → OnErr r P

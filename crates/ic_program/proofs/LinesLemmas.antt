@@ -1,10 +1,10 @@
--- The lines of a text, one behind the other.
+-- The lines of a text, one after the other.
 use Rattle.std.proofs.Common.{◌≡◌, ◌≢◌, ℕ, zero, suc, ◌+◌, ◌-◌, ◌<◌, ◌≤◌, inl, inr, Bool, true, false, cond, ◌==◌, List, [], ◌∷◌, ◌++◌, map, length, take, drop, slice_index, if◌then◌else◌, refl, sym, ap, ap₂, ◌∙◌, subst, arith, append-nil, Option, Some, None, MatchOption, Bor, is_some}
 use Rattle.std.specs.List.{slice_split, onto_first}
 use Rattle.std.specs.Str.Lines.{lines, lines_of_parts, strip_carriage_return}
 use Rattle.std.proofs.lemmas.Bool.{cond-true, cond-false, cond_both, or_left, or_right, or_from, and_left, and_right, and_from, cases_Bool, ne_eqb}
 use Rattle.std.proofs.lemmas.List.Splits.{slice_split-cons_yes, slice_split-cons_no}
-use Rattle.ic_program.specs.Text.{begins_with, ends_line, line_in, behind_line}
+use Rattle.ic_program.specs.Text.{begins_with, ends_line, line_in, after_line}
 use Rattle.ic_program.proofs.TextLemmas.{line_end, line_more, slice_from}
 
 -- one byte more of the first line
@@ -73,15 +73,15 @@ ended xs ys = ap lines_of_parts (pieces_both xs ys) ∙ at (has_first ys)
         ∙ ap (λ (l : List (List ℕ)). map strip_carriage_return (pieces xs) ++ lines_of_parts l) (sym is)
 
 -- THE LINES BEHIND LINES THAT HAVE ENDED are those of the rest
-pub lines_behind : (xs ys : List ℕ) → lines (xs ++ 10 ∷ ys) ≡ lines (xs ++ 10 ∷ []) ++ lines ys
-lines_behind xs ys =
+pub lines_after : (xs ys : List ℕ) → lines (xs ++ 10 ∷ ys) ≡ lines (xs ++ 10 ∷ []) ++ lines ys
+lines_after xs ys =
     let here : lines (xs ++ 10 ∷ []) ≡ map strip_carriage_return (pieces xs) = ended xs [] ∙ append-nil (map strip_carriage_return (pieces xs)) in
     ended xs ys ∙ ap (λ (l : List (List ℕ)). l ++ lines ys) (sym here)
 
--- THE FIRST LINE of a text: it has no line feed, or it ends in front of one
+-- THE FIRST LINE of a text: it has no line feed, or it ends before one
 data FirstLine (text : List ℕ) : Type 0 where
-  last : (p : List ℕ) → pieces text ≡ p ∷ [] → line_in text ≡ p → behind_line text ≡ [] → FirstLine text
-  more : (p : List ℕ) (rest : List ℕ) → pieces text ≡ p ∷ pieces rest → line_in text ≡ strip_carriage_return p → behind_line text ≡ rest → FirstLine text
+  last : (p : List ℕ) → pieces text ≡ p ∷ [] → line_in text ≡ p → after_line text ≡ [] → FirstLine text
+  more : (p : List ℕ) (rest : List ℕ) → pieces text ≡ p ∷ pieces rest → line_in text ≡ strip_carriage_return p → after_line text ≡ rest → FirstLine text
 
 -- a carriage return at the end is dropped, and what is before it stays
 strip_more : (x y : ℕ) (ys : List ℕ) → strip_carriage_return (x ∷ y ∷ ys) ≡ x ∷ strip_carriage_return (y ∷ ys)
@@ -120,7 +120,7 @@ one_more x xs not other (more p rest is line behind) =
     at [] is = absurd (starts xs (pieces rest) other (no_pieces (pieces rest) (has_first rest)) is)
     at (y ∷ ys) is = strip_more x y ys
 
--- the last byte in front of a line feed
+-- the last byte before a line feed
 last_byte : (x y : ℕ) (ys : List ℕ) → (x == 10) ≡ false → (y == 10) ≡ true → FirstLine (x ∷ y ∷ ys)
 last_byte x y ys not feed =
     more (x ∷ []) ys (pieces_more x (y ∷ ys) not ∙ ap (onto_first x) (pieces_feed y ys feed)) (at (x == 13) refl) (cond-false _ _ _ not ∙ cond-true _ _ _ feed)
@@ -146,8 +146,8 @@ first_line (x ∷ xs) = at (x == 10) refl xs (first_line xs)
     at true feed xs others = more [] xs (pieces_feed x xs feed) (line_end (x ∷ xs) (or_left _ _ feed)) (cond-true _ _ _ feed)
     at false not xs others = behind xs not others (begins_with 10 xs) refl
 
--- THE LINES OF A TEXT are the first one and those behind it
-pub lines_first : (x : ℕ) (xs : List ℕ) → lines (x ∷ xs) ≡ line_in (x ∷ xs) ∷ lines (behind_line (x ∷ xs))
+-- THE LINES OF A TEXT are the first one and those after it
+pub lines_first : (x : ℕ) (xs : List ℕ) → lines (x ∷ xs) ≡ line_in (x ∷ xs) ∷ lines (after_line (x ∷ xs))
 unfolding pieces
 lines_first x xs = at (first_line (x ∷ xs))
   where
@@ -161,43 +161,43 @@ lines_first x xs = at (first_line (x ∷ xs))
     behind : (p rest : List ℕ) → First (pieces rest) → lines_of_parts (p ∷ pieces rest) ≡ strip_carriage_return p ∷ lines_of_parts (pieces rest)
     behind p rest (first q qs is) = ap (λ (l : List (List ℕ)). lines_of_parts (p ∷ l)) is ∙ sym (ap (λ (l : List (List ℕ)). strip_carriage_return p ∷ lines_of_parts l) is)
 
-    at : FirstLine (x ∷ xs) → lines (x ∷ xs) ≡ line_in (x ∷ xs) ∷ lines (behind_line (x ∷ xs))
+    at : FirstLine (x ∷ xs) → lines (x ∷ xs) ≡ line_in (x ∷ xs) ∷ lines (after_line (x ∷ xs))
     at (last p is line end) = ap lines_of_parts is ∙ whole p is ∙ sym (ap₂ (λ (l : List ℕ) (t : List ℕ). l ∷ lines t) line end)
     at (more p rest is line end) = ap lines_of_parts is ∙ behind p rest (has_first rest) ∙ sym (ap₂ (λ (l : List ℕ) (t : List ℕ). l ∷ lines t) line end)
 
-pub text_lines : (text : List ℕ) → 0 < length text → lines text ≡ line_in text ∷ lines (behind_line text)
+pub text_lines : (text : List ℕ) → 0 < length text → lines text ≡ line_in text ∷ lines (after_line text)
 text_lines [] some = absurd (omega (arith, some))
 text_lines (x ∷ xs) some = lines_first x xs
 
-behind_within : (text : List ℕ) → length (behind_line text) ≤ length text
-behind_within [] = omega arith
-behind_within (x ∷ xs) = cond_both (x == 10) xs (behind_line xs) (λ t. length t ≤ length (x ∷ xs)) (λ _. omega arith) (λ _. omega (arith, behind_within xs))
+after_within : (text : List ℕ) → length (after_line text) ≤ length text
+after_within [] = omega arith
+after_within (x ∷ xs) = cond_both (x == 10) xs (after_line xs) (λ t. length t ≤ length (x ∷ xs)) (λ _. omega arith) (λ _. omega (arith, after_within xs))
 
-pub behind_shorter : (text rest : List ℕ) → 0 < length text → rest ≡ behind_line text → length rest < length text
-behind_shorter [] rest some is = absurd (omega (arith, some))
-behind_shorter (x ∷ xs) rest some is =
-    let shorter : length (behind_line (x ∷ xs)) < length (x ∷ xs) =
-    cond_both (x == 10) xs (behind_line xs) (λ t. length t < length (x ∷ xs)) (λ _. omega arith) (λ _. omega (arith, behind_within xs)) in
+pub after_shorter : (text rest : List ℕ) → 0 < length text → rest ≡ after_line text → length rest < length text
+after_shorter [] rest some is = absurd (omega (arith, some))
+after_shorter (x ∷ xs) rest some is =
+    let shorter : length (after_line (x ∷ xs)) < length (x ∷ xs) =
+    cond_both (x == 10) xs (after_line xs) (λ t. length t < length (x ∷ xs)) (λ _. omega arith) (λ _. omega (arith, after_within xs)) in
     subst (λ (r : List ℕ). length r < length (x ∷ xs)) (sym is) shorter
 
--- the text behind the line, by how long that is
-pub behind_taken : (text : List ℕ) → drop (length text - length (behind_line text)) text ≡ behind_line text
-behind_taken [] = refl
-behind_taken (x ∷ xs) =
-    cond_both (x == 10) xs (behind_line xs) (λ t. drop (length (x ∷ xs) - length t) (x ∷ xs) ≡ t)
+-- the text after the line, by how long that is
+pub after_taken : (text : List ℕ) → drop (length text - length (after_line text)) text ≡ after_line text
+after_taken [] = refl
+after_taken (x ∷ xs) =
+    cond_both (x == 10) xs (after_line xs) (λ t. drop (length (x ∷ xs) - length t) (x ∷ xs) ≡ t)
     (λ _. let one : length (x ∷ xs) - length xs ≡ suc 0 = omega arith in ap (λ (k : ℕ). drop k (x ∷ xs)) one)
-    (λ _. let more : length (x ∷ xs) - length (behind_line xs) ≡ suc (length xs - length (behind_line xs)) = omega (arith, behind_within xs) in
-    ap (λ (k : ℕ). drop k (x ∷ xs)) more ∙ behind_taken xs)
+    (λ _. let more : length (x ∷ xs) - length (after_line xs) ≡ suc (length xs - length (after_line xs)) = omega (arith, after_within xs) in
+    ap (λ (k : ℕ). drop k (x ∷ xs)) more ∙ after_taken xs)
 
-pub behind_drop : (text rest : List ℕ) (taken : ℕ) → rest ≡ behind_line text → taken ≡ length text - length rest → drop taken text ≡ behind_line text
-behind_drop text rest taken is taken_is = ap (λ (k : ℕ). drop k text) (taken_is ∙ ap (λ (r : List ℕ). length text - length r) is) ∙ behind_taken text
+pub after_drop : (text rest : List ℕ) (taken : ℕ) → rest ≡ after_line text → taken ≡ length text - length rest → drop taken text ≡ after_line text
+after_drop text rest taken is taken_is = ap (λ (k : ℕ). drop k text) (taken_is ∙ ap (λ (r : List ℕ). length text - length r) is) ∙ after_taken text
 
 -- it has some bytes
-pub some_taken : (text : List ℕ) (taken : ℕ) → 0 < length text → drop taken text ≡ behind_line text → 0 < taken
+pub some_taken : (text : List ℕ) (taken : ℕ) → 0 < length text → drop taken text ≡ after_line text → 0 < taken
 some_taken text taken some is = at taken is
   where
-    at : (taken : ℕ) → drop taken text ≡ behind_line text → 0 < taken
-    at zero is = let shorter : length (behind_line text) < length text = behind_shorter text (behind_line text) some refl in absurd (omega (arith, shorter, ap length is))
+    at : (taken : ℕ) → drop taken text ≡ after_line text → 0 < taken
+    at zero is = let shorter : length (after_line text) < length text = after_shorter text (after_line text) some refl in absurd (omega (arith, shorter, ap length is))
     at (suc n) is = omega arith
 
 -- an empty text has no lines

@@ -3,7 +3,7 @@ use Rattle.std.proofs.Common.{◌≡◌, ℕ, suc, zero, ◌+◌, ◌<◌, inl, 
 use Rattle.std.specs.Str.Lines.{lines}
 use Rattle.std.proofs.lemmas.List.{take-append-drop, take_more}
 use Rattle.ic_program.specs.Text.{HaveEnded}
-use Rattle.ic_program.proofs.LinesLemmas.{lines_behind}
+use Rattle.ic_program.proofs.LinesLemmas.{lines_after}
 
 -- bytes around a line feed
 around_feed : (bytes : List ℕ) (e : ℕ) → e < length bytes → slice_index bytes e ≡ 10 → bytes ≡ take e bytes ++ 10 ∷ drop (e + 1) bytes
@@ -24,17 +24,17 @@ cut_ended cut bytes more now e low feed is =
     ∙ sym (append_assoc cut (take e bytes) (10 ∷ rest)) in
     let ended : now ≡ front ++ 10 ∷ [] =
     is ∙ ap (λ (l : List ℕ). cut ++ l) (take_more bytes e 0 low ∙ ap (λ b. take e bytes ++ b ∷ []) feed) ∙ sym (append_assoc cut (take e bytes) (10 ∷ [])) in
-    ap lines whole ∙ lines_behind front rest ∙ ap (λ (l : List ℕ). lines l ++ lines rest) (sym ended)
+    ap lines whole ∙ lines_after front rest ∙ ap (λ (l : List ℕ). lines l ++ lines rest) (sym ended)
 
--- LINES THAT HAVE ENDED, and what is behind them
-ended_behind : (text rest : List ℕ) → HaveEnded text → lines (text ++ rest) ≡ lines text ++ lines rest
-ended_behind text rest how =
+-- LINES THAT HAVE ENDED, and what is after them
+ended_after : (text rest : List ℕ) → HaveEnded text → lines (text ++ rest) ≡ lines text ++ lines rest
+ended_after text rest how =
     elim how [
       | inl none ↦ ap (λ (l : List ℕ). lines (l ++ rest)) none ∙ sym (ap (λ (l : List ℕ). lines l ++ lines rest) none)
       | inr some ↦
           ap (λ (l : List ℕ). lines (l ++ rest)) some.1
           ∙ ap lines (append_assoc some.0 (10 ∷ []) rest)
-          ∙ lines_behind some.0 rest
+          ∙ lines_after some.0 rest
           ∙ sym (ap (λ (l : List ℕ). lines l ++ lines rest) some.1)
     ]
 
@@ -47,5 +47,5 @@ ended_lines cut bytes more (suc n) ended none =
     ap (λ (l : List ℕ). l ++ more) (sym (take-append-drop (suc n) bytes)) ∙ append_assoc (take (suc n) bytes) (drop (suc n) bytes) more in
     ap (λ (l : List ℕ). lines (l ++ (bytes ++ more))) empty
     ∙ ap lines parts
-    ∙ ended_behind (take (suc n) bytes) (drop (suc n) bytes ++ more) ended
+    ∙ ended_after (take (suc n) bytes) (drop (suc n) bytes ++ more) ended
     ∙ sym (ap (λ (l : List ℕ). lines (take (suc n) bytes) ++ lines ((l ++ drop (suc n) bytes) ++ more)) empty)

@@ -12,8 +12,8 @@ use Rattle.ic_program.specs.Number.{IsLeading, leading_digits}
 use Rattle.ic_program.proofs.Digits.{all_leading}
 use Rattle.ic_program.proofs.WordLemmas.{number_is}
 use Rattle.ic_program.specs.Grammar.{number_in}
-use Rattle.ic_program.specs.Text.{words_in, behind_line, ends_word, word_in, before_words, ReadsWord, first_says, Reads, BeginsWithNumber, is_name, without_last, ReadsName, IsNoName}
-use Rattle.ic_program.proofs.TextLemmas.{behind_word, behind_end, behind_more, behind_stops, word_end, word_more, words_are, words_end, word_or_end, behind_line_word, word_then_behind}
+use Rattle.ic_program.specs.Text.{words_in, after_line, ends_word, word_in, before_words, ReadsWord, first_says, Reads, BeginsWithNumber, is_name, without_last, ReadsName, IsNoName}
+use Rattle.ic_program.proofs.TextLemmas.{after_word, after_end, after_more, after_stops, word_end, word_more, words_are, words_end, word_or_end, after_line_word, word_then_after}
 
 -- what the first word says
 pub first_parts : {A : Type 0} (says : List ℕ → Option A) (words : List (List ℕ)) (x : A) (others : List (List ℕ)) → first_says says words ≡ Some (x, others)
@@ -53,14 +53,14 @@ pub word_says_not : {A : Type 0} (says : List ℕ → Option A) (text word rest 
 word_says_not says text [] rest reads is = ap (first_says says) (reads.none refl)
 word_says_not says text (c ∷ cs) rest reads is = ap (first_says says) reads.words ∙ first_none says (c ∷ cs) (words_in rest) is
 
--- a number was read, and the text behind it was found by itself
+-- a number was read, and the text after it was found by itself
 pub number_begins : (text word rest : List ℕ) (result : Option ℕ) → ReadsWord text word rest → result ≡ number_in word → BeginsWithNumber text result
 number_begins text word rest None reads is = word_says_not number_in text word rest reads (sym is)
 number_begins text word rest (Some n) reads is = (words_in rest, (word_says number_in text word rest n reads refl (sym is)).first)
 
-pub number_behind : (text rest : List ℕ) (n : ℕ) (begins : (words : List (List ℕ)) × (first_says number_in (words_in text) ≡ Some (n, words))) (reads : (word : List ℕ) × ReadsWord text word rest)
+pub number_after : (text rest : List ℕ) (n : ℕ) (begins : (words : List (List ℕ)) × (first_says number_in (words_in text) ≡ Some (n, words))) (reads : (word : List ℕ) × ReadsWord text word rest)
     → Reads number_in text n rest
-number_behind text rest n begins reads = at reads.0 reads.1
+number_after text rest n begins reads = at reads.0 reads.1
   where
     at : (word : List ℕ) → ReadsWord text word rest → Reads number_in text n rest
     at [] r = absurd (cc (begins.1, ap (first_says number_in) (r.none refl)))
@@ -96,12 +96,12 @@ letter_more c text above =
     rw (e10, e13, e32) refl
 
 -- A NUMBER OF A FEW DIGITS
-digits_word : (ds rest : List ℕ) → AllDigits 10 ds → ends_word rest ≡ true → (word_in (ds ++ rest) ≡ ds) × (behind_word (ds ++ rest) ≡ rest)
-digits_word [] rest all stops = (word_end rest stops, behind_end rest stops)
+digits_word : (ds rest : List ℕ) → AllDigits 10 ds → ends_word rest ≡ true → (word_in (ds ++ rest) ≡ ds) × (after_word (ds ++ rest) ≡ rest)
+digits_word [] rest all stops = (word_end rest stops, after_end rest stops)
 digits_word (d ∷ ds) rest all stops =
     let goes : ends_word (d ∷ (ds ++ rest)) ≡ false = letter_more d (ds ++ rest) (above d all.0) in
     let others = digits_word ds rest all.1 stops in
-    (word_more d (ds ++ rest) goes ∙ ap (λ w. d ∷ w) others.0, behind_more d (ds ++ rest) goes ∙ others.1)
+    (word_more d (ds ++ rest) goes ∙ ap (λ w. d ∷ w) others.0, after_more d (ds ++ rest) goes ∙ others.1)
   where
     above : (c : ℕ) → digit_value c < 10 → 32 < c
     above c small = grind (arith, small)
@@ -119,11 +119,11 @@ small_reads text rest number digits is some few rest_is stops =
     let whole : text ≡ ds ++ rest = sym (take-append-drop (prefix_len is_ascii_digit text) text) ∙ ap (λ (r : List ℕ). ds ++ r) (ap (λ n. drop n text) (sym (is.1 ∙ length-prefix_len is_ascii_digit text)) ∙ sym rest_is) in
     let parts = digits_word ds rest all stops in
     let word : word_in text ≡ ds = ap word_in whole ∙ parts.0 in
-    let behind : behind_word text ≡ rest = ap behind_word whole ∙ parts.1 in
+    let behind : after_word text ≡ rest = ap after_word whole ∙ parts.1 in
     let words : words_in text ≡ before_words ds (words_in rest) = words_are text ∙ ap₂ (λ a b. before_words a (words_in b)) word behind in
     record {
       first = ap (first_says number_in) words ∙ first_of ds rest number all (omega (arith, some, is.1)) (omega (arith, few, is.1)) is.0;
-      behind = ap behind_line (sym behind) ∙ behind_line_word text;
+      behind = ap after_line (sym behind) ∙ after_line_word text;
     }
   where
     first_of : (ds rest : List ℕ) (number : ℕ) → AllDigits 10 ds → 1 ≤ length ds → length ds ≤ 4 → number ≡ digits_value 10 ds
@@ -131,21 +131,21 @@ small_reads text rest number digits is some few rest_is stops =
     first_of [] rest number all some few is = absurd (omega (arith, some))
     first_of (d ∷ ds) rest number all some few is = first_is number_in (d ∷ ds) (words_in rest) number (small_is (d ∷ ds) all some few ∙ ap (λ (n : ℕ). Some n) (sym is))
 
--- A NAME, and the space behind it
-named_word : (name text : List ℕ) → is_name name ≡ true → take (length name) text ≡ name → (word_in text ≡ without_last name) × (behind_word text ≡ 32 ∷ drop (length name) text)
+-- A NAME, and the space after it
+named_word : (name text : List ℕ) → is_name name ≡ true → take (length name) text ≡ name → (word_in text ≡ without_last name) × (after_word text ≡ 32 ∷ drop (length name) text)
 named_word [] text is same = absurd (cc (is))
 named_word (x ∷ []) [] is same = absurd (cc (same))
 named_word (x ∷ []) (c ∷ text) is same =
     let space : c ≡ 32 = cc (same, eqb-true x 32 is) in
     let stops : ends_word (c ∷ text) ≡ true = rw space refl in
-    (word_end (c ∷ text) stops, behind_end (c ∷ text) stops ∙ ap (λ d. d ∷ text) space)
+    (word_end (c ∷ text) stops, after_end (c ∷ text) stops ∙ ap (λ d. d ∷ text) space)
 named_word (x ∷ y ∷ ys) [] is same = absurd (cc (same))
 named_word (x ∷ y ∷ ys) (c ∷ text) is same =
     let here : c ≡ x = cc (same) in
     let there : take (length (y ∷ ys)) text ≡ y ∷ ys = cc (same) in
     let goes : ends_word (c ∷ text) ≡ false = letter_more c text (omega (arith, here, ltb-true 32 x (and_parts _ _ is).0)) in
     let others = named_word (y ∷ ys) text (and_parts _ _ is).1 there in
-    (word_more c text goes ∙ ap₂ (λ (d : ℕ) (ds : List ℕ). d ∷ ds) here others.0, behind_more c text goes ∙ others.1)
+    (word_more c text goes ∙ ap₂ (λ (d : ℕ) (ds : List ℕ). d ∷ ds) here others.0, after_more c text goes ∙ others.1)
 
 pub name_read : (name text rest : List ℕ) → IsTrue (is_name name) → 4 ≤ length name → take (length name) text ≡ name → rest ≡ drop (length name) text → ReadsName name text rest
 name_read [] text rest is long same behind = absurd (omega (arith, long))
@@ -153,10 +153,10 @@ name_read (x ∷ []) text rest is long same behind = absurd (omega (arith, long)
 name_read (x ∷ y ∷ ys) text rest is long same behind =
     let w = named_word (x ∷ y ∷ ys) text is same in record {
       words = words_are text ∙ ap₂ (λ a b. before_words a (words_in b)) w.0 w.1 ∙ ap (λ r. (x ∷ without_last (y ∷ ys)) ∷ words_in r) (sym behind);
-      behind = ap behind_line behind ∙ ap behind_line (sym w.1) ∙ behind_line_word text;
+      behind = ap after_line behind ∙ ap after_line (sym w.1) ∙ after_line_word text;
     }
 
--- a line that has the name for its first word has no other word, unless a space is behind the name
+-- a line that has the name for its first word has no other word, unless a space is after the name
 name_is : (name : List ℕ) → is_name name ≡ true → name ≡ without_last name ++ 32 ∷ []
 name_is [] is = absurd (cc (is))
 name_is (x ∷ []) is = ap (λ y. y ∷ []) (eqb-true x 32 is)
@@ -170,17 +170,17 @@ joined : (xs ys : List ℕ) → xs ++ 32 ∷ ys ≡ (xs ++ 32 ∷ []) ++ ys
 joined [] ys = refl
 joined (x ∷ xs) ys = ap (λ zs. x ∷ zs) (joined xs ys)
 
-space_behind : (name text rest : List ℕ) → is_name name ≡ true → behind_word text ≡ 32 ∷ rest → word_in text ≡ without_last name → take (length name) text ≡ name
-space_behind name text rest is space same =
-    let whole : text ≡ name ++ rest = word_then_behind text ∙ ap₂ (λ (a b : List ℕ). a ++ b) same space ∙ joined (without_last name) rest ∙ ap (λ (n : List ℕ). n ++ rest) (sym (name_is name is)) in
+space_after : (name text rest : List ℕ) → is_name name ≡ true → after_word text ≡ 32 ∷ rest → word_in text ≡ without_last name → take (length name) text ≡ name
+space_after name text rest is space same =
+    let whole : text ≡ name ++ rest = word_then_after text ∙ ap₂ (λ (a b : List ℕ). a ++ b) same space ∙ joined (without_last name) rest ∙ ap (λ (n : List ℕ). n ++ rest) (sym (name_is name is)) in
     ap (take (length name)) whole ∙ take_front name rest
 
-behind_is : (name text behind : List ℕ) → is_name name ≡ true → take (length name) text ≢ name → word_in text ≡ without_last name → behind_word text ≡ behind → ends_word behind ≡ true → words_in behind ≡ []
-behind_is name text [] is other same at stops = refl
-behind_is name text (x ∷ xs) is other same at stops =
+after_is : (name text behind : List ℕ) → is_name name ≡ true → take (length name) text ≢ name → word_in text ≡ without_last name → after_word text ≡ behind → ends_word behind ≡ true → words_in behind ≡ []
+after_is name text [] is other same at stops = refl
+after_is name text (x ∷ xs) is other same at stops =
     elim (or_cases _ _ stops) [
       | inl ends ↦ words_end (x ∷ xs) ends
-      | inr space ↦ absurd (other (space_behind name text xs is (at ∙ ap (λ y. y ∷ xs) (eqb-true x 32 space)) same))
+      | inr space ↦ absurd (other (space_after name text xs is (at ∙ ap (λ y. y ∷ xs) (eqb-true x 32 space)) same))
     ]
 
 pub name_alone : (name text : List ℕ) → IsTrue (is_name name) → take (length name) text ≢ name → IsNoName name text
@@ -189,7 +189,7 @@ name_alone name text is other word words are = at (word_in text) refl
     at : (w : List ℕ) → word_in text ≡ w → words ≡ []
     at [] none = absurd (cc (are, words_end text (word_or_end text word none)))
     at (c ∷ cs) some =
-        let parts : (c ∷ cs) ∷ words_in (behind_word text) ≡ without_last name ∷ words = sym (words_are text ∙ ap (λ w. before_words w (words_in (behind_word text))) some) ∙ are in
+        let parts : (c ∷ cs) ∷ words_in (after_word text) ≡ without_last name ∷ words = sym (words_are text ∙ ap (λ w. before_words w (words_in (after_word text))) some) ∙ are in
         let same : word_in text ≡ without_last name = cc (parts, some) in
-        let left : words_in (behind_word text) ≡ words = cc (parts) in
-        sym left ∙ behind_is name text (behind_word text) is other same refl (behind_stops text)
+        let left : words_in (after_word text) ≡ words = cc (parts) in
+        sym left ∙ after_is name text (after_word text) is other same refl (after_stops text)

@@ -16,7 +16,7 @@ use Rattle.ic_program.specs.Printed.{lines_of, no_command_at}
 use Rattle.ic_program.specs.Played.{IsNew, IsRun, IsRunSoFar, CutTo, AnyLeft, NoneLeft, NoCommandLeft}
 use Rattle.ic_program.specs.HowFar.{AnsweredFirst, AnsweredShort, FaultLeft, StopLeft, IsLeftToRead, lines_of_both, UnlessLoss, Ends, EndsStopped, is_loss}
 use Rattle.ic_program.proofs.AnsweredLemmas.{none_first, and_then, first_kept, left_as, short_then, short_cut, short_none}
-use Rattle.ic_program.proofs.CutLemmas.{cut_nothing, cut_more, cut_kept, appended_behind}
+use Rattle.ic_program.proofs.CutLemmas.{cut_nothing, cut_more, cut_kept, appended_after}
 
 -- all lines of the input
 abbrev pub lines_in : Option (List ℕ) → Option (List (List ℕ))
@@ -27,7 +27,7 @@ none_waits : (known : Option (List ℕ)) (waits : List ℕ) → waits ≡ [] →
 none_waits None waits is = tt
 none_waits (Some xs) waits is = ap (λ (l : List ℕ). xs ++ l) is ∙ append-nil xs
 
--- ONE ROUND: what is read is answered behind what is written, and is written
+-- ONE ROUND: what is read is answered after what is written, and is written
 pub round : (input left rest : Option (List ℕ)) (cut then_cut : List ℕ) (going : Bool) (at after : ℕ) (first old new : Family OwnKey ℕ) (output k0 k1 k2 : Option (List ℕ)) (waits then_waits : List ℕ)
     → AnsweredFirst (lines_in input) (λ count others. (at ≡ count) × IsLeftToRead cut left true others) first old output k0 → waits ≡ []
     → AnsweredFirst (lines_of_both cut left) (λ count others. (after ≡ at + count) × IsLeftToRead then_cut rest going others) old new (append_known k0 waits) (append_known k1 then_waits)
@@ -211,7 +211,7 @@ stopped_run input output mid now NoCommand line (Ok Finished) first end is_new a
 stopped_run input output mid now NoCommand line (Ok NotUnderstood) first end is_new a e = (line, run_of input output mid now (NoCommandLeft line) (no_command_at line) first end is_new a e.1)
 stopped_run input output mid now NoCommand line (Err fault) first end is_new a e =
     let whole = append_known mid (no_command_at line) in
-    let run = run_of input output mid whole (NoCommandLeft line) (no_command_at line) first end is_new a (appended_behind mid (no_command_at line)) in
+    let run = run_of input output mid whole (NoCommandLeft line) (no_command_at line) first end is_new a (appended_after mid (no_command_at line)) in
     subst (λ b. cond b (IsRunSoFar input output now) (IsRun input output now (FaultLeft fault) [])) (sym e.0) (whole, e.1, inr (line, run))
 stopped_run input output mid now (AFault fault) line r first end is_new a e =
     let Short = AnsweredShort (lines_in input) first output mid in
@@ -273,9 +273,9 @@ known_on (Some xs) (Some ys) new known goes_on = goes_on
 known_on (Some xs) None new known goes_on = absurd (cc (known))
 
 -- nothing was left where nothing was shown
-pub none_shown : {S E : Type 0} (old : Option (List ℕ)) (r : Result S E) (s : S) (P : S → Type 0) → r ≡ Ok s → P s → IfSome old (λ xs. IfOk r (λ t. P t → xs ≡ [])) → IfSome old (λ xs. xs ≡ [])
-none_shown None r s P is p h = tt
-none_shown {S} {E} (Some xs) r s P is p h = subst (λ (x : Result S E). IfOk x (λ t. P t → xs ≡ [])) is h p
+pub none_represented : {S E : Type 0} (old : Option (List ℕ)) (r : Result S E) (s : S) (P : S → Type 0) → r ≡ Ok s → P s → IfSome old (λ xs. IfOk r (λ t. P t → xs ≡ [])) → IfSome old (λ xs. xs ≡ [])
+none_represented None r s P is p h = tt
+none_represented {S} {E} (Some xs) r s P is p h = subst (λ (x : Result S E). IfOk x (λ t. P t → xs ≡ [])) is h p
 
 -- a run that was stopped did not come to the end of its input
 pub stopped_not_finished : (stop : Stop) (line : ℕ) (r : Result Ending Fault) (output now : Option (List ℕ)) → EndsStopped stop line r output now → r ≡ Ok Finished → ⊥

@@ -1,4 +1,4 @@
--- The first elements of a list behind another.
+-- The first elements of a list after another.
 use Rattle.std.proofs.Common.{◌≡◌, ℕ, ◌+◌, suc, List, [], ◌∷◌, ◌++◌, take, length, arith, ap, ◌∙◌}
 
 take_past : (xs ys : List ℕ) (n : ℕ) → take (length xs + n) (xs ++ ys) ≡ xs ++ take n ys
@@ -9,9 +9,9 @@ take_past (x ∷ xs) ys n =
     let one : suc (length xs) + n ≡ suc (length xs + n) = omega arith in
     ap (λ (k : ℕ). take k (x ∷ (xs ++ ys))) one ∙ ap (λ (l : List ℕ). x ∷ l) (take_past xs ys n)
 
--- what is put behind a list and cut off after n elements
-pub cut_behind : (old line text new cut : List ℕ) (at n : ℕ) → at ≡ length old → new ≡ old ++ line → cut ≡ take (at + n) new → take n line ≡ text → cut ≡ old ++ text
-cut_behind old line text new cut at n here put is text_is =
+-- what is put after a list and cut off after n elements
+pub cut_after : (old line text new cut : List ℕ) (at n : ℕ) → at ≡ length old → new ≡ old ++ line → cut ≡ take (at + n) new → take n line ≡ text → cut ≡ old ++ text
+cut_after old line text new cut at n here put is text_is =
     is
     ∙ (ap (take (at + n)) put
     ∙ (ap (λ (k : ℕ). take (k + n) (old ++ line)) here

@@ -11,6 +11,14 @@ use Rattle.ic_rbtree.specs.declared.keys.key_adapter.Bound.{Bound}
 use Rattle.ic_rbtree.specs.declared.keys.key_adapter.Bound.TheVariants.{Included, Excluded, Unbounded}
 use Rattle.ic_world.specs.declared.call.Command.{Command}
 use Rattle.ic_world.specs.declared.call.Command.TheVariants as call
+use Rattle.ic_any_collection.specs.declared.gap.Gap.TheVariants.{Front, Back, Before, After}
+use Rattle.ic_world.specs.declared.calls.one_call.Call.{Call as OneCall}
+use Rattle.ic_world.specs.declared.calls.one_call.Call.TheVariants.{Put, Take, Swap, Move, Seek, Whole, Search, Insertion, Enter}
+use Rattle.ic_world.specs.declared.calls.one_call.Direction.TheVariants.{Next, Prev}
+use Rattle.ic_world.specs.declared.calls.seek.Seek.TheVariants.{Null, On, With}
+use Rattle.ic_world.specs.declared.calls.whole.Whole.TheVariants.{Clear, Reverse}
+use Rattle.ic_world.specs.declared.calls.search.Search.TheVariants.{Find, LowerBound, UpperBound}
+use Rattle.ic_world.specs.declared.calls.insertion.Insertion.TheVariants.{Insert, CursorInsert}
 use Rattle.ic_program.specs.declared.line.Line.{Line}
 use Rattle.ic_program.specs.declared.line.Line.TheVariants.{Empty, Call, NoCommand}
 
@@ -65,6 +73,16 @@ abbrev pub three : {A B C : Type 0} → (List ℕ → Option A) → (List ℕ �
 three a b c call (u ∷ v ∷ w ∷ []) = option_and_then (λ x. option_and_then (λ y. option_map (call x y) (c w)) (b v)) (a u)
 three a b c call _ = None
 
+-- A CALL OF ONE COLLECTION: after the collection's number come no arguments, one, or two
+abbrev pub on : OneCall ℕ → ℕ → Command ℕ ℕ
+on made c = call.On c made
+
+abbrev pub on_with : {A : Type 0} → (A → OneCall ℕ) → ℕ → A → Command ℕ ℕ
+on_with made c x = call.On c (made x)
+
+abbrev pub on_with_two : {A B : Type 0} → (A → B → OneCall ℕ) → ℕ → A → B → Command ℕ ℕ
+on_with_two made c x y = call.On c (made x y)
+
 -- THE CALLS: the name of each, and what its arguments are
 unfoldable pub calls : List (List ℕ × (List (List ℕ) → Option (Command ℕ ℕ)))
 calls =
@@ -74,40 +92,40 @@ calls =
     ∷ (codes "field", one kind_in call.AddField)
     ∷ (codes "open", two number_in kind_in call.Open)
     ∷ (codes "dispose", one number_in call.Dispose)
-    ∷ (codes "clear", one number_in call.Clear)
+    ∷ (codes "clear", one number_in (on (Whole Clear)))
     ∷ (codes "fast_clear", one number_in call.FastClear)
     ∷ (codes "take", one number_in call.Take)
     ∷ (codes "show", one number_in call.Show)
     ∷ (codes "show_back", one number_in call.ShowBack)
-    ∷ (codes "push_front", two number_in place_in call.PushFront)
-    ∷ (codes "push_back", two number_in place_in call.PushBack)
-    ∷ (codes "pop_front", one number_in call.PopFront)
-    ∷ (codes "pop_back", one number_in call.PopBack)
-    ∷ (codes "move_next", one number_in call.MoveNext)
-    ∷ (codes "move_prev", one number_in call.MovePrev)
-    ∷ (codes "go_null", one number_in call.GoNull)
+    ∷ (codes "push_front", two number_in place_in (on_with (Put Front)))
+    ∷ (codes "push_back", two number_in place_in (on_with (Put Back)))
+    ∷ (codes "pop_front", one number_in (on (Take Front)))
+    ∷ (codes "pop_back", one number_in (on (Take Back)))
+    ∷ (codes "move_next", one number_in (on (Move Next)))
+    ∷ (codes "move_prev", one number_in (on (Move Prev)))
+    ∷ (codes "go_null", one number_in (on (Seek Null)))
     ∷ (codes "current", one number_in call.Current)
-    ∷ (codes "seek", two number_in place_in call.Seek)
-    ∷ (codes "seek_with_prev", three number_in place_in neighbor_in call.SeekWithPrev)
-    ∷ (codes "seek_with_next", three number_in place_in neighbor_in call.SeekWithNext)
-    ∷ (codes "insert_after", two number_in place_in call.InsertAfter)
-    ∷ (codes "insert_before", two number_in place_in call.InsertBefore)
-    ∷ (codes "remove", one number_in call.Remove)
-    ∷ (codes "remove_next", one number_in call.RemoveNext)
-    ∷ (codes "replace_with", two number_in place_in call.ReplaceWith)
-    ∷ (codes "replace_next_with", two number_in place_in call.ReplaceNextWith)
+    ∷ (codes "seek", two number_in place_in (on_with (λ p. Seek (On p))))
+    ∷ (codes "seek_with_prev", three number_in place_in neighbor_in (on_with_two (λ p beside. Seek (With Prev p beside))))
+    ∷ (codes "seek_with_next", three number_in place_in neighbor_in (on_with_two (λ p beside. Seek (With Next p beside))))
+    ∷ (codes "insert_after", two number_in place_in (on_with (Put After)))
+    ∷ (codes "insert_before", two number_in place_in (on_with (Put Before)))
+    ∷ (codes "remove", one number_in (on (Take Before)))
+    ∷ (codes "remove_next", one number_in (on (Take After)))
+    ∷ (codes "replace_with", two number_in place_in (on_with (Swap Before)))
+    ∷ (codes "replace_next_with", two number_in place_in (on_with (Swap After)))
     ∷ (codes "splice_after", two number_in number_in call.SpliceAfter)
     ∷ (codes "splice_before", two number_in number_in call.SpliceBefore)
     ∷ (codes "split_after", one number_in call.SplitAfter)
     ∷ (codes "split_before", one number_in call.SplitBefore)
-    ∷ (codes "reverse", one number_in call.Reverse)
-    ∷ (codes "find", two number_in number_in call.Find)
-    ∷ (codes "lower_bound", two number_in bound_in call.LowerBound)
-    ∷ (codes "upper_bound", two number_in bound_in call.UpperBound)
+    ∷ (codes "reverse", one number_in (on (Whole Reverse)))
+    ∷ (codes "find", two number_in number_in (on_with (λ key. Search (Find key))))
+    ∷ (codes "lower_bound", two number_in bound_in (on_with (λ bound. Search (LowerBound bound))))
+    ∷ (codes "upper_bound", two number_in bound_in (on_with (λ bound. Search (UpperBound bound))))
     ∷ (codes "range", three number_in bound_in bound_in call.Range)
-    ∷ (codes "insert", two number_in place_in call.Insert)
-    ∷ (codes "cursor_insert", two number_in place_in call.CursorInsert)
-    ∷ (codes "entry", three number_in number_in place_in call.Entry)
+    ∷ (codes "insert", two number_in place_in (on_with (λ p. Insertion (Insert p))))
+    ∷ (codes "cursor_insert", two number_in place_in (on_with (λ p. Insertion (CursorInsert p))))
+    ∷ (codes "entry", three number_in number_in place_in (on_with_two Enter))
     ∷ (codes "is_linked", two number_in place_in call.IsLinked)
     ∷ (codes "force_unlink", two number_in place_in call.ForceUnlink)
     ∷ []

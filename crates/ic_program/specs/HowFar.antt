@@ -63,7 +63,7 @@ is_loss (Reading lines) = false
 is_loss Writing = true
 is_loss Memory = true
 
--- where a fault leaves them: in front of a line that is not UTF-8, or behind so many that were read
+-- where a fault leaves them: before a line that is not UTF-8, or after so many that were read
 abbrev pub FaultLeft : Fault → ℕ → List (List ℕ) → Type 0
 FaultLeft (NotText line) count others = NotTextLeft line count others
 FaultLeft (Reading read) count others = read ≡ count
@@ -111,7 +111,7 @@ EndsStopped NoCommand line result output now =
     (λ fault. IsTrue (is_loss fault) × CutTo (append_known output (no_command_at line)) now)
 EndsStopped (AFault fault) line result output now = (result ≡ Err fault) × Keeps output now
 
--- HOW A RUN ENDS: without a loss all answers were written, and behind them the notice of the line that is no command, if there was one
+-- HOW A RUN ENDS: without a loss all answers were written, and after them the notice of the line that is no command, if there was one
 abbrev pub Ends : Result Ending Fault → Option (List ℕ) → Option (List ℕ) → Option (List ℕ) → Type 0
 Ends (Ok Finished) input output now = IsRun input output now NoneLeft []
 Ends (Ok NotUnderstood) input output now = (line : ℕ) × IsRun input output now (NoCommandLeft line) (no_command_at line)

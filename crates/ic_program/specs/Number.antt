@@ -16,7 +16,7 @@ leading_digits text = take_while is_ascii_digit text
 abbrev pub IsLeading : List ℕ → ℕ → ℕ → Type 0
 IsLeading text number digits = (number ≡ digits_value 10 (leading_digits text)) × (digits ≡ length (leading_digits text))
 
--- what a decimal digit behind a number makes, if it is one and the value stays below 2^64
+-- what a decimal digit after a number makes, if it is one and the value stays below 2^64
 abbrev pub MoreDigits : ℕ → ℕ → Option ℕ → Type 0
 MoreDigits number digit result =
     let more = number * 10 + digit_value digit in

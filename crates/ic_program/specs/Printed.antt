@@ -25,7 +25,7 @@ name_of StillLinked = codes "StillLinked"
 name_of TooManyObjects = codes "TooManyObjects"
 name_of OutOfMemory = codes "OutOfMemory"
 
--- the number of an object; those of several, each behind a space
+-- the number of an object; those of several, each after a space
 abbrev pub number_at : Place → List ℕ
 number_at place = decimal (index_of place)
 

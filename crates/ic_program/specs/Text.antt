@@ -26,13 +26,13 @@ line_in (x ∷ xs) = if ends_line (x ∷ xs) then [] else x ∷ line_in xs
 abbrev pub words_in : List ℕ → List (List ℕ)
 words_in text = words_of (line_in text)
 
--- the text behind it
-abbrev pub behind_line : List ℕ → List ℕ
-behind_line text = drop_through 10 text
+-- the text after it
+abbrev pub after_line : List ℕ → List ℕ
+after_line text = drop_through 10 text
 
--- there is no text behind the first line
+-- there is no text after the first line
 abbrev pub IsOneLine : List ℕ → Type 0
-IsOneLine text = behind_line text ≡ []
+IsOneLine text = after_line text ≡ []
 
 -- the text begins with the end of a word: a space, or the end of the line
 abbrev pub ends_word : List ℕ → Bool
@@ -43,10 +43,10 @@ abbrev pub word_in : List ℕ → List ℕ
 word_in [] = []
 word_in (x ∷ xs) = if ends_word (x ∷ xs) then [] else x ∷ word_in xs
 
--- the bytes behind the spaces that come first
-abbrev pub behind_spaces : List ℕ → List ℕ
-behind_spaces [] = []
-behind_spaces (byte ∷ bytes) = if byte == 32 then behind_spaces bytes else byte ∷ bytes
+-- the bytes after the spaces that come first
+abbrev pub after_spaces : List ℕ → List ℕ
+after_spaces [] = []
+after_spaces (byte ∷ bytes) = if byte == 32 then after_spaces bytes else byte ∷ bytes
 
 -- the text was read up to there, within its first line: the words are these, and then those that are left
 abbrev pub before_words : List ℕ → List (List ℕ) → List (List ℕ)
@@ -56,7 +56,7 @@ before_words (x ∷ xs) words = (x ∷ xs) ∷ words
 pub record ReadsWord (text word rest : List ℕ) : Type 0 where
   pub words : words_in text ≡ before_words word (words_in rest)
   pub none : word ≡ [] → words_in text ≡ []
-  pub behind : behind_line rest ≡ behind_line text
+  pub behind : after_line rest ≡ after_line text
 
 -- the first word, if it says that, and the other words
 abbrev pub first_says : {A : Type 0} → (List ℕ → Option A) → List (List ℕ) → Option (A × List (List ℕ))
@@ -66,7 +66,7 @@ first_says says (word ∷ words) = option_map (λ x. (x, words)) (says word)
 -- WHAT THE FIRST WORD SAYS WAS READ, or it does not say that
 pub record Reads {A : Type 0} (says : List ℕ → Option A) (text : List ℕ) (x : A) (rest : List ℕ) : Type 0 where
   pub first : first_says says (words_in text) ≡ Some (x, words_in rest)
-  pub behind : behind_line rest ≡ behind_line text
+  pub behind : after_line rest ≡ after_line text
 
 abbrev pub ReadsFirst : {A : Type 0} → (List ℕ → Option A) → List ℕ → Option (A × Bor (List ℕ)) → Type 0
 ReadsFirst says text result = MatchOption result (first_says says (words_in text) ≡ None) (λ read. Reads says text read.0 read.1.now)
@@ -76,7 +76,7 @@ abbrev pub BeginsWithNumber : List ℕ → Option ℕ → Type 0
 BeginsWithNumber text result =
     MatchOption result (first_says number_in (words_in text) ≡ None) (λ number. (words : List (List ℕ)) × (first_says number_in (words_in text) ≡ Some (number, words)))
 
--- the name of a call, with the space behind it: letters, and then the space
+-- the name of a call, with the space after it: letters, and then the space
 abbrev pub is_name : List ℕ → Bool
 is_name [] = false
 is_name (x ∷ []) = x == 32
@@ -90,29 +90,29 @@ without_last [] = []
 without_last (x ∷ []) = []
 without_last (x ∷ y ∷ ys) = x ∷ without_last (y ∷ ys)
 
--- the text begins with that name, and the rest is behind it; or the name is no word of the line that others follow
+-- the text begins with that name, and the rest is after it; or the name is no word of the line that others follow
 pub record ReadsName (name text rest : List ℕ) : Type 0 where
   pub words : words_in text ≡ without_last name ∷ words_in rest
-  pub behind : behind_line rest ≡ behind_line text
+  pub behind : after_line rest ≡ after_line text
 
 abbrev pub IsNoName : List ℕ → List ℕ → Type 0
 IsNoName name text = begins_with 32 text ≡ false → (words : List (List ℕ)) → words_in text ≡ without_last name ∷ words → words ≡ []
 
--- THE LINE IS SUCH A CALL: its name, and then words that are read as the command; the text goes on behind the line
+-- THE LINE IS SUCH A CALL: its name, and then words that are read as the command; the text goes on after the line
 pub record IsCall (name : List ℕ) (read : List (List ℕ) → Option (Command ℕ ℕ)) (text : List ℕ) (command : Command ℕ ℕ) (rest : List ℕ) : Type 0 where
   pub words : List (List ℕ)
   pub are : words_in text ≡ without_last name ∷ words
   pub said : read words ≡ Some command
-  pub behind : rest ≡ behind_line text
+  pub behind : rest ≡ after_line text
 
 -- a text that begins with a word is no such call
 abbrev pub IsNoCall : List ℕ → (List (List ℕ) → Option (Command ℕ ℕ)) → List ℕ → Type 0
 IsNoCall name read text = begins_with 32 text ≡ false → (words : List (List ℕ)) → words_in text ≡ without_last name ∷ words → read words ≡ None
 
--- the text behind the line, unless the line is no command
+-- the text after the line, unless the line is no command
 abbrev pub Passes : Line → List ℕ → List ℕ → Type 0
 Passes NoCommand text rest = ⊤
-Passes _ text rest = rest ≡ behind_line text
+Passes _ text rest = rest ≡ after_line text
 
 -- there is a line feed
 abbrev pub HasFeed : List ℕ → Type 0

@@ -1,7 +1,7 @@
 //! The lines of answers.
 //!
 //! ```text
-//! push_answer(&mut lines, &Answer::Object(place))? // puts `object 3` and a line feed behind the others
+//! push_answer(&mut lines, &Answer::Object(place))? // puts `object 3` and a line feed after the others
 //! ```
 
 ghost use Rattle.std.specs.Prelude.{◌≡◌, ◌++◌, ◌<◌, ◌+◌, ◌%◌, ◌≤◌, [], ◌∷◌, take, OnOk, OnErr, codes, decimal};
@@ -16,7 +16,7 @@ use ic_world::Answer;
 use itoa::Buffer;
 use std::alloc::{AllocError, Allocator};
 
-/// Puts the line of an answer behind the others: its text, as `Display` prints it, and a line feed.
+/// Puts the line of an answer after the others: its text, and a line feed. Nothing else prints an answer.
 ///
 /// It is put there without a formatter, which would take as long as the call. Refused for memory, the lines are as they were. O(bytes).
 #[inline]
@@ -85,7 +85,7 @@ pub(crate) fn push_place<M: Allocator>(
     push_numbered(lines, b"object ", object.index() as u64, b"\n")
 }
 
-/// Some words, a number, and what is behind it.
+/// Some words, a number, and what is after it.
 pub(crate) fn push_numbered<M: Allocator>(
     lines: &mut Vec<u8, M>,
     words: &[u8],
@@ -115,7 +115,7 @@ fn push_object<M: Allocator>(
     push_numbered(lines, b"", looks, b"\n")
 }
 
-/// The places of some objects, and what is behind them.
+/// The places of some objects, and what is after them.
 pub(crate) fn push_items<M: Allocator>(
     lines: &mut Vec<u8, M>,
     places: &[Place],
@@ -175,7 +175,7 @@ pub(crate) fn push_start<const N: usize, M: Allocator>(
     Ok(())
 }
 
-// That line, with bytes behind it, and how long it is.
+// That line, with bytes after it, and how long it is.
 #[inline(always)]
 #[tactic(auto, using(crate::proofs::Decimals::one_digit, crate::proofs::Decimals::two_digits, crate::proofs::Decimals::three_digits))]
 fn short_line(number: u64) -> ([u8; 11], usize)

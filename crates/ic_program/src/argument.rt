@@ -1,4 +1,4 @@
-//! The arguments of calls: what the first word of a text says, and the text behind that word.
+//! The arguments of calls: what the first word of a text says, and the text after that word.
 //!
 //! ```text
 //! u64::read(b"12 3\n")      // Some((12, ` 3\n`))
@@ -10,7 +10,7 @@ ghost use Rattle.std.specs.Prelude.{ℕ, List, Option};
 ghost use Rattle.ic_program.specs.Grammar.{bound_in, kind_in, neighbor_in, number_in, place_in};
 ghost use Rattle.ic_program.specs.Text.{BeginsWithNumber, ReadsFirst};
 
-use crate::text::{behind_word, first_word};
+use crate::text::{after_word, first_word};
 use crate::word::{bound, kind, neighbor, number, place_of, small_number};
 use ic_any_collection::Kind;
 use ic_rbtree::Bound;
@@ -21,12 +21,12 @@ pub(crate) trait Argument: Copy {
     // What a word says, if it says that.
     ghost says: { List ℕ → Option Self };
 
-    /// What the first word of the line says, and the text behind it. `None` if it does not say that, or the line has no word.
+    /// What the first word of the line says, and the text after it. `None` if it does not say that, or the line has no word.
     fn read<'l>(text: &'l [u8]) -> Option<(Self, &'l [u8])>
         ensures { ReadsFirst says text.now result };
 }
 
-/// A value, or a key. Most numbers have a few digits and one space or the line feed behind them.
+/// A value, or a key. Most numbers have a few digits and one space or the line feed after them.
 impl Argument for u64 {
     ghost says = { number_in };
 
@@ -36,7 +36,7 @@ impl Argument for u64 {
             return Some((number, rest));
         }
         let number = any_number(text)?;
-        Some((number, behind_word(text)))
+        Some((number, after_word(text)))
     }
 }
 

@@ -15,7 +15,7 @@ use std::io::{self, ErrorKind};
 pub enum Fault {
     /// The line of this number, counted from 1, is not UTF-8.
     NotText(u64),
-    /// No more could be read behind so many lines.
+    /// No more could be read after so many lines.
     Reading(u64),
     /// An answer could not be written.
     Writing,

@@ -1,7 +1,7 @@
 //! What a line says: a call of a world, by its name and its arguments in order.
 //!
 //! ```text
-//! Line::of(b"push_back 0 3") // Line::Call(Command::PushBack(0, place 3))
+//! Line::of(b"push_back 0 3") // Line::Call(Command::On(0, Call::Put(Gap::Back, place 3)))
 //! Line::of(b"jump")          // Line::NoCommand
 //! ```
 
@@ -9,13 +9,13 @@ ghost use Rattle.std.specs.Prelude.{◌≡◌, ℕ, false, [], Some, IfSome, IfN
 ghost use Rattle.ic_world.specs.declared.call.Command.{Command};
 ghost use Rattle.ic_program.specs.Grammar.{command_in, said_in, one as one_argument, two as two_arguments, three as three_arguments};
 ghost use Rattle.ic_program.specs.Slots.{IsNoCallAt};
-ghost use Rattle.ic_program.specs.Text.{behind_line as behind_first_line, begins_with, line_in, words_in, IsCall, IsName, IsNoCall, IsOneLine, Passes};
+ghost use Rattle.ic_program.specs.Text.{after_line as after_first_line, begins_with, line_in, words_in, IsCall, IsName, IsNoCall, IsOneLine, Passes};
 
 use crate::argument::Argument;
 use crate::fast_path::fast_call_at;
-use crate::names::behind_name;
-use crate::text::{behind_line, behind_space, without_spaces};
-use ic_world::Command;
+use crate::names::after_name;
+use crate::text::{after_line, after_space, without_spaces};
+use ic_world::{Call, Command, Direction, Insertion, Search, Seek, Whole};
 
 /// What a line says.
 #[derive(Clone, Copy)]
@@ -44,7 +44,7 @@ impl Line {
         }
     }
 
-    /// What the first line of a text says, and the text behind it. If the line is no call, the text is where it was.
+    /// What the first line of a text says, and the text after it. If the line is no call, the text is where it was.
     ///
     /// [`answer_fast`](crate::fast_path::answer_fast) has tried the line before, and finds nearly all calls.
     #[cold]
@@ -53,7 +53,7 @@ impl Line {
         ensures said { result.0 ≡ said_in (line_in text.now) }
         ensures behind { Passes result.0 text.now result.1.now }
     {
-        if let Some(rest) = behind_line(text) {
+        if let Some(rest) = after_line(text) {
             return (Line::Empty, rest);
         }
         let start = without_spaces(text);
@@ -86,68 +86,77 @@ pub(crate) fn slot_of(text: &[u8]) -> u64 {
     letters.wrapping_mul(0x39e9_f5d9_8f2d_bcef) >> 58
 }
 
-// The call of that name with these arguments, and the text behind the line, if the text begins with it.
+// A row of the table: the command of that name with these arguments, and the text after the line, if the text begins with it. After `on`
+// stands a call of the collection that the first argument names.
 macro_rules! call {
-    ($call:ident($first:ident) = $name:literal in $text:ident) => {{
+    ($text:ident, $name:literal($first:ident) => $($command:tt)*) => {{
         let ($first, rest) = one($text, $name)?;
-        Some((Command::$call($first), rest))
+        Some((Command::$($command)*, rest))
     }};
-    ($call:ident($first:ident, $second:ident) = $name:literal in $text:ident) => {{
+    ($text:ident, $name:literal($first:ident, $second:ident) => $($command:tt)*) => {{
         let ($first, $second, rest) = two($text, $name)?;
-        Some((Command::$call($first, $second), rest))
+        Some((Command::$($command)*, rest))
     }};
-    ($call:ident($first:ident, $second:ident, $third:ident) = $name:literal in $text:ident) => {{
+    ($text:ident, $name:literal($first:ident, $second:ident, $third:ident) => $($command:tt)*) => {{
         let ($first, $second, $third, rest) = three($text, $name)?;
-        Some((Command::$call($first, $second, $third), rest))
+        Some((Command::$($command)*, rest))
     }};
+    ($text:ident, $name:literal($collection:ident $(, $given:ident)*) on $($call:tt)*) => {
+        call!($text, $name($collection $(, $given)*) => On($collection, Call::$($call)*))
+    };
 }
 
-// The call that the first line of a text is, and the text behind the line, if it is one that has that slot.
+// The call that the first line of a text is, and the text after the line, if it is one that has that slot.
 #[cold]
 #[inline(never)]
 fn call_at<'l>(slot: u64, text: &'l [u8]) -> Option<(Command<u64, u64>, &'l [u8])>
-    ensures said { IfSome result (λ read. (command_in (words_in text.now) ≡ Some read.0) × (read.1.now ≡ behind_first_line text.now)) }
+    ensures said { IfSome result (λ read. (command_in (words_in text.now) ≡ Some read.0) × (read.1.now ≡ after_first_line text.now)) }
     ensures none { IfNone result (begins_with 32 text.now ≡ false → IsNoCallAt slot (words_in text.now)) }
 {
     match slot {
-        34 => call!(Place(value) = b"place " in text),
-        56 => call!(RemoveObject(object) = b"remove_object " in text),
-        46 => call!(SetValue(object, value) = b"set_value " in text),
-        29 => call!(AddField(kind) = b"field " in text),
-        54 => call!(Open(field, kind) = b"open " in text),
-        15 => call!(Dispose(collection) = b"dispose " in text),
-        0 => call!(Clear(collection) = b"clear " in text),
-        36 => call!(FastClear(collection) = b"fast_clear " in text),
-        24 => call!(Take(collection) = b"take " in text),
-        44 => call!(Show(collection) = b"show " in text),
-        28 => call!(ShowBack(collection) = b"show_back " in text),
-        9 => call!(Seek(collection, object) = b"seek " in text),
+        34 => call!(text, b"place "(value) => Place(value)),
+        56 => call!(text, b"remove_object "(object) => RemoveObject(object)),
+        46 => call!(text, b"set_value "(object, value) => SetValue(object, value)),
+        29 => call!(text, b"field "(kind) => AddField(kind)),
+        54 => call!(text, b"open "(field, kind) => Open(field, kind)),
+        15 => call!(text, b"dispose "(collection) => Dispose(collection)),
+        0 => call!(text, b"clear "(collection) on Whole(Whole::Clear)),
+        36 => call!(text, b"fast_clear "(collection) => FastClear(collection)),
+        24 => call!(text, b"take "(collection) => Take(collection)),
+        44 => call!(text, b"show "(collection) => Show(collection)),
+        28 => call!(text, b"show_back "(collection) => ShowBack(collection)),
+        9 => call!(text, b"seek "(collection, object) on Seek(Seek::On(object))),
         27 => match three(text, b"seek_with_prev ") {
             Some((collection, object, neighbor, rest)) => Some((
-                Command::SeekWithPrev(collection, object, neighbor),
+                Command::On(
+                    collection,
+                    Call::Seek(Seek::With(Direction::Prev, object, neighbor)),
+                ),
                 rest,
             )),
-            None => call!(SeekWithNext(collection, object, neighbor) = b"seek_with_next " in text),
+            None => call!(text, b"seek_with_next "(collection, object, neighbor)
+                on Seek(Seek::With(Direction::Next, object, neighbor))),
         },
-        26 => call!(SpliceAfter(collection, other) = b"splice_after " in text),
-        22 => call!(SpliceBefore(collection, other) = b"splice_before " in text),
-        63 => call!(SplitAfter(collection) = b"split_after " in text),
-        50 => call!(SplitBefore(collection) = b"split_before " in text),
-        62 => call!(Reverse(collection) = b"reverse " in text),
-        35 => call!(Find(collection, key) = b"find " in text),
-        43 => call!(LowerBound(collection, bound) = b"lower_bound " in text),
-        58 => call!(UpperBound(collection, bound) = b"upper_bound " in text),
-        52 => call!(Range(collection, low, high) = b"range " in text),
-        42 => call!(Insert(collection, object) = b"insert " in text),
-        7 => call!(CursorInsert(collection, object) = b"cursor_insert " in text),
-        3 => call!(Entry(collection, key, object) = b"entry " in text),
-        32 => call!(IsLinked(field, object) = b"is_linked " in text),
-        40 => call!(ForceUnlink(field, object) = b"force_unlink " in text),
+        26 => call!(text, b"splice_after "(collection, other) => SpliceAfter(collection, other)),
+        22 => call!(text, b"splice_before "(collection, other) => SpliceBefore(collection, other)),
+        63 => call!(text, b"split_after "(collection) => SplitAfter(collection)),
+        50 => call!(text, b"split_before "(collection) => SplitBefore(collection)),
+        62 => call!(text, b"reverse "(collection) on Whole(Whole::Reverse)),
+        35 => call!(text, b"find "(collection, key) on Search(Search::Find(key))),
+        43 => call!(text, b"lower_bound "(collection, bound) on Search(Search::LowerBound(bound))),
+        58 => call!(text, b"upper_bound "(collection, bound) on Search(Search::UpperBound(bound))),
+        52 => call!(text, b"range "(collection, low, high) => Range(collection, low, high)),
+        42 => call!(text, b"insert "(collection, object) on Insertion(Insertion::Insert(object))),
+        7 =>
+            call!(text, b"cursor_insert "(collection, object) on Insertion(Insertion::CursorInsert(object))),
+        3 => call!(text, b"entry "(collection, key, object) on Enter(key, object)),
+        32 => call!(text, b"is_linked "(field, object) => IsLinked(field, object)),
+        40 => call!(text, b"force_unlink "(field, object) => ForceUnlink(field, object)),
         _ => fast_call_at(slot, text),
     }
 }
 
-/// The argument behind that name, and the text behind the line.
+/// The argument after that name, and the text after the line.
 #[inline(always)]
 pub(crate) fn one<'l, const N: usize, A: Argument>(
     text: &'l [u8],
@@ -157,11 +166,11 @@ pub(crate) fn one<'l, const N: usize, A: Argument>(
     ensures said { IfSome result (λ read. (call : A → Command ℕ ℕ) → IsCall name.now (one_argument A.says call) text.now (call read.0) read.1.now) }
     ensures none { IfNone result ((call : A → Command ℕ ℕ) → IsNoCall name.now (one_argument A.says call) text.now) }
 {
-    let (first, rest) = A::read(behind_name(text, name)?)?;
-    Some((first, behind_line(rest)?))
+    let (first, rest) = A::read(after_name(text, name)?)?;
+    Some((first, after_line(rest)?))
 }
 
-/// The two arguments behind that name, and the text behind the line.
+/// The two arguments after that name, and the text after the line.
 #[inline(always)]
 pub(crate) fn two<'l, const N: usize, A: Argument, B: Argument>(
     text: &'l [u8],
@@ -172,12 +181,12 @@ pub(crate) fn two<'l, const N: usize, A: Argument, B: Argument>(
         IsCall name.now (two_arguments A.says B.says call) text.now (call read.0 read.1) read.2.now) }
     ensures none { IfNone result ((call : A → B → Command ℕ ℕ) → IsNoCall name.now (two_arguments A.says B.says call) text.now) }
 {
-    let (first, rest) = A::read(behind_name(text, name)?)?;
-    let (second, rest) = B::read(behind_space(rest))?;
-    Some((first, second, behind_line(rest)?))
+    let (first, rest) = A::read(after_name(text, name)?)?;
+    let (second, rest) = B::read(after_space(rest))?;
+    Some((first, second, after_line(rest)?))
 }
 
-// The three arguments behind that name, and the text behind the line.
+// The three arguments after that name, and the text after the line.
 #[inline(always)]
 fn three<'l, const N: usize, A: Argument, B: Argument, C: Argument>(
     text: &'l [u8],
@@ -188,8 +197,8 @@ fn three<'l, const N: usize, A: Argument, B: Argument, C: Argument>(
         IsCall name.now (three_arguments A.says B.says C.says call) text.now (call read.0 read.1 read.2) read.3.now) }
     ensures none { IfNone result ((call : A → B → C → Command ℕ ℕ) → IsNoCall name.now (three_arguments A.says B.says C.says call) text.now) }
 {
-    let (first, rest) = A::read(behind_name(text, name)?)?;
-    let (second, rest) = B::read(behind_space(rest))?;
-    let (third, rest) = C::read(behind_space(rest))?;
-    Some((first, second, third, behind_line(rest)?))
+    let (first, rest) = A::read(after_name(text, name)?)?;
+    let (second, rest) = B::read(after_space(rest))?;
+    let (third, rest) = C::read(after_space(rest))?;
+    Some((first, second, third, after_line(rest)?))
 }

@@ -1,18 +1,18 @@
 //! Whether a text begins with a name.
 //!
 //! ```text
-//! behind_name(b"push_back 0 3\n", b"push_back ") // Some(`0 3\n`), by two comparisons of eight bytes
+//! after_name(b"push_back 0 3\n", b"push_back ") // Some(`0 3\n`), by two comparisons of eight bytes
 //! ```
 
 ghost use Rattle.std.specs.Prelude.{◌≡◌, ◌↔◌, ◌+◌, ◌≤◌, MatchOption, IsTrue, length, take, drop};
 ghost use Rattle.std.specs.Int.{w32, w64, from_le_bytes};
 ghost use Rattle.ic_program.specs.Text.{IsName, IsNoName, ReadsName};
 
-/// The text behind that name. The name has 4 to 24 bytes, and the last one is the space behind it.
+/// The text after that name. The name has 4 to 24 bytes, and the last one is the space after it.
 ///
 /// Eight bytes are compared at once, or four of a short name. Some may be compared twice.
 #[inline(always)]
-pub(crate) fn behind_name<'l, const N: usize>(text: &'l [u8], name: &[u8; N]) -> Option<&'l [u8]>
+pub(crate) fn after_name<'l, const N: usize>(text: &'l [u8], name: &[u8; N]) -> Option<&'l [u8]>
     requires { IsName N name.now }
     ensures { MatchOption result (IsNoName name.now text.now) (λ rest. ReadsName name.now text.now rest.now) }
 {

@@ -90,7 +90,7 @@ impl<M: Allocator + Copy> Session<M> {
     {
         let mut rest = text;
         while !rest.is_empty() {
-            let taken = self.answer_some(rest)?;
+            let taken = self.answer_first(rest)?;
             rest = &rest[taken..];
             self.make_room(writer)?;
         }
@@ -132,70 +132,10 @@ impl<M: Allocator + Copy> Session<M> {
         }
     }
 
-    // Answers the first lines of a text, and gives how many bytes are before the next one: as many as are calls that most lines make, or one
-    // line if the first is none of these.
-    #[inline(always)]
-    fn answer_some(&mut self, text: &[u8]) -> Result<usize, Stop>
-        requires { 0 < length text.now }
-        ensures answered { HowFar result self.old.lines self.new.lines (λ taken others. others ≡ lines (drop taken text.now))
-            (Some (lines text.now)) self.old.world self.new.world
-            (Some self.old.answers.items) (Some self.new.answers.items) }
-        ensures within { IfOk result (λ taken. taken ≤ length text.now) }
-        ensures some { IfOk result (λ taken. 0 < taken) }
-    {
-        let taken = self.answer_usual(text)?;
-        if taken == 0 {
-            return self.answer_first(text);
-        }
-        Ok(taken)
-    }
-
-    // Answers lines as long as they are calls that most lines make, and not too many answers wait. It gives how many bytes these lines have.
-    //
-    // Nothing that it calls for such a line returns its result through memory, so no slot of that is cleared for each line.
-    #[inline(always)]
-    fn answer_usual(&mut self, text: &[u8]) -> Result<usize, Stop>
-        ensures answered { HowFar result self.old.lines self.new.lines (λ taken others. others ≡ lines (drop taken text.now))
-            (Some (lines text.now)) self.old.world self.new.world
-            (Some self.old.answers.items) (Some self.new.answers.items) }
-        ensures within { IfOk result (λ taken. taken ≤ length text.now) }
-    {
-        let mut taken = 0;
-        while taken < text.len() && self.answers.len() <= ROOM {
-            let more = self.answer_if_usual(&text[taken..])?;
-            if more == 0 {
-                return Ok(taken);
-            }
-            taken += more;
-        }
-        Ok(taken)
-    }
-
-    // Answers the first line of a text, if it is a call that most lines make, and gives how many bytes it has. If it is another it gives 0.
-    #[inline(always)]
-    fn answer_if_usual(&mut self, text: &[u8]) -> Result<usize, Stop>
-        requires { 0 < length text.now }
-        ensures answered { HowFar result self.old.lines self.new.lines (λ taken others. others ≡ lines (drop taken text.now))
-            (Some (lines text.now)) self.old.world self.new.world
-            (Some self.old.answers.items) (Some self.new.answers.items) }
-        ensures within { IfOk result (λ taken. taken ≤ length text.now) }
-    {
-        let Some(number) = self.lines.checked_add(1) else {
-            return Ok(0);
-        };
-        match answer_fast(&mut self.world, text) {
-            Some((answer, taken)) => {
-                self.lines = number;
-                push_short(&mut self.answers, answer)?;
-                Ok(taken)
-            }
-            None => Ok(0),
-        }
-    }
-
     // Answers the first line of a text, and gives how many bytes are before the next one.
-    #[cold]
-    #[inline(never)]
+    //
+    // Nothing that it calls for a call of the fast path returns its result through memory, so no slot of that is cleared for each line.
+    #[inline(always)]
     fn answer_first(&mut self, text: &[u8]) -> Result<usize, Stop>
         requires { 0 < length text.now }
         ensures answered { HowFar result self.old.lines self.new.lines (λ taken others. others ≡ lines (drop taken text.now))
@@ -209,11 +149,19 @@ impl<M: Allocator + Copy> Session<M> {
             return Err(Stop::Fault(Fault::Reading(self.lines)));
         };
         self.lines = number;
-        self.answer_other(text)
+        match answer_fast(&mut self.world, text) {
+            Some((answer, rest)) => {
+                let taken = text.len().saturating_sub(rest.len());
+                push_short(&mut self.answers, answer)?;
+                Ok(taken)
+            }
+            None => self.answer_other(text),
+        }
     }
 
-    // The same of the line of that number.
-    #[inline]
+    // The same of a line of that number whose call is not of the fast path.
+    #[cold]
+    #[inline(never)]
     fn answer_other(&mut self, text: &[u8]) -> Result<usize, Stop>
         requires { (0 < length text.now) × (0 < self.old.lines) }
         ensures answered { HowFar result (self.old.lines - 1) self.new.lines (λ taken others. others ≡ lines (drop taken text.now))
@@ -234,7 +182,7 @@ impl<M: Allocator + Copy> Session<M> {
         }
     }
 
-    // Makes the call, and puts its answer behind the others.
+    // Makes the call, and puts its answer after the others.
     #[cold]
     #[inline(never)]
     fn call(&mut self, command: Command<u64, u64>) -> Result<(), Stop>
@@ -249,7 +197,7 @@ impl<M: Allocator + Copy> Session<M> {
         )
     }
 
-    // Answers the line that is cut off, if it ends in these bytes, and gives those behind it.
+    // Answers the line that is cut off, if it ends in these bytes, and gives those after it.
     fn answer_cut<'b, W: Write>(
         &mut self,
         cut: &mut Vec<u8, M>,
@@ -306,7 +254,7 @@ fn ended_bytes(bytes: &[u8]) -> usize
     }
 }
 
-// Puts bytes behind those that are cut off.
+// Puts bytes after those that are cut off.
 #[inline]
 fn keep<M: Allocator>(cut: &mut Vec<u8, M>, bytes: &[u8]) -> Result<(), Stop>
     ensures kept { OnOk result (cut.new.items ≡ cut.old.items ++ bytes.now) }
@@ -318,7 +266,7 @@ fn keep<M: Allocator>(cut: &mut Vec<u8, M>, bytes: &[u8]) -> Result<(), Stop>
     }
 }
 
-// Puts the answer behind the others.
+// Puts the answer after the others.
 #[inline]
 fn push<M: Allocator>(answers: &mut Vec<u8, M>, answer: &Answer<M>) -> Result<(), Stop>
     ensures put { OnOk result (answers.new.items ≡ answers.old.items ++ line_of (reply_in answer.now)) }
@@ -331,7 +279,7 @@ fn push<M: Allocator>(answers: &mut Vec<u8, M>, answer: &Answer<M>) -> Result<()
     }
 }
 
-// Puts the line behind the others.
+// Puts the line after the others.
 #[inline(always)]
 fn push_short<M: Allocator>(answers: &mut Vec<u8, M>, answer: ShortAnswer) -> Result<(), Stop>
     ensures put { OnOk result (answers.new.items ≡ answers.old.items ++ line_of (reply_of_short answer)) }

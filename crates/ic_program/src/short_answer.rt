@@ -1,7 +1,7 @@
 //! What most calls answer, and its line: words that are known before the call, or an object.
 //!
 //! ```text
-//! done(world.push_back(0, place)).push(&mut lines)? // puts `ok` and a line feed behind the others
+//! done(world.push_back(0, place)).push(&mut lines)? // puts `ok` and a line feed after the others
 //! ```
 
 ghost use Rattle.std.specs.Prelude.{◌≡◌, ◌++◌, ◌≤◌, OnOk, OnErr, take};
@@ -37,7 +37,7 @@ pub(crate) enum ShortAnswer {
 }
 
 impl ShortAnswer {
-    /// Puts the line of the answer behind the others. Refused for memory, they are as they were. O(1).
+    /// Puts the line of the answer after the others. Refused for memory, they are as they were. O(1).
     #[inline(always)]
     pub(crate) fn push<M: Allocator>(self, lines: &mut Vec<u8, M>) -> Result<(), AllocError>
         ensures put { OnOk result (lines.new.items ≡ lines.old.items ++ line_of (reply_of_short self)) }
@@ -101,7 +101,7 @@ pub(crate) fn replaced(answer: Result<Place, Refusal>) -> ShortAnswer
     }
 }
 
-// The line of words alone, with bytes behind it, and how long it is.
+// The line of words alone, with bytes after it, and how long it is.
 #[inline(always)]
 fn line_in_words(words: InWords) -> (&'static [u8; 32], usize)
     ensures line { take result.1 result.0.now ≡ line_of (reply_in_words words) }
@@ -114,7 +114,7 @@ fn line_in_words(words: InWords) -> (&'static [u8; 32], usize)
     }
 }
 
-/// The line of a refusal, with bytes behind it, and how long it is.
+/// The line of a refusal, with bytes after it, and how long it is.
 #[inline(always)]
 pub(crate) fn refused(refusal: Refusal) -> (&'static [u8; 32], usize)
     ensures line { take result.1 result.0.now ≡ line_of (reply.refused refusal) }

@@ -1,18 +1,18 @@
 //! A text of lines: where its first line and the words of that end.
 //!
 //! ```text
-//! first_word(b"  push_back 0 3\n")   // `push_back`, and the text from the space behind it on
-//! behind_line(b" \r\npop_front 0\n") // Some(`pop_front 0\n`): the line has no more words
+//! first_word(b"  push_back 0 3\n")   // `push_back`, and the text from the space after it on
+//! after_line(b" \r\npop_front 0\n") // Some(`pop_front 0\n`): the line has no more words
 //! ```
 
 ghost use Rattle.std.specs.Prelude.{◌≡◌, ◌≢◌, ◌≤◌, ℕ, true, false, List, [], IfSome, MatchOption, drop, length};
 ghost use Rattle.std.specs.Bool.{OnTrue};
-ghost use Rattle.ic_program.specs.Text.{behind_line as behind_first_line, behind_spaces, ends_word, ends_line as is_line_end, line_in, word_in, words_in, ReadsWord};
+ghost use Rattle.ic_program.specs.Text.{after_line as after_first_line, after_spaces, ends_word, ends_line as is_line_end, line_in, word_in, words_in, ReadsWord};
 
-/// The text behind the spaces that come first. Mostly there are none.
+/// The text after the spaces that come first. Mostly there are none.
 #[inline(always)]
 pub(crate) fn without_spaces<'l>(text: &'l [u8]) -> &'l [u8]
-    ensures { result.now ≡ behind_spaces text.now }
+    ensures { result.now ≡ after_spaces text.now }
 {
     match text {
         [b' ', ..] => without_more_spaces(text),
@@ -24,7 +24,7 @@ pub(crate) fn without_spaces<'l>(text: &'l [u8]) -> &'l [u8]
 #[cold]
 #[inline(never)]
 fn without_more_spaces<'l>(text: &'l [u8]) -> &'l [u8]
-    ensures { result.now ≡ behind_spaces text.now }
+    ensures { result.now ≡ after_spaces text.now }
 {
     let mut rest = text;
     while let [b' ', others @ ..] = rest {
@@ -33,11 +33,11 @@ fn without_more_spaces<'l>(text: &'l [u8]) -> &'l [u8]
     rest
 }
 
-/// The text behind the space that it begins with, if it begins with one.
+/// The text after the space that it begins with, if it begins with one.
 #[inline(always)]
-pub(crate) fn behind_space<'l>(text: &'l [u8]) -> &'l [u8]
+pub(crate) fn after_space<'l>(text: &'l [u8]) -> &'l [u8]
     ensures words { words_in result.now ≡ words_in text.now }
-    ensures behind { behind_first_line result.now ≡ behind_first_line text.now }
+    ensures behind { after_first_line result.now ≡ after_first_line text.now }
 {
     match text {
         [b' ', rest @ ..] => rest,
@@ -55,10 +55,10 @@ fn without_space<'l>(text: &'l [u8]) -> &'l [u8]
     text
 }
 
-/// The text behind the line, if the line has no more words. It ends by `\n`, by `\r\n` or at the end of the text.
+/// The text after the line, if the line has no more words. It ends by `\n`, by `\r\n` or at the end of the text.
 #[inline(always)]
-pub(crate) fn behind_line<'l>(text: &'l [u8]) -> Option<&'l [u8]>
-    ensures { MatchOption result (words_in text.now ≢ []) (λ rest. (words_in text.now ≡ []) × (rest.now ≡ behind_first_line text.now)) }
+pub(crate) fn after_line<'l>(text: &'l [u8]) -> Option<&'l [u8]>
+    ensures { MatchOption result (words_in text.now ≢ []) (λ rest. (words_in text.now ≡ []) × (rest.now ≡ after_first_line text.now)) }
 {
     match text {
         [b'\n', rest @ ..] => Some(rest),
@@ -73,18 +73,18 @@ pub(crate) fn behind_line<'l>(text: &'l [u8]) -> Option<&'l [u8]>
 #[cold]
 #[inline(never)]
 fn other_line(text: &[u8]) -> Option<usize>
-    ensures end { MatchOption result (words_in text.now ≢ []) (λ taken. (words_in text.now ≡ []) × (drop taken text.now ≡ behind_first_line text.now)) }
+    ensures end { MatchOption result (words_in text.now ≢ []) (λ taken. (words_in text.now ≡ []) × (drop taken text.now ≡ after_first_line text.now)) }
     ensures within { IfSome result (λ taken. taken ≤ length text.now) }
 {
-    match behind_end(without_spaces(text)) {
+    match after_end(without_spaces(text)) {
         Some(rest) => Some(text.len().saturating_sub(rest.len())),
         None => None,
     }
 }
 
-// The text behind the end of a line, if it begins with one.
-fn behind_end<'l>(text: &'l [u8]) -> Option<&'l [u8]>
-    ensures { MatchOption result (is_line_end text.now ≡ false) (λ rest. (is_line_end text.now ≡ true) × (rest.now ≡ behind_first_line text.now)) }
+// The text after the end of a line, if it begins with one.
+fn after_end<'l>(text: &'l [u8]) -> Option<&'l [u8]>
+    ensures { MatchOption result (is_line_end text.now ≡ false) (λ rest. (is_line_end text.now ≡ true) × (rest.now ≡ after_first_line text.now)) }
 {
     match text {
         [] => Some(text),
@@ -106,7 +106,7 @@ pub(crate) fn word_ends(text: &[u8]) -> bool
     }
 }
 
-/// The first word of the line, empty if there is none, and the text behind that word. O(bytes).
+/// The first word of the line, empty if there is none, and the text after that word. O(bytes).
 #[cold]
 #[inline(never)]
 pub(crate) fn first_word<'l>(text: &'l [u8]) -> (&'l [u8], &'l [u8])
@@ -117,23 +117,23 @@ pub(crate) fn first_word<'l>(text: &'l [u8]) -> (&'l [u8], &'l [u8])
     (&start[..length], &start[length..])
 }
 
-/// The text behind the first word of the line. O(bytes).
+/// The text after the first word of the line. O(bytes).
 #[cold]
 #[inline(never)]
-pub(crate) fn behind_word<'l>(text: &'l [u8]) -> &'l [u8]
+pub(crate) fn after_word<'l>(text: &'l [u8]) -> &'l [u8]
     ensures { (word : List ℕ) × ReadsWord text.now word result.now }
 {
     let (_, rest) = first_word(text);
     rest
 }
 
-// How many of the first bytes are a word: those in front of a space and of the line's end.
+// How many of the first bytes are a word: those before a space and of the line's end.
 fn word_length(text: &[u8]) -> usize
     ensures length { result ≡ length (word_in text.now) }
     ensures within { result ≤ length text.now }
 {
     for (at, byte) in text.iter().enumerate() {
-        if *byte == b' ' || behind_end(&text[at..]).is_some() {
+        if *byte == b' ' || after_end(&text[at..]).is_some() {
             return at;
         }
     }
@@ -149,13 +149,13 @@ pub(crate) fn first_line<'l>(text: &'l [u8]) -> &'l [u8]
     &text[..line_length(text)]
 }
 
-// How many of the first bytes are a line: those in front of its end.
+// How many of the first bytes are a line: those before its end.
 fn line_length(text: &[u8]) -> usize
     ensures length { result ≡ length (line_in text.now) }
     ensures within { result ≤ length text.now }
 {
     for (at, _) in text.iter().enumerate() {
-        if behind_end(&text[at..]).is_some() {
+        if after_end(&text[at..]).is_some() {
             return at;
         }
     }

@@ -123,7 +123,7 @@ fn with_digit(number: u64, digit: u8) -> Option<u64>
     number.checked_mul(10)?.checked_add((digit - b'0') as u64)
 }
 
-/// The number that the first word of a line is, and the text behind that, if it has 1 to 4 digits and is not at the end of the text. `None`
+/// The number that the first word of a line is, and the text after that, if it has 1 to 4 digits and is not at the end of the text. `None`
 /// says nothing of the word.
 #[inline(always)]
 pub(crate) fn small_number<'l>(text: &'l [u8]) -> Option<(u64, &'l [u8])>

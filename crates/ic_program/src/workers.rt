@@ -62,7 +62,7 @@ pub fn workers_of(words: &[String]) -> Option<Workers>
 struct Open;
 
 impl Gate for Open {
-    ghost Told = { λ gate worker answered. Unit {0} };
+    ghost Reported = { λ gate worker answered. Unit {0} };
 
     fn passed(&self, worker: usize, answered: usize) {
         let _ = (worker, answered);
@@ -106,7 +106,7 @@ fn workers_text_of<M: Allocator + Copy>(
     Ok(text)
 }
 
-// Puts the line of the worker of that number behind the others.
+// Puts the line of the worker of that number after the others.
 fn push_worker<M: Allocator>(
     text: &mut Vec<u8, M>,
     number: usize,

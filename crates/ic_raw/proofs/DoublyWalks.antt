@@ -1,83 +1,82 @@
--- Doubly linked lists that are walked: the places that lead from the first member on, each back to the one in front of it.
-use Rattle.std.proofs.Common.{◌≡◌, ◌≤◌, Option, Some, None, List, [], ◌∷◌, ◌++◌, length, true, refl, sym, ap, ◌∙◌, arith}
-use Rattle.ic_unsafe_ref.specs.declared.place.Place.{Place}
-use Rattle.ic_unsafe_ref.specs.Places.{index_of}
-use Rattle.ic_link_ops.specs.Sequences.{first_or, first, last, IsAbsent, IsDistinct}
-use Rattle.ic_link_ops.specs.Tables.{Table, IsCovered}
+-- Doubly linked lists that are walked: the places that lead from the first member on, each back to the one before it.
+use Rattle.std.proofs.Common.{◌≡◌, ◌≤◌, Option, Some, None, List, [], ◌∷◌, ◌++◌, length, true, false, refl, sym, ap, ◌∙◌, arith}
+use Rattle.ic_link_ops.specs.Prelude.{Place, index_of, first_or, first, last, IsAbsent, IsDistinct, Table, IsCovered}
 use Rattle.ic_link_ops.specs.Chains.{Ends, IsChain}
 use Rattle.ic_link_ops.specs.EntryLaws.{linked_in_range}
+use Rattle.ic_link_ops.specs.Widths.{nameable}
 use Rattle.ic_link_ops.specs.LinkedList.{IsBetween}
 use Rattle.ic_link_ops.proofs.SequenceLemmas.{none_not, first_or-append, last_of_push}
 use Rattle.ic_link_ops.proofs.Chains.{chain_glue, chain_one}
 use Rattle.ic_link_ops.proofs.DoublyLists.{between_one}
-use Rattle.ic_raw.specs.declared.words.RawTwo.{RawTwo}
 use Rattle.ic_raw.specs.declared.table.RawTable.{RawTable}
-use Rattle.ic_raw.specs.Words.{no_words, is_linked_two}
+use Rattle.ic_raw.specs.LinkWords.{LinkWords, lent_table, neighbors}
 use Rattle.ic_raw.specs.Tables.{raw_entries}
-use Rattle.ic_raw.specs.Doubly.{Shows, lent_table, neighbors}
-
--- what is linked is covered
-pub covered : (t : RawTable RawTwo) (q : Place) → is_linked_two ((lent_table t).entry q) ≡ true → IsCovered (lent_table t) q
-covered t q on = linked_in_range is_linked_two no_words refl (raw_entries t) (index_of q) on
+use Rattle.ic_raw.specs.Doubly.{Represents}
 
 -- what has no first member has none
 pub nothing_first : (s : List Place) → first s ≡ None → s ≡ []
 nothing_first [] e = refl
 nothing_first (x ∷ s) e = absurd (none_not x (sym e))
 
--- A CHAIN THAT ENDS COMES TO NO PLACE TWICE: from there it would go on the same way, and end as soon
-module _ (t : Place → RawTwo) where
-  not_ahead : (b b' : Option Place) (x : Place) (w rest : List Place) → IsChain (IsBetween neighbors) t b (x ∷ w) None → IsChain (IsBetween neighbors) t b' rest None
-      → length rest ≤ length w → IsAbsent x rest
-  not_ahead b b' x w [] c k few = tt
-  not_ahead b b' x w (y ∷ rest) c k few = (
-    (λ e.
-        let one : b' ≡ b = sym k.0.prev ∙ ap (λ q. (neighbors (t q)).prev) (sym e) ∙ c.0.prev in
-        let same : x ∷ w ≡ y ∷ rest = chain_one (IsBetween neighbors) between_one t b (x ∷ w) (y ∷ rest) (ap Some e) c (rw one at k) in
-        omega (arith, ap length same, few)),
-    not_ahead b (Some y) x w rest c k.1 (omega (arith, few)),
-  )
+-- `words`: what the words of a place say, which have 8 bytes or 4
+module _ {W : Type 0} (words : LinkWords W) where
+  -- what is linked is covered
+  pub covered : words.is_linked words.unlinked ≡ false → (t : RawTable W) (q : Place) → words.is_linked ((lent_table words t).entry q) ≡ true → IsCovered (lent_table words t) q
+  covered starts t q on = linked_in_range words.is_linked words.unlinked starts (nameable words.width (raw_entries t)) (index_of q) on
 
-  pub ended_distinct : (b : Option Place) (w : List Place) → IsChain (IsBetween neighbors) t b w None → IsDistinct w
-  ended_distinct b [] c = tt
-  ended_distinct b (x ∷ w) c = (not_ahead b (Some x) x w w c c.1 (omega arith), ended_distinct (Some x) w c.1)
+  -- A CHAIN THAT ENDS COMES TO NO PLACE TWICE: from there it would go on the same way, and end as soon
+  module _ (t : Place → W) where
+    not_ahead : (b b' : Option Place) (x : Place) (w rest : List Place) → IsChain (IsBetween (neighbors words)) t b (x ∷ w) None → IsChain (IsBetween (neighbors words)) t b' rest None
+        → length rest ≤ length w → IsAbsent x rest
+    not_ahead b b' x w [] c k few = tt
+    not_ahead b b' x w (y ∷ rest) c k few = (
+      (λ e.
+          let one : b' ≡ b = sym k.0.prev ∙ ap (λ q. (neighbors words (t q)).prev) (sym e) ∙ c.0.prev in
+          let same : x ∷ w ≡ y ∷ rest = chain_one (IsBetween (neighbors words)) between_one t b (x ∷ w) (y ∷ rest) (ap Some e) c (rw one at k) in
+          omega (arith, ap length same, few)),
+      not_ahead b (Some y) x w rest c k.1 (omega (arith, few)),
+    )
 
--- THE PLACES FROM THE FIRST MEMBER ON LEAD TO `at`, in front of which `prev` stands: those that were walked
-pub record LeadsTo (t : Table RawTwo) (list : Ends) (prev : Option Place) (at : Place) : Type 0 where
-  pub walked : List Place
-  pub chain : IsChain (IsBetween neighbors) t.entry None walked (Some at)
-  pub starts : list.head ≡ first_or walked (Some at)
-  pub ends : prev ≡ last walked
+    pub ended_distinct : (b : Option Place) (w : List Place) → IsChain (IsBetween (neighbors words)) t b w None → IsDistinct w
+    ended_distinct b [] c = tt
+    ended_distinct b (x ∷ w) c = (not_ahead b (Some x) x w w c c.1 (omega arith), ended_distinct (Some x) w c.1)
 
-module _ {t : Table RawTwo} {list : Ends} {prev : Option Place} {at : Place} (leads : LeadsTo t list prev at) (linked : is_linked_two (t.entry at) ≡ true)
-    (follows : (neighbors (t.entry at)).prev ≡ prev) where
-  -- what is walked, with `at` itself, in front of what stands behind
-  chain_on : (next : Option Place) → (neighbors (t.entry at)).next ≡ next → IsChain (IsBetween neighbors) t.entry None (leads.walked ++ at ∷ []) next
-  chain_on next behind =
-      chain_glue (IsBetween neighbors) t.entry None leads.walked (at ∷ []) next leads.chain
-      (record { linked = linked; prev = follows ∙ leads.ends; next = behind }, tt)
+  -- THE PLACES FROM THE FIRST MEMBER ON LEAD TO `at`, before which `prev` stands: those that were walked
+  pub record LeadsTo (t : Table W) (list : Ends) (prev : Option Place) (at : Place) : Type 0 where
+    pub walked : List Place
+    pub chain : IsChain (IsBetween (neighbors words)) t.entry None walked (Some at)
+    pub starts : list.head ≡ first_or walked (Some at)
+    pub ends : prev ≡ last walked
 
-  starts_on : (next : Option Place) → list.head ≡ first_or (leads.walked ++ at ∷ []) next
-  starts_on next = leads.starts ∙ sym (first_or-append leads.walked (at ∷ []) next)
+  module _ {t : Table W} {list : Ends} {prev : Option Place} {at : Place} (leads : LeadsTo t list prev at) (linked : words.is_linked (t.entry at) ≡ true)
+      (follows : (neighbors words (t.entry at)).prev ≡ prev) where
+    -- what is walked, with `at` itself, before what stands after
+    chain_on : (next : Option Place) → (neighbors words (t.entry at)).next ≡ next → IsChain (IsBetween (neighbors words)) t.entry None (leads.walked ++ at ∷ []) next
+    chain_on next behind =
+        chain_glue (IsBetween (neighbors words)) t.entry None leads.walked (at ∷ []) next leads.chain
+        (record { linked = linked; prev = follows ∙ leads.ends; next = behind }, tt)
 
-  -- they lead on to what stands behind it,
-  pub leads_on : {next : Place} → (neighbors (t.entry at)).next ≡ Some next → LeadsTo t list (Some at) next
-  leads_on {next} behind = record {
-    walked = leads.walked ++ at ∷ [];
-    chain = chain_on (Some next) behind;
-    starts = starts_on (Some next);
-    ends = sym (last_of_push leads.walked at);
-  }
+    starts_on : (next : Option Place) → list.head ≡ first_or (leads.walked ++ at ∷ []) next
+    starts_on next = leads.starts ∙ sym (first_or-append leads.walked (at ∷ []) next)
 
-  -- and where nothing does, and it is the last member of the list, they are all of it
-  pub ends_there : (neighbors (t.entry at)).next ≡ None → list.tail ≡ Some at → (s : List Place) × Shows t list s
-  ends_there behind tail =
-      let chain = chain_on None behind in (
-        leads.walked ++ at ∷ [],
-        record {
-          distinct = ended_distinct t.entry None (leads.walked ++ at ∷ []) chain;
-          chain = chain;
-          head = starts_on None;
-          tail = tail ∙ sym (last_of_push leads.walked at);
-        },
-      )
+    -- they lead on to what stands after it,
+    pub leads_on : {next : Place} → (neighbors words (t.entry at)).next ≡ Some next → LeadsTo t list (Some at) next
+    leads_on {next} behind = record {
+      walked = leads.walked ++ at ∷ [];
+      chain = chain_on (Some next) behind;
+      starts = starts_on (Some next);
+      ends = sym (last_of_push leads.walked at);
+    }
+
+    -- and where nothing does, and it is the last member of the list, they are all of it
+    pub ends_there : (neighbors words (t.entry at)).next ≡ None → list.tail ≡ Some at → (s : List Place) × Represents words t list s
+    ends_there behind tail =
+        let chain = chain_on None behind in (
+          leads.walked ++ at ∷ [],
+          record {
+            distinct = ended_distinct t.entry None (leads.walked ++ at ∷ []) chain;
+            chain = chain;
+            head = starts_on None;
+            tail = tail ∙ sym (last_of_push leads.walked at);
+          },
+        )

@@ -1,12 +1,10 @@
 -- The words of a table as they are written.
 use Rattle.std.proofs.Common.{◌≡◌, ℕ, List, Bool, true, false, Option, slice_set, slice_index_or, ◌+◌, ◌%◌, ◌<◌, length, nat_eq, eqb-true, eq-eqb, sym, ap, ◌∙◌, arith}
 use Rattle.std.proofs.lemmas.List.{length-set}
-use Rattle.ic_unsafe_ref.specs.declared.place.Place.{Place}
+use Rattle.ic_link_ops.specs.Prelude.{Place, index_of, word_of, place_at, ChangesOnly, IsNameable}
 use Rattle.ic_unsafe_ref.specs.PlaceWords.{IsWord}
-use Rattle.ic_unsafe_ref.specs.Places.{index_of, word_of, place_at}
 use Rattle.ic_unsafe_ref.proofs.PlaceLemmas.{place_at_word, word_at, word_fits}
 use Rattle.ic_link_ops.specs.PlainTables.{entry_at, table_with}
-use Rattle.ic_link_ops.specs.Tables.{ChangesOnly, IsNameable}
 use Rattle.ic_link_ops.specs.Widths.{Width, narrow, HasRoom, nameable}
 use Rattle.ic_link_ops.specs.EntryLaws.{linked_in_range}
 use Rattle.ic_link_ops.proofs.EntryLemmas.{entry_same, entry_read, others_same}
@@ -50,7 +48,7 @@ narrow_place_kept p room =
     let same : narrow_number_in (word_of p) ≡ word_of p = omega (arith, fits.0, fits.1, small) in
     ap place_at same ∙ place_at_word p
 
--- a word as a call writes it names its place: that of a place alone, and that of what is behind a linked one
+-- a word as a call writes it names its place: that of a place alone, and that of what is after a linked one
 pub named : (v : ℕ) (place : Option Place) → v ≡ word_of place → place_in v ≡ place
 named v place e = ap place_in e ∙ place_kept place
 
@@ -61,18 +59,31 @@ named_marked v next e =
     let marked : v % 2 ≡ 1 = omega (arith, e, fits.0, fits.1) in
     (eq-eqb (v % 2) 1 marked, ap place_at number ∙ place_at_word next)
 
--- one comparison tells that a word is marked, and which place it names
-pub is_led : (v : ℕ) (next : Option Place) → number_in v + v % 2 ≡ word_of next + 1 → (nat_eq (v % 2) 1 ≡ true) × (place_in v ≡ next)
-is_led v next same =
+pub narrow_named : (v : ℕ) (place : Option Place) → v < 4294967296 → v ≡ word_of place → narrow_place_in v ≡ place
+narrow_named v place small e =
+    let fits = word_fits place in
+    let number : narrow_number_in v ≡ word_of place = omega (arith, e, small, fits.0, fits.1) in
+    ap place_at number ∙ place_at_word place
+
+pub narrow_named_marked : (v : ℕ) (next : Option Place) → v < 4294967296 → v ≡ word_of next + 1 → (nat_eq (v % 2) 1 ≡ true) × (narrow_place_in v ≡ next)
+narrow_named_marked v next small e =
     let fits = word_fits next in
-    let marked : v % 2 ≡ 1 = omega (arith, same, fits.0, fits.1) in
-    let number : number_in v ≡ word_of next = omega (arith, same, fits.0, fits.1) in
+    let number : narrow_number_in v ≡ word_of next = omega (arith, e, small, fits.0, fits.1) in
+    let marked : v % 2 ≡ 1 = omega (arith, e, fits.0, fits.1) in
     (eq-eqb (v % 2) 1 marked, ap place_at number ∙ place_at_word next)
 
-pub leads : (v : ℕ) (next : Option Place) → nat_eq (v % 2) 1 ≡ true → next ≡ place_in v → number_in v + v % 2 ≡ word_of next + 1
-leads v next marked is =
+-- ONE COMPARISON TELLS that a word is marked, and which place it names: n is the number that it keeps
+pub is_led : (v n : ℕ) (next : Option Place) → IsWord n → n + v % 2 ≡ word_of next + 1 → (nat_eq (v % 2) 1 ≡ true) × (place_at n ≡ next)
+is_led v n next even same =
+    let fits = word_fits next in
+    let marked : v % 2 ≡ 1 = omega (arith, same, even.1, fits.1) in
+    let number : n ≡ word_of next = omega (arith, same, marked) in
+    (eq-eqb (v % 2) 1 marked, ap place_at number ∙ place_at_word next)
+
+pub leads : (v n : ℕ) (next : Option Place) → IsWord n → nat_eq (v % 2) 1 ≡ true → next ≡ place_at n → n + v % 2 ≡ word_of next + 1
+leads v n next even marked is =
     let one : v % 2 ≡ 1 = eqb-true (v % 2) 1 marked in
-    let number : number_in v ≡ word_of next = sym (ap word_of is ∙ number_read v) in
+    let number : n ≡ word_of next = sym (ap word_of is ∙ word_at n even) in
     omega (arith, one, number)
 
 -- two places with the same word are one

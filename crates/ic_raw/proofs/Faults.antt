@@ -1,12 +1,10 @@
 -- Why a call is refused, as it tests one place after another.
 use Rattle.std.proofs.Common.{◌≡◌, ◌≢◌, ℕ, zero, suc, Bool, cond, nat_lt, List, [], ◌∷◌, Option, Some, None, refl, sym, ap, subst, ◌∙◌}
-use Rattle.ic_unsafe_ref.specs.declared.place.Place.{Place}
-use Rattle.ic_unsafe_ref.specs.Places.{index_of}
+use Rattle.ic_link_ops.specs.Prelude.{Place, index_of, Table}
 use Rattle.ic_link_ops.specs.PlainTables.{table_of}
-use Rattle.ic_link_ops.specs.Tables.{Table}
 use Rattle.ic_raw.specs.declared.table.RawTable.{RawTable}
 use Rattle.ic_raw.specs.Answers.{refusal}
-use Rattle.ic_raw.specs.Gaps.{Stands}
+use Rattle.ic_raw.specs.Gaps.{IsNoneOrLinked}
 use Rattle.ic_link_ops.specs.Widths.{Width, nameable}
 use Rattle.ic_raw.specs.Tables.{nameable_table, member_fault, place_fault}
 use Rattle.ic_raw.specs.Words.{place_of}
@@ -22,7 +20,7 @@ pub by_others : {n m : ℕ} (faults : List ℕ) → n ≡ m → n ≡ 0 → refu
 by_others {n} {m} faults e none = ap (λ k. refusal (k ∷ faults)) (sym none ∙ e)
 
 -- what stands has no fault
-pub faultless : {W : Type 0} (is_linked : W → Bool) (t : Table W) (at : Option Place) → Stands is_linked t at → member_fault is_linked t at ≡ 0
+pub faultless : {W : Type 0} (is_linked : W → Bool) (t : Table W) (at : Option Place) → IsNoneOrLinked is_linked t at → member_fault is_linked t at ≡ 0
 faultless is_linked t None stands = refl
 faultless is_linked t (Some p) stands = ap (λ b. cond b 0 (cond (nat_lt (index_of p) t.extent.places) 3 1)) (stands p refl)
 

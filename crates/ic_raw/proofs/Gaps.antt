@@ -1,7 +1,6 @@
 -- Gaps, as calls find them.
 use Rattle.std.proofs.Common.{◌≡◌, ◌≢◌, ◌↔◌, ℕ, Option, Some, Bool, true, false, not, refl, sym, ◌∙◌, subst}
-use Rattle.ic_unsafe_ref.specs.declared.place.Place.{Place}
-use Rattle.ic_link_ops.specs.Sequences.{Cut, first, last}
+use Rattle.ic_link_ops.specs.Prelude.{Place, Cut, first, last}
 use Rattle.ic_raw.specs.declared.gap.Gap.{Gap}
 use Rattle.ic_raw.specs.declared.status.TheConstants.{OK}
 use Rattle.ic_raw.specs.Gaps.{BeginApart, gap_of}
@@ -30,12 +29,12 @@ is_not true off = absurd (off refl)
 is_not false off = refl
 
 -- A TEST TELLS `Seen` of a view, which is `Found` of the words: a call is accepted if it succeeds, and refused if it fails
-module _ {made : Bool} {Seen Found : Type 0} (told : (made ≡ true) ↔ Seen) (same : Seen ↔ Found) {status : ℕ} where
+module _ {made : Bool} {Seen Found : Type 0} (links_back : (made ≡ true) ↔ Seen) (same : Seen ↔ Found) {status : ℕ} where
   pub accepts : made ≡ true → status ≡ OK → (status ≡ OK) ↔ Found
-  accepts on ok = ((λ e. same.0 (told.0 on)), (λ found. ok))
+  accepts on ok = ((λ e. same.0 (links_back.0 on)), (λ found. ok))
 
   pub refuses : made ≡ false → status ≢ OK → (status ≡ OK) ↔ Found
-  refuses off other = ((λ e. absurd (other e)), (λ found. absurd (never off (told.1 (same.1 found)))))
+  refuses off other = ((λ e. absurd (other e)), (λ found. absurd (never off (links_back.1 (same.1 found)))))
 
 -- what is the same one by one is the same together
 pub both : {A B C D : Type 0} → A ↔ B → C ↔ D → (A × C) ↔ (B × D)

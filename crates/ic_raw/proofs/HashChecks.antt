@@ -2,25 +2,22 @@
 use Rattle.std.proofs.Common.{◌≡◌, ◌≢◌, ◌<◌, ◌≤◌, ◌+◌, ℕ, zero, suc, inl, inr, Bool, true, Option, Some, None, List, [], ◌∷◌, ◌++◌, drop, length, length-append, refl, sym, ap, ◌∙◌, subst, arith}
 use Rattle.std.specs.List.{AllByRecursion}
 use Rattle.std.proofs.lemmas.Bool.Decides.{eqb_tells}
-use Rattle.ic_unsafe_ref.specs.declared.place.Place.{Place}
-use Rattle.ic_unsafe_ref.specs.Places.{index_of}
+use Rattle.ic_link_ops.specs.Prelude.{Place, index_of, first_or, IsAbsent, IsDistinct, IsDisjoint, Table}
 use Rattle.ic_link_ops.specs.Chains.{IsChain}
 use Rattle.ic_link_ops.specs.EntryLaws.{linked_in_range}
-use Rattle.ic_link_ops.specs.Sequences.{first_or, IsAbsent, IsDistinct, IsDisjoint}
 use Rattle.ic_link_ops.specs.SinglyLinkedList.{IsFollowed, list_from, successor_at, members_from}
-use Rattle.ic_link_ops.specs.Tables.{Table}
 use Rattle.ic_link_ops.proofs.Chains.{chain_glue}
 use Rattle.ic_link_ops.proofs.Each.{all_back, all_both, all_map}
 use Rattle.ic_link_ops.proofs.SequenceLemmas.{first_or-append, distinct_splice, disjoint_sym}
-use Rattle.ic_link_ops.proofs.SinglyLists.{members_shown}
+use Rattle.ic_link_ops.proofs.SinglyLists.{members_represented}
 use Rattle.ic_link_ops.proofs.Walks.{few_places}
-use Rattle.ic_check.specs.Checked.{IsShown, ShowsNone}
+use Rattle.ic_check.specs.Checked.{IsRepresented, RepresentsNone}
 use Rattle.ic_raw.specs.declared.words.RawFront.{RawFront}
 use Rattle.ic_raw.specs.declared.words.RawOne.{RawOne}
 use Rattle.ic_raw.specs.CheckCalls.{BelongsIn, HoldsByHash, IsOwnChain, members_of}
 use Rattle.ic_raw.specs.Hash.{slot_of, bucket_at}
 use Rattle.ic_raw.specs.Keys.{key_of}
-use Rattle.ic_raw.specs.Singly.{Shows, front_of, list_of, successor, table_of}
+use Rattle.ic_raw.specs.Singly.{Represents, front_of, list_of, successor, table_of}
 use Rattle.ic_raw.specs.Words.{is_linked_one, no_word}
 use Rattle.ic_raw.proofs.HashWalks.{Comes, comes_parts}
 use Rattle.ic_raw.proofs.Singly.{ended_distinct}
@@ -49,7 +46,7 @@ module _ {Own : Place → Type 0} {t : Table RawOne} where
 
   -- where they end they are a list
   pub own_ended : {front : Option Place} {count : ℕ} → WalksOwn Own t front None count
-      → (s : List Place) × Shows t (list_from front) s × AllByRecursion Own s × (length s ≡ count)
+      → (s : List Place) × Represents t (list_from front) s × AllByRecursion Own s × (length s ≡ count)
   own_ended k = (
     k.walked,
     record { distinct = ended_distinct t.entry None k.walked k.chain; chain = k.chain; head = k.starts; tail = refl },
@@ -109,14 +106,14 @@ all_distinct hashes buckets chains (suc i) each own =
 module _ {words : List RawOne} {hashes : List ℕ} {buckets : List RawFront} where
   chain_is : (i : ℕ) (s : List Place) → IsOwnChain words hashes buckets i s → chain_in words hashes buckets i ≡ s
   chain_is i s own =
-      members_shown (table_of words) (λ q on. linked_in_range is_linked_one no_word refl words (index_of q) on) (list_of (bucket_at buckets i)) s own.shown
+      members_represented (table_of words) (λ q on. linked_in_range is_linked_one no_word refl words (index_of q) on) (list_of (bucket_at buckets i)) s own.shown
 
   pub checks_none : ChecksOwn words hashes buckets 0 0
   checks_none = record { each = λ j fits. absurd (omega (arith, fits)); counted = refl }
 
   module _ {i count : ℕ} (k : ChecksOwn words hashes buckets i count) where
     -- ONE CHAIN MORE
-    one_more : {n more : ℕ} → IsShown (IsOwnChain words hashes buckets i) n → more ≡ count + n → ChecksOwn words hashes buckets (suc i) more
+    one_more : {n more : ℕ} → IsRepresented (IsOwnChain words hashes buckets i) n → more ≡ count + n → ChecksOwn words hashes buckets (suc i) more
     one_more {n} {more} (s, own, many) counts =
         let here = chain_is i s own in record {
           each = λ j fits. elim (eqb_tells j i) [
@@ -129,12 +126,12 @@ module _ {words : List RawOne} {hashes : List ℕ} {buckets : List RawFront} whe
               (arith, counts, k.counted, many, ap length here, length-append (members_of (chain_in words hashes buckets) i) (chain_in words hashes buckets i));
         }
 
-    pub checks_more : {n more next : ℕ} → IsShown (IsOwnChain words hashes buckets i) n → more ≡ count + n → suc i ≡ next
+    pub checks_more : {n more next : ℕ} → IsRepresented (IsOwnChain words hashes buckets i) n → more ≡ count + n → suc i ≡ next
         → ChecksOwn words hashes buckets next more
     checks_more {more = more} shown counts is_next = subst (λ (j : ℕ). ChecksOwn words hashes buckets j more) is_next (one_more shown counts)
 
     -- few members are in all of them
-    pub few_checked : {n : ℕ} → IsShown (IsOwnChain words hashes buckets i) n → count + n ≤ 8589934591
+    pub few_checked : {n : ℕ} → IsRepresented (IsOwnChain words hashes buckets i) n → count + n ≤ 8589934591
     few_checked {n} shown =
         let more : ChecksOwn words hashes buckets (suc i) (count + n) = one_more shown refl in
         let few = few_places (members_of (chain_in words hashes buckets) (suc i))
@@ -142,7 +139,7 @@ module _ {words : List RawOne} {hashes : List ℕ} {buckets : List RawFront} whe
         omega (arith, few, more.counted)
 
     -- ALL OF THEM ARE CHECKED
-    pub checks_all : i ≡ length buckets → IsShown (HoldsByHash words hashes buckets) count
+    pub checks_all : i ≡ length buckets → IsRepresented (HoldsByHash words hashes buckets) count
     checks_all over =
         let each : (j : ℕ) → j < length buckets → IsOwnChain words hashes buckets j (chain_in words hashes buckets j) = λ j fits. k.each j (omega (arith, fits, over)) in (
           members_of (chain_in words hashes buckets) (length buckets),
@@ -161,5 +158,5 @@ module _ {words : List RawOne} {hashes : List ℕ} {buckets : List RawFront} whe
         )
 
     -- none is held where the next chain is none, or has a member that belongs elsewhere
-    pub not_held : i < length buckets → ShowsNone (IsOwnChain words hashes buckets i) → ShowsNone (HoldsByHash words hashes buckets)
+    pub not_held : i < length buckets → RepresentsNone (IsOwnChain words hashes buckets i) → RepresentsNone (HoldsByHash words hashes buckets)
     not_held within never s held = never (held.chains i) (record { shown = held.holds.shown i within; own = held.own i within })

@@ -2,16 +2,14 @@
 use Rattle.std.proofs.Common.{◌≡◌, ◌≢◌, ◌<◌, ◌%◌, ℕ, inl, inr, None, List, ◌∷◌, ◌++◌, length, slice_index_or, slice_set, sym, ap, subst, ◌∙◌}
 use Rattle.std.proofs.lemmas.List.{length-set, get_or-set_same, get_or-set_other, get_or_default}
 use Rattle.std.proofs.lemmas.Bool.Decides.{eqb_tells}
-use Rattle.ic_unsafe_ref.specs.declared.place.Place.{Place}
+use Rattle.ic_link_ops.specs.Prelude.{Place, IsDisjoint, ChangesOnlyIn}
 use Rattle.ic_link_ops.specs.NumberedCollections.{with_at}
-use Rattle.ic_link_ops.specs.Sequences.{IsDisjoint}
-use Rattle.ic_link_ops.specs.Tables.{KeepsBeside}
 use Rattle.ic_link_ops.proofs.SequenceLemmas.{disjoint_sym, disjoint_cons, disjoint_remove}
-use Rattle.ic_link_ops.proofs.ShownLists.{shows_frame, free_absent}
+use Rattle.ic_link_ops.proofs.RepresentedLists.{represents_frame, free_absent}
 use Rattle.ic_raw.specs.declared.words.RawOne.{RawOne}
 use Rattle.ic_raw.specs.declared.words.RawFront.{RawFront}
 use Rattle.ic_raw.specs.Hash.{slot_of, bucket_at, chain_of, HoldsChains, ChangesOnlyChain}
-use Rattle.ic_raw.specs.Singly.{ShowsList, FreeIn, table_of, word_of_front}
+use Rattle.ic_raw.specs.Singly.{RepresentsList, FreeIn, table_of, word_of_front}
 use Rattle.ic_raw.proofs.Singly.{law}
 
 -- ONE BUCKET IS READ AND WRITTEN: that of the hash
@@ -33,16 +31,16 @@ module _ (buckets : List RawFront) (hash i : ℕ) (at : i ≡ slot_of buckets ha
 module _ {old new : List RawOne} {buckets buckets' : List RawFront} {chains : ℕ → List Place} (holds : HoldsChains old buckets chains) (hash : ℕ)
     (within : slot_of buckets hash < length buckets) (changes : ChangesOnlyChain buckets buckets' hash) where
   -- ONE CHAIN IS ANOTHER, and nothing but entries of `touched` has changed: no other chain has a member of either
-  pub holds_again : (after touched : List Place) → ShowsList new (chain_of buckets' hash) after → KeepsBeside (table_of old) (table_of new) touched
+  pub holds_again : (after touched : List Place) → RepresentsList new (chain_of buckets' hash) after → ChangesOnlyIn (table_of old) (table_of new) touched
       → ((i : ℕ) → i < length buckets → i ≢ slot_of buckets hash → IsDisjoint (chains i) touched × IsDisjoint (chains i) after)
       → HoldsChains new buckets' (with_at chains (slot_of buckets hash) after)
   holds_again after touched shows frame away = record {
     shown = λ i fits. elim (eqb_tells (slot_of buckets hash) i) [
-      | inl e ↦ rw e.0 (subst (λ j. ShowsList new (bucket_at buckets' j) after) (ap (λ n. hash % n) changes.count ∙ e.1) shows)
+      | inl e ↦ rw e.0 (subst (λ j. RepresentsList new (bucket_at buckets' j) after) (ap (λ n. hash % n) changes.count ∙ e.1) shows)
       | inr n ↦
           let other : i ≢ slot_of buckets hash = λ e. n.1 (sym e) in
           let there = rw changes.count at fits in
-          rw (n.0, changes.others i other) (shows_frame touched (holds.shown i there) (away i there other).0 frame.others)
+          rw (n.0, changes.others i other) (represents_frame touched (holds.shown i there) (away i there other).0 frame.others)
     ];
     apart = λ i j fits fits' differ. elim (eqb_tells (slot_of buckets hash) i) [
       | inl e ↦ elim (eqb_tells (slot_of buckets hash) j) [
@@ -57,16 +55,16 @@ module _ {old new : List RawOne} {buckets buckets' : List RawFront} {chains : �
   }
 
   -- INSERT: a place that is free is in no chain
-  pub holds_inserted : (p : Place) → FreeIn old p → ShowsList new (chain_of buckets' hash) (p ∷ chains (slot_of buckets hash))
-      → KeepsBeside (table_of old) (table_of new) (p ∷ chains (slot_of buckets hash))
+  pub holds_inserted : (p : Place) → FreeIn old p → RepresentsList new (chain_of buckets' hash) (p ∷ chains (slot_of buckets hash))
+      → ChangesOnlyIn (table_of old) (table_of new) (p ∷ chains (slot_of buckets hash))
       → HoldsChains new buckets' (with_at chains (slot_of buckets hash) (p ∷ chains (slot_of buckets hash)))
   holds_inserted p free shows frame = holds_again (p ∷ chains (slot_of buckets hash)) (p ∷ chains (slot_of buckets hash)) shows frame (λ i fits other.
       let away = disjoint_cons p (chains i) (chains (slot_of buckets hash)) (free_absent law (holds.shown i fits) free.unlinked) (holds.apart i (slot_of buckets hash) fits within other) in
       (away, away))
 
   -- REMOVE
-  pub holds_removed : (front back : List Place) (p : Place) → chains (slot_of buckets hash) ≡ front ++ p ∷ back → ShowsList new (chain_of buckets' hash) (front ++ back)
-      → KeepsBeside (table_of old) (table_of new) (front ++ p ∷ back) → HoldsChains new buckets' (with_at chains (slot_of buckets hash) (front ++ back))
+  pub holds_removed : (front back : List Place) (p : Place) → chains (slot_of buckets hash) ≡ front ++ p ∷ back → RepresentsList new (chain_of buckets' hash) (front ++ back)
+      → ChangesOnlyIn (table_of old) (table_of new) (front ++ p ∷ back) → HoldsChains new buckets' (with_at chains (slot_of buckets hash) (front ++ back))
   holds_removed front back p is shows frame = holds_again (front ++ back) (front ++ p ∷ back) shows frame (λ i fits other.
       let away : IsDisjoint (chains i) (front ++ p ∷ back) = rw (← is) (holds.apart i (slot_of buckets hash) fits within other) in
       (away, disjoint_sym (front ++ back) (chains i) (disjoint_remove front back (chains i) p (disjoint_sym (chains i) (front ++ p ∷ back) away))))

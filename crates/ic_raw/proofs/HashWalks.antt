@@ -2,17 +2,15 @@
 use Rattle.std.proofs.Common.{◌≡◌, ◌≢◌, ◌≤◌, ◌-◌, ℕ, inl, inr, Bool, true, false, Option, Some, None, List, [], ◌∷◌, ◌++◌, drop, length, length-append, append_assoc, refl, sym, ap, ◌∙◌, subst, arith}
 use Rattle.std.specs.List.{AllByRecursion}
 use Rattle.std.proofs.lemmas.Bool.Decides.{eqb_tells}
-use Rattle.ic_unsafe_ref.specs.declared.place.Place.{Place}
-use Rattle.ic_link_ops.specs.Sequences.{first, last, but_last, IsDistinct, IsMember}
-use Rattle.ic_link_ops.specs.Tables.{Table, IsCovered, IsLinked}
+use Rattle.ic_link_ops.specs.Prelude.{Place, first, last, but_last, IsDistinct, IsMember, Table, IsCovered, IsLinked}
 use Rattle.ic_link_ops.specs.Chains.{IsChain}
 use Rattle.ic_link_ops.specs.SinglyLinkedList.{Front, IsFollowed, list_from, successor_at}
 use Rattle.ic_link_ops.specs.PlainTables.{entry_at}
 use Rattle.ic_link_ops.proofs.Chains.{chain_cut}
 use Rattle.ic_link_ops.proofs.Clearing.{next_between, releases_all}
 use Rattle.ic_link_ops.proofs.SequenceLemmas.{distinct_right, first_is, same_gap, last_of_push, but_last_of_push, split_member}
-use Rattle.ic_link_ops.proofs.ShownLists.{shows_middle}
-use Rattle.ic_link_ops.proofs.SinglyLists.{shown_length}
+use Rattle.ic_link_ops.proofs.RepresentedLists.{represents_middle}
+use Rattle.ic_link_ops.proofs.SinglyLists.{represented_length}
 use Rattle.ic_hash_table.specs.Searches.{is_place, Finds}
 use Rattle.ic_hash_table.proofs.ChainWalks.{HasPassed, passed_none, passed_more}
 use Rattle.ic_hash_table.proofs.FoundMembers.{place_absent}
@@ -20,10 +18,10 @@ use Rattle.ic_raw.specs.declared.words.RawOne.{RawOne}
 use Rattle.ic_raw.specs.declared.table.RawTable.{RawTable}
 use Rattle.ic_raw.specs.Hash.{has_key, NamesKey}
 use Rattle.ic_raw.specs.Keys.{key_of}
-use Rattle.ic_raw.specs.Singly.{LeadsFrom, Shows, lent_table, successor}
+use Rattle.ic_raw.specs.Singly.{LeadsFrom, Represents, lent_table, successor}
 use Rattle.ic_raw.specs.Tables.{raw_entries}
 use Rattle.ic_raw.specs.Words.{is_linked_one, no_word, HasNumber}
-use Rattle.ic_raw.proofs.Singly.{behind_any, ended_distinct, leads_on, ends_there}
+use Rattle.ic_raw.proofs.Singly.{after_any, ended_distinct, leads_on, ends_there}
 
 -- THE WALK HAS COME to `current`, past members of s that fail a test, of which `before` is the last. No more members are left than steps
 pub record Comes (is : Place → Bool) (t : Table RawOne) (s : List Place) (before current : Option Place) (left : ℕ) : Type 0 where
@@ -39,12 +37,12 @@ none_left [] few = refl
 none_left (x ∷ w) few = absurd (omega (arith, few))
 
 module _ {is : Place → Bool} {t : Table RawOne} {s : List Place} where
-  pub comes_first : {front : Option Place} → ((q : Place) → is_linked_one (t.entry q) ≡ true → IsCovered t q) → Shows t (list_from front) s
+  pub comes_first : {front : Option Place} → ((q : Place) → is_linked_one (t.entry q) ≡ true → IsCovered t q) → Represents t (list_from front) s
       → Comes is t s None front t.extent.places
   comes_first covered shown =
       let k = passed_none shown.chain shown.head in record {
         passed = k.0;
-        few = omega (arith, k.1, ap length k.0.walk.parts, length-append k.0.walk.done k.0.walk.rest, shown_length t covered _ s shown);
+        few = omega (arith, k.1, ap length k.0.walk.parts, length-append k.0.walk.done k.0.walk.rest, represented_length t covered _ s shown);
       }
 
   module _ {before : Option Place} {p : Place} {left : ℕ} (k : Comes is t s before (Some p) left) where
@@ -52,7 +50,7 @@ module _ {is : Place → Bool} {t : Table RawOne} {s : List Place} where
     pub comes_linked : is_linked_one (t.entry p) ≡ true
     comes_linked = (next_between k.passed.walk).linked
 
-    -- and in front of it stand those that fail
+    -- and before it stand those that fail
     pub comes_parts : s ≡ k.passed.walk.done ++ p ∷ drop 1 k.passed.walk.rest
     comes_parts = k.passed.walk.parts ∙ ap (λ (l : List Place). k.passed.walk.done ++ l) (first_is k.passed.walk.rest k.passed.walk.at)
 
@@ -78,10 +76,10 @@ module _ {t : Table RawOne} (member : Place) where
   pub met : {s : List Place} {before : Option Place} {p : Place} {left : ℕ} → Comes (is_place member) t s before (Some p) left → p ≡ member → IsMember member s
   met k same = subst (IsMember member) (sym (comes_parts k ∙ ap (λ (q : Place). k.passed.walk.done ++ q ∷ drop 1 k.passed.walk.rest) same)) (split_member k.passed.walk.done member (drop 1 k.passed.walk.rest))
 
-  -- behind the last of those in front of it,
-  pub met_behind : (ahead back : List Place) {before : Option Place} {p : Place} {left : ℕ} → IsDistinct (ahead ++ member ∷ back)
+  -- after the last of those before it,
+  pub met_after : (ahead back : List Place) {before : Option Place} {p : Place} {left : ℕ} → IsDistinct (ahead ++ member ∷ back)
       → Comes (is_place member) t (ahead ++ member ∷ back) before (Some p) left → p ≡ member → before ≡ last ahead
-  met_behind ahead back d k same =
+  met_after ahead back d k same =
       let done = k.passed.walk.done in
       let rest = drop 1 k.passed.walk.rest in
       let whole : ahead ++ member ∷ back ≡ done ++ member ∷ rest = comes_parts k ∙ ap (λ (q : Place). done ++ q ∷ rest) same in
@@ -95,28 +93,28 @@ module _ {t : Table RawOne} (member : Place) where
   pub not_missed : (ahead back : List Place) {before current : Option Place} {left : ℕ} → Comes (is_place member) t (ahead ++ member ∷ back) before current left → current ≡ None → ⊥
   not_missed ahead back k over = split_member ahead member back (place_absent member (ahead ++ member ∷ back) (comes_to_none k over))
 
--- BEHIND A MEMBER stands a list of its own: no entry says what stands in front of its place
-pub shown_behind : {t : Table RawOne} {list : Front} (front : List Place) (p : Place) (back : List Place) → Shows t list (front ++ p ∷ back)
-    → Shows t (list_from (successor_at successor t p).next) back
-shown_behind {t} front p back shown =
-    let m = shows_middle front back shown in
+-- BEHIND A MEMBER stands a list of its own: no entry says what stands before its place
+pub represented_after : {t : Table RawOne} {list : Front} (front : List Place) (p : Place) (back : List Place) → Represents t list (front ++ p ∷ back)
+    → Represents t (list_from (successor_at successor t p).next) back
+represented_after {t} front p back shown =
+    let m = represents_middle front back shown in
     record {
       distinct = (distinct_right front (p ∷ back) shown.distinct).1;
-      chain = behind_any t.entry (Some p) None back None (chain_cut (IsFollowed successor) t.entry None front (p ∷ back) None shown.chain).1.1;
+      chain = after_any t.entry (Some p) None back None (chain_cut (IsFollowed successor) t.entry None front (p ∷ back) None shown.chain).1.1;
       head = m.next;
       tail = refl;
     }
 
--- and where the places behind a linked one are a list, they are one with it in front
-pub shown_from : {t : Table RawOne} (p : Place) (s : List Place) → is_linked_one (t.entry p) ≡ true → Shows t (list_from (successor_at successor t p).next) s
-    → Shows t (list_from (Some p)) (p ∷ s)
-shown_from {t} p s linked shown =
-    let chain : IsChain (IsFollowed successor) t.entry None (p ∷ s) None = (record { linked = linked; next = shown.head }, behind_any t.entry None (Some p) s None shown.chain) in
+-- and where the places after a linked one are a list, they are one with it at the front
+pub represented_from : {t : Table RawOne} (p : Place) (s : List Place) → is_linked_one (t.entry p) ≡ true → Represents t (list_from (successor_at successor t p).next) s
+    → Represents t (list_from (Some p)) (p ∷ s)
+represented_from {t} p s linked shown =
+    let chain : IsChain (IsFollowed successor) t.entry None (p ∷ s) None = (record { linked = linked; next = shown.head }, after_any t.entry None (Some p) s None shown.chain) in
     record { distinct = ended_distinct t.entry None (p ∷ s) chain; chain = chain; head = refl; tail = refl }
 
 -- THE PLACES FROM `front` ON LEAD TO `current`, and where that is none they are a list
 abbrev pub WalksTo : Table RawOne → Option Place → Option Place → Type 0
-WalksTo t front None = (s : List Place) × Shows t (list_from front) s
+WalksTo t front None = (s : List Place) × Represents t (list_from front) s
 WalksTo t front (Some at) = LeadsFrom t front at
 
 pub walks_first : (t : Table RawOne) (front : Option Place) → WalksTo t front front

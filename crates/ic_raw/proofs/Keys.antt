@@ -3,17 +3,13 @@ use Rattle.std.proofs.Common.{◌≡◌, ◌≢◌, ℕ, ◌+◌, ◌<◌, ◌�
 use Rattle.std.proofs.lemmas.Bool.{ltb-true, lt-ltb, le-ltb}
 use Rattle.std.specs.Ordering.{is_eq, is_lt, is_ge}
 use Rattle.std.specs.declared.cmp.Ordering.{Ordering}
-use Rattle.ic_unsafe_ref.specs.declared.place.Place.{Place}
-use Rattle.ic_unsafe_ref.specs.Objects.{is_placed, at_indexes}
-use Rattle.ic_unsafe_ref.specs.Places.{index_of}
+use Rattle.ic_link_ops.specs.Prelude.{Place, index_of, is_placed, at_indexes, Cut, join, first, Table, IsCovered}
 use Rattle.ic_unsafe_ref.proofs.IndexLemmas.{placed_in_range}
 use Rattle.ic_link_ops.specs.declared.side.Side.{Side}
 use Rattle.ic_link_ops.specs.declared.side.Side.TheVariants.{Left, Right}
 use Rattle.ic_link_ops.proofs.SequenceLemmas.{some_same, none_not}
-use Rattle.ic_link_ops.specs.Sequences.{Cut, join, first}
 use Rattle.ic_link_ops.specs.Frames.{child_on}
 use Rattle.ic_link_ops.specs.PlainTables.{entry_at}
-use Rattle.ic_link_ops.specs.Tables.{Table, IsCovered}
 use Rattle.ic_link_ops.specs.RedBlackTree as trees
 use Rattle.ic_link_ops.specs.Trees.{Tree}
 use Rattle.ic_rbtree.specs.Closed.{AreIn}
@@ -28,15 +24,15 @@ use Rattle.ic_raw.specs.declared.words.RawThree.{RawThree}
 use Rattle.ic_raw.specs.declared.search.Way.{Way}
 use Rattle.ic_raw.specs.declared.search.Target.{Target}
 use Rattle.ic_raw.specs.declared.search.Target.TheVariants.{Equal, AtLeast, AtMost}
-use Rattle.ic_raw.specs.Gaps.{Stands}
+use Rattle.ic_raw.specs.Gaps.{IsNoneOrLinked}
 use Rattle.ic_raw.specs.Keys.{keys_fault, at_root, past, EndsIn, HasTurned, IsTarget, LeadsDown, NamesTarget, SearchEnds}
 use Rattle.ic_raw.specs.declared.nodes.Seen.{Seen}
 use Rattle.ic_raw.specs.Seen.{seen, seen_node, has_place}
 use Rattle.ic_raw.specs.declared.table.RawTable.{RawTable}
 use Rattle.ic_raw.specs.Tables.{raw_entries}
-use Rattle.ic_raw.specs.Tree.{Shows, IsHole, lent_table, table_of}
+use Rattle.ic_raw.specs.Tree.{Represents, IsInsertPos, lent_table, table_of}
 use Rattle.ic_raw.specs.Words.{is_linked_three, no_tree_words}
-use Rattle.ic_raw.proofs.Trees.{beside_stands, hole_told, seen_shows}
+use Rattle.ic_raw.proofs.Trees.{beside_stands, hole_told, seen_represents}
 
 -- each place of the table has a key
 pub keyed : (t : Table RawThree) (keys : List ℕ) → t.extent.places ≤ length keys → (p : Place) → has_place t p ≡ true → is_placed (at_indexes keys) p ≡ true
@@ -52,7 +48,7 @@ pub record Comes (t : Table RawThree) (root : Option Place) (at : Place → Orde
   pub back : way.back ≡ descent.back
 
 module _ (t : Table RawThree) {root : Option Place} {at : Place → Ordering} {equals : Side} where
-  pub comes_first : {s : List Place} {way : Way} {here : Option Place} → way ≡ at_root → here ≡ root → (h : trees.Shows seen_node (seen t) root s) → Comes t root at equals h.tree here way 0
+  pub comes_first : {s : List Place} {way : Way} {here : Option Place} → way ≡ at_root → here ≡ root → (h : trees.Represents seen_node (seen t) root s) → Comes t root at equals h.tree here way 0
   comes_first is top h = record {
     descent = descents.at_root;
     sent = subst (λ o. Sent seen_node (seen t) root at equals h.tree o descents.at_root 0 0) (sym top) (sent_first seen_node refl 0 h);
@@ -92,8 +88,8 @@ ends_at {t} tree at {side = side} ends is same =
 pub is_some : {W : Type 0} {way : W} {result : Option W} → result ≡ Some way → result ≢ None
 is_some {way = way} is none = none_not way (sym none ∙ is)
 
--- THE FOUND MEMBER is the one behind the gap, if its key is equal
-pub finds : {t : Table RawThree} {root : Option Place} {at : Place → Ordering} {s : List Place} (h : trees.Shows seen_node (seen t) root s) {way : Way} → EndsIn t (gap_in (at_most_at at) h.tree) way
+-- THE FOUND MEMBER is the one after the gap, if its key is equal
+pub finds : {t : Table RawThree} {root : Option Place} {at : Place → Ordering} {s : List Place} (h : trees.Represents seen_node (seen t) root s) {way : Way} → EndsIn t (gap_in (at_most_at at) h.tree) way
     → {result : Option Place} → result ≡ if_passes (equal_at at) way.back → Finds at s result
 finds {at = at} h ends is = record {
   gap = gap_in (at_most_at at) h.tree;
@@ -169,32 +165,32 @@ passes test (Some p) q e = pick (test p) e where
   pick false e = cc
 
 -- a member that is searched is linked
-pub target_stands : {t : Table RawThree} {root : Option Place} {s : List Place} (target : Target) (at : Place → Ordering) → Shows t root s → {position : Option Place} → IsTarget target at s position
-    → Stands is_linked_three t position
+pub target_stands : {t : Table RawThree} {root : Option Place} {s : List Place} (target : Target) (at : Place → Ordering) → Represents t root s → {position : Option Place} → IsTarget target at s position
+    → IsNoneOrLinked is_linked_three t position
 target_stands {t} {root} Equal at shown f =
-    λ q is. beside_stands Left f.gap (subst (Shows t root) (sym f.same) shown) refl q (passes (equal_at at) (first f.gap.back) q (sym f.answer ∙ is))
-target_stands {t} {root} AtLeast at shown b = beside_stands Left b.gap (subst (Shows t root) (sym b.same) shown) b.before
-target_stands {t} {root} AtMost at shown b = beside_stands Right b.gap (subst (Shows t root) (sym b.same) shown) b.after
+    λ q is. beside_stands Left f.gap (subst (Represents t root) (sym f.same) shown) refl q (passes (equal_at at) (first f.gap.back) q (sym f.answer ∙ is))
+target_stands {t} {root} AtLeast at shown b = beside_stands Left b.gap (subst (Represents t root) (sym b.same) shown) b.before
+target_stands {t} {root} AtMost at shown b = beside_stands Right b.gap (subst (Represents t root) (sym b.same) shown) b.after
 
 -- A PLACE FITS into a gap where a search past equal keys ends
 pub record Fits (t : Table RawThree) (root : Option Place) (at : Place → Ordering) (s : List Place) (side : Side) (parent : Option Place) : Type 0 where
   pub gap : Cut
   pub same : join gap ≡ s
   pub border : IsBorder (less_at at) gap
-  pub shown : Shows t root (join gap)
-  pub hole : IsHole side t parent gap
+  pub shown : Represents t root (join gap)
+  pub hole : IsInsertPos side t parent gap
 
 pub fits : (t : Table RawThree) → ((q : Place) → is_linked_three (t.entry q) ≡ true → IsCovered t q) → {root parent : Option Place} {at : Place → Ordering} {s : List Place} (way : Way)
-    → Shows t root s → parent ≡ way.parent → ((s : List Place) (h : trees.Shows seen_node (seen t) root s) → EndsIn t (gap_in (less_at at) h.tree) way) → Fits t root at s way.side parent
+    → Represents t root s → parent ≡ way.parent → ((s : List Place) (h : trees.Represents seen_node (seen t) root s) → EndsIn t (gap_in (less_at at) h.tree) way) → Fits t root at s way.side parent
 fits t law {root} {parent} {at} {s} way shown is ends =
-    let h = seen_shows t law shown in
+    let h = seen_represents t law shown in
     let gap : Cut = gap_in (less_at at) h.tree in
     let same : join gap ≡ s = gap_join (less_at at) h.tree ∙ h.held.order in
-    let shows = subst (Shows t root) (sym same) shown in
+    let shows = subst (Represents t root) (sym same) shown in
     record {
       gap = gap;
       same = same;
       border = gap_border (less_at at) h.tree;
       shown = shows;
-      hole = subst (λ o. IsHole way.side t o gap) (sym is) (hole_told t law way.side way.parent gap shows (ends s h).hole);
+      hole = subst (λ o. IsInsertPos way.side t o gap) (sym is) (hole_told t law way.side way.parent gap shows (ends s h).hole);
     }

@@ -1,13 +1,11 @@
--- What calls of a list of whatever kind read of what is shown, and what the calls give that edit it.
+-- What calls of a list of whatever kind read of what is represented, and what the calls give that edit it.
 use Rattle.std.proofs.Common.{◌≡◌, ◌≢◌, Bool, true, Option, Some, List, [], ◌∷◌, ◌++◌, sym, ◌∙◌}
-use Rattle.ic_unsafe_ref.specs.declared.place.Place.{Place}
-use Rattle.ic_link_ops.specs.Sequences.{Cut, join, first, last, IsAbsent, IsDisjoint, IsAfter, IsBefore}
-use Rattle.ic_link_ops.specs.Tables.{Table, ChangesOnly}
-use Rattle.ic_link_ops.specs.Chains.{ListHead, ShowsChain}
+use Rattle.ic_link_ops.specs.Prelude.{Place, Cut, join, first, last, IsAbsent, IsDisjoint, IsAfter, IsBefore, Table, ChangesOnly}
+use Rattle.ic_link_ops.specs.Chains.{ListHead, RepresentsChain}
 use Rattle.ic_link_ops.specs.Edits.{Inserts, Removes, Replaces}
 use Rattle.ic_link_ops.proofs.SequenceLemmas.{none_not, some_same, absent_right, absent_with, distinct_middle, gap_not, beside_not}
-use Rattle.ic_link_ops.proofs.ShownLists.{shows_kept, shows_beside, gap_linked, gap_behind_linked, free_absent}
-use Rattle.ic_raw.specs.Gaps.{Stands}
+use Rattle.ic_link_ops.proofs.RepresentedLists.{represents_kept, represents_beside, gap_linked, gap_after_linked, free_absent}
+use Rattle.ic_raw.specs.Gaps.{IsNoneOrLinked}
 use Rattle.ic_raw.specs.Gaps as gaps
 use Rattle.ic_raw.specs.Tables.{IsFree}
 
@@ -19,35 +17,35 @@ begin_apart (y ∷ s) (x ∷ t) d a b = d.0.0 (some_same a ∙ sym (some_same b)
 
 module _ {E W : Type 0} {between : E → Option Place → Option Place → Type 0} {keep : Option Place → W} where
   -- a sequence stays where no entry changes
-  pub kept : (t u : Table E) (list : ListHead W) (s : List Place) → ShowsChain between keep t list s → ((q : Place) → u.entry q ≡ t.entry q) → ShowsChain between keep u list s
-  kept t u list s shown same = shows_kept shown (λ q member. same q)
+  pub kept : (t u : Table E) (list : ListHead W) (s : List Place) → RepresentsChain between keep t list s → ((q : Place) → u.entry q ≡ t.entry q) → RepresentsChain between keep u list s
+  kept t u list s shown same = represents_kept shown (λ q member. same q)
 
-  -- `Names`: entries of the kind say what stands in front of their places
+  -- `Names`: entries of the kind say what stands before their places
   -- REMOVE: the neighbors of p are turned to each other, and then p is released
   pub removed : {Names : Type 0} {old mid new : Table E} {list list' : ListHead W} (front : List Place) (p : Place) (back : List Place) {before behind : Option Place}
-      → before ≡ last front → behind ≡ first back → ShowsChain between keep old list (front ++ p ∷ back)
-      → ((front back : List Place) → ShowsChain between keep old list (front ++ p ∷ back) → before ≡ last front → behind ≡ first back
-      → ShowsChain between keep mid list' (front ++ back))
+      → before ≡ last front → behind ≡ first back → RepresentsChain between keep old list (front ++ p ∷ back)
+      → ((front back : List Place) → RepresentsChain between keep old list (front ++ p ∷ back) → before ≡ last front → behind ≡ first back
+      → RepresentsChain between keep mid list' (front ++ back))
       → mid.extent ≡ old.extent → ((q : Place) → before ≢ Some q → (Names → behind ≢ Some q) → mid.entry q ≡ old.entry q)
-      → ChangesOnly mid new p → Removes (ShowsChain between keep) old new list' (gaps.before p front back)
-  removed {new} front p back is_before is_behind shown off extent others released = record {
-    shows = shows_beside {new = new} (off front back shown is_before is_behind) (distinct_middle front back p shown.distinct) released.others;
+      → ChangesOnly mid new p → Removes (RepresentsChain between keep) old new list' (gaps.before p front back)
+  removed {new} front p back is_before is_after shown off extent others released = record {
+    shows = represents_beside {new = new} (off front back shown is_before is_after) (distinct_middle front back p shown.distinct) released.others;
     frame = record {
       extent = released.extent ∙ extent;
       others = λ q out.
-          let sides = beside_not front back p is_before is_behind out in released.others q (absent_right q front (p ∷ back) out).0 ∙ others q sides.0 (λ _. sides.1);
+          let sides = beside_not front back p is_before is_after out in released.others q (absent_right q front (p ∷ back) out).0 ∙ others q sides.0 (λ _. sides.1);
     };
   }
 
   -- MOVE: the neighbors of p are turned to each other, and then p is put where the others are cut
   pub moved : {Names : Type 0} {old mid new : Table E} {list off_list list' : ListHead W} (front : List Place) (p : Place) (back : List Place) (cut : Cut) {b a before behind : Option Place}
-      → b ≡ last front → a ≡ first back → IsAfter cut before → IsBefore cut behind → join cut ≡ front ++ back → ShowsChain between keep old list (front ++ p ∷ back)
-      → ((front back : List Place) → ShowsChain between keep old list (front ++ p ∷ back) → b ≡ last front → a ≡ first back → ShowsChain between keep mid off_list (front ++ back))
+      → b ≡ last front → a ≡ first back → IsAfter cut before → IsBefore cut behind → join cut ≡ front ++ back → RepresentsChain between keep old list (front ++ p ∷ back)
+      → ((front back : List Place) → RepresentsChain between keep old list (front ++ p ∷ back) → b ≡ last front → a ≡ first back → RepresentsChain between keep mid off_list (front ++ back))
       → mid.extent ≡ old.extent → ((q : Place) → b ≢ Some q → (Names → a ≢ Some q) → mid.entry q ≡ old.entry q)
-      → ((front back : List Place) → ShowsChain between keep mid off_list (front ++ back) → before ≡ last front → behind ≡ first back → IsAbsent p (front ++ back)
-      → ShowsChain between keep new list' (front ++ p ∷ back))
+      → ((front back : List Place) → RepresentsChain between keep mid off_list (front ++ back) → before ≡ last front → behind ≡ first back → IsAbsent p (front ++ back)
+      → RepresentsChain between keep new list' (front ++ p ∷ back))
       → new.extent ≡ mid.extent → ((q : Place) → before ≢ Some q → q ≢ p → (Names → behind ≢ Some q) → new.entry q ≡ mid.entry q)
-      → Inserts (ShowsChain between keep) old new list' cut p
+      → Inserts (RepresentsChain between keep) old new list' cut p
   moved front p back cut is_b is_a after ahead same shown off extent others put extent' others' = record {
     shows = put cut.front cut.back (rw same (off front back shown is_b is_a)) after ahead (rw same (distinct_middle front back p shown.distinct));
     frame = record {
@@ -61,24 +59,24 @@ module _ {E W : Type 0} {between : E → Option Place → Option Place → Type 
 
   -- `law`: what stands between two others is linked
   module _ {linked : E → Bool} (law : (e : E) (b a : Option Place) → between e b a → linked e ≡ true) where
-    module _ {t : Table E} {list : ListHead W} (front back : List Place) (shown : ShowsChain between keep t list (front ++ back)) where
+    module _ {t : Table E} {list : ListHead W} (front back : List Place) (shown : RepresentsChain between keep t list (front ++ back)) where
       -- the places beside a gap stand
-      pub before_stands : {at : Option Place} → at ≡ last front → Stands linked t at
+      pub before_stands : {at : Option Place} → at ≡ last front → IsNoneOrLinked linked t at
       before_stands e q k = gap_linked law front back shown (sym k ∙ e)
 
-      pub behind_stands : {at : Option Place} → at ≡ first back → Stands linked t at
-      behind_stands e q k = gap_behind_linked law front back shown (sym k ∙ e)
+      pub after_stands : {at : Option Place} → at ≡ first back → IsNoneOrLinked linked t at
+      after_stands e q k = gap_after_linked law front back shown (sym k ∙ e)
 
     -- INSERT: p, which is free, is acquired, and then put into the gap
     pub inserted : {Names : Type 0} {old mid new : Table E} {list list' : ListHead W} (cut : Cut) {p : Place} {before behind : Option Place}
-        → IsAfter cut before → IsBefore cut behind → ShowsChain between keep old list (join cut) → IsFree linked old p → ChangesOnly old mid p
-        → ((front back : List Place) → ShowsChain between keep mid list (front ++ back) → before ≡ last front → behind ≡ first back → IsAbsent p (front ++ back)
-        → ShowsChain between keep new list' (front ++ p ∷ back))
+        → IsAfter cut before → IsBefore cut behind → RepresentsChain between keep old list (join cut) → IsFree linked old p → ChangesOnly old mid p
+        → ((front back : List Place) → RepresentsChain between keep mid list (front ++ back) → before ≡ last front → behind ≡ first back → IsAbsent p (front ++ back)
+        → RepresentsChain between keep new list' (front ++ p ∷ back))
         → new.extent ≡ mid.extent → ((q : Place) → before ≢ Some q → q ≢ p → (Names → behind ≢ Some q) → new.entry q ≡ mid.entry q)
-        → Inserts (ShowsChain between keep) old new list' cut p
+        → Inserts (RepresentsChain between keep) old new list' cut p
     inserted {mid} cut after ahead shown free acquired put extent others =
         let out = free_absent law shown free.unlinked in record {
-          shows = put cut.front cut.back (shows_beside {new = mid} shown out acquired.others) after ahead out;
+          shows = put cut.front cut.back (represents_beside {new = mid} shown out acquired.others) after ahead out;
           frame = record {
             extent = extent ∙ acquired.extent;
             others = λ q away.
@@ -88,20 +86,20 @@ module _ {E W : Type 0} {between : E → Option Place → Option Place → Type 
 
     -- REPLACE: p, which is free, is acquired, and put where the member `out` is, which is then released
     pub replaced : {Names : Type 0} {old mid late new : Table E} {list list' : ListHead W} (front : List Place) (out : Place) (back : List Place) {p : Place} {before behind : Option Place}
-        → before ≡ last front → behind ≡ first back → ShowsChain between keep old list (front ++ out ∷ back) → IsFree linked old p → ChangesOnly old mid p
-        → ((front back : List Place) → ShowsChain between keep mid list (front ++ out ∷ back) → before ≡ last front → behind ≡ first back → IsAbsent p (front ++ out ∷ back)
-        → ShowsChain between keep late list' (front ++ p ∷ back))
+        → before ≡ last front → behind ≡ first back → RepresentsChain between keep old list (front ++ out ∷ back) → IsFree linked old p → ChangesOnly old mid p
+        → ((front back : List Place) → RepresentsChain between keep mid list (front ++ out ∷ back) → before ≡ last front → behind ≡ first back → IsAbsent p (front ++ out ∷ back)
+        → RepresentsChain between keep late list' (front ++ p ∷ back))
         → late.extent ≡ mid.extent → ((q : Place) → before ≢ Some q → q ≢ p → (Names → behind ≢ Some q) → late.entry q ≡ mid.entry q)
-        → ChangesOnly late new out → Replaces (ShowsChain between keep) old new list' (gaps.before out front back) p
-    replaced {mid} {new} front out back {p} is_before is_behind shown free acquired put extent others released =
+        → ChangesOnly late new out → Replaces (RepresentsChain between keep) old new list' (gaps.before out front back) p
+    replaced {mid} {new} front out back {p} is_before is_after shown free acquired put extent others released =
         let absent = free_absent law shown free.unlinked in
         let apart = (absent_right p front (out ∷ back) absent).0 in record {
-          shows = shows_beside {new = new} (put front back (shows_beside {new = mid} shown absent acquired.others) is_before is_behind absent)
+          shows = represents_beside {new = new} (put front back (represents_beside {new = mid} shown absent acquired.others) is_before is_after absent)
               (absent_with front back p out (λ e. apart (sym e)) (distinct_middle front back out shown.distinct)) released.others;
           frame = record {
             extent = released.extent ∙ extent ∙ acquired.extent;
             others = λ q away.
-                let sides = beside_not front back out is_before is_behind away.1 in
+                let sides = beside_not front back out is_before is_after away.1 in
                 released.others q (absent_right q front (out ∷ back) away.1).0 ∙ others q sides.0 away.0 (λ _. sides.1) ∙ acquired.others q away.0;
           };
         }

@@ -1,27 +1,17 @@
 -- Where a member goes that is moved: a gap of the others is one of all members.
 use Rattle.std.proofs.Common.{◌≡◌, ◌≢◌, ◌⊎◌, inl, inr, Option, Some, None, List, [], ◌∷◌, ◌++◌, drop, refl, sym, ap, subst, ◌∙◌, append_assoc, append-nil}
-use Rattle.ic_unsafe_ref.specs.declared.place.Place.{Place}
-use Rattle.ic_link_ops.specs.Sequences.{Cut, join, insert, first, last, IsAbsent, IsDistinct}
-use Rattle.ic_link_ops.specs.Tables.{Table}
+use Rattle.ic_link_ops.specs.Prelude.{Place, Cut, join, insert, first, last, IsAbsent, IsDistinct, Table}
 use Rattle.ic_link_ops.specs.Chains.{Ends}
 use Rattle.ic_link_ops.proofs.SequenceLemmas.{none_not, some_same, absent_right, distinct_middle, last_not, gap_not, last_or-append, last_of_push}
-use Rattle.ic_raw.specs.declared.words.RawTwo.{RawTwo}
 use Rattle.ic_raw.specs.declared.table.RawTable.{RawTable}
 use Rattle.ic_raw.specs.declared.gap.Gap.{Gap}
 use Rattle.ic_raw.specs.declared.gap.Side.{Side}
 use Rattle.ic_raw.specs.declared.gap.Side.TheVariants.{After, Before}
-use Rattle.ic_raw.specs.Gaps.{IsApart, IsBeside, IsMoved, Stands, gap_of, outermost, toward}
+use Rattle.ic_raw.specs.Gaps.{IsApart, IsBeside, IsMoved, IsNoneOrLinked, gap_of, outermost, toward}
 use Rattle.ic_raw.specs.Tables.{raw_entries}
-use Rattle.ic_raw.specs.Words.{is_linked_two}
-use Rattle.ic_raw.specs.Doubly.{IsEnd, TellsGap, around, end_on, gap_from, lent_table, next_from, prev_from, table_of}
+use Rattle.ic_raw.specs.LinkWords.{LinkWords, lent_table, table_of}
+use Rattle.ic_raw.specs.Doubly.{IsEnd, TellsGap, around, end_on, gap_from, next_from, prev_from}
 use Rattle.ic_raw.proofs.Doubly.{first_kept, last_kept}
-
--- what stands in a view stands among its words
-pub stands_back : (t : RawTable RawTwo) {words : List RawTwo} {at named : Option Place} → raw_entries t ≡ words → at ≡ named → Stands is_linked_two (lent_table t) at
-    → Stands is_linked_two (table_of words) named
-stands_back t {named = named} view is stands =
-    let back : Stands is_linked_two (table_of (raw_entries t)) named = rw is at stands in
-    subst (λ es. Stands is_linked_two (table_of es) named) view back
 
 -- the ends of a sequence
 abbrev pub ends : List Place → Ends
@@ -116,9 +106,9 @@ Goes side at p front back cut = (whole : Cut) × IsWhole side at p front back wh
 apart_of : (p : Place) (cut whole : Cut) → IsAbsent p (join cut) → gap_of whole ≡ gap_of cut → IsApart (gap_of whole) p
 apart_of p cut whole out same = subst (λ g. IsApart g p) (sym same) (gap_not cut.front cut.back refl refl out)
 
-behind_kept : (side : Side) (at : Option Place) (cut : Cut) (front : List Place) → IsBeside side cut at → last front ≡ last cut.front → IsBeside side (record { front = front; back = cut.back }) at
-behind_kept After at cut front e f = e ∙ sym f
-behind_kept Before at cut front e f = e
+after_kept : (side : Side) (at : Option Place) (cut : Cut) (front : List Place) → IsBeside side cut at → last front ≡ last cut.front → IsBeside side (record { front = front; back = cut.back }) at
+after_kept After at cut front e f = e ∙ sym f
+after_kept Before at cut front e f = e
 
 ahead_kept : (side : Side) (at : Option Place) (cut : Cut) (back : List Place) → IsBeside side cut at → first back ≡ first cut.back → IsBeside side (record { front = cut.front; back = back }) at
 ahead_kept After at cut back e f = e
@@ -131,13 +121,13 @@ module _ (side : Side) {at : Option Place} (p : Place) (front back : List Place)
       let own = own_gap side p front back (subst (λ c. IsBeside side c at) same beside) in
       (own.0, own.1, inl (own.2, (λ k. e k ++ p ∷ f k)))
 
-  goes_behind : (x : Place) (m : List Place) → cut.front ≡ front ++ x ∷ m → back ≡ x ∷ m ++ cut.back → Goes side at p front back cut
-  goes_behind x m e f =
+  goes_after : (x : Place) (m : List Place) → cut.front ≡ front ++ x ∷ m → back ≡ x ∷ m ++ cut.back → Goes side at p front back cut
+  goes_after x m e f =
       let whole : Cut = record { front = front ++ p ∷ x ∷ m; back = cut.back } in
       let ends : last whole.front ≡ last cut.front = last_or-append None front (p ∷ x ∷ m) ∙ sym (last_or-append None front (x ∷ m)) ∙ ap last (sym e) in
       let same : gap_of whole ≡ gap_of cut = (λ k. record { before = ends k; behind = first cut.back }) in (
         whole,
-        record { same = append_assoc front (p ∷ x ∷ m) cut.back ∙ ap (λ (s : List Place). front ++ p ∷ s) (sym f); beside = behind_kept side _ cut whole.front beside ends },
+        record { same = append_assoc front (p ∷ x ∷ m) cut.back ∙ ap (λ (s : List Place). front ++ p ∷ s) (sym f); beside = after_kept side _ cut whole.front beside ends },
         inr (apart_of p cut whole out same, same),
       )
 
@@ -155,7 +145,7 @@ module _ (side : Side) {at : Option Place} (p : Place) (front back : List Place)
   goes same = elim (two_cuts cut.front cut.back front back same) [ inl r ↦ behind r.0 r.1 r.2 | inr r ↦ ahead r.0 r.1 r.2 ] where
     behind : (m : List Place) → cut.front ≡ front ++ m → back ≡ m ++ cut.back → Goes side at p front back cut
     behind [] e f = goes_there (e ∙ append-nil front) (sym f)
-    behind (x ∷ m) e f = goes_behind x m e f
+    behind (x ∷ m) e f = goes_after x m e f
 
     ahead : (m : List Place) → front ≡ cut.front ++ m → cut.back ≡ m ++ back → Goes side at p front back cut
     ahead [] e f = goes_there (sym (e ∙ append-nil cut.front)) f
@@ -169,17 +159,26 @@ pub moved_same : {from from' to to' : Gap} {p p' : Option Place} {old old' new n
     → IsMoved from p to old new → IsMoved from' p' to' old' new'
 moved_same a b c d e moved = rw (a, b, c, d, e) moved
 
--- the outermost gap is apart from a place exactly if that is not the end there
-pub apart_at_end : (side : Side) (t : Table RawTwo) (list : Ends) {p : Place} → end_on side list ≢ Some p → IsApart (gap_from side t list None) p
-apart_at_end After t list {p} away = (none_not p, away)
-apart_at_end Before t list {p} away = (away, none_not p)
+-- `words`: what the words of a place say, which have 8 bytes or 4
+module _ {W : Type 0} (words : LinkWords W) where
+  -- what stands in a view stands among its words
+  pub stands_back : (t : RawTable W) {es : List W} {at named : Option Place} → raw_entries t ≡ es → at ≡ named → IsNoneOrLinked words.is_linked (lent_table words t) at
+      → IsNoneOrLinked words.is_linked (table_of words es) named
+  stands_back t {named = named} view is stands =
+      let back : IsNoneOrLinked words.is_linked (table_of words (raw_entries t)) named = rw is at stands in
+      subst (λ es. IsNoneOrLinked words.is_linked (table_of words es) named) view back
 
-pub not_apart_at_end : (side : Side) (t : Table RawTwo) (list : Ends) {p : Place} → end_on side list ≡ Some p → IsApart (gap_from side t list None) p → ⊥
-not_apart_at_end After t list end apart = apart.1 end
-not_apart_at_end Before t list end apart = apart.0 end
+  -- the outermost gap is apart from a place exactly if that is not the end there
+  pub apart_at_end : (side : Side) (t : Table W) (list : Ends) {p : Place} → end_on side list ≢ Some p → IsApart (gap_from words side t list None) p
+  apart_at_end After t list {p} away = (none_not p, away)
+  apart_at_end Before t list {p} away = (away, none_not p)
 
--- and a member with another one toward that side is not at that end
-pub has_one_beyond : (side : Side) (t : Table RawTwo) (list : Ends) {p q : Place} → TellsGap side t list None → toward side (around t list (Some p)) ≡ Some q
-    → end_on side list ≡ Some p → ⊥
-has_one_beyond After t list {q} told beyond end = none_not q (sym (subst (λ at. prev_from t list at ≡ None) end told.1) ∙ beyond)
-has_one_beyond Before t list {q} told beyond end = none_not q (sym (subst (λ at. next_from t list at ≡ None) end told.1) ∙ beyond)
+  pub not_apart_at_end : (side : Side) (t : Table W) (list : Ends) {p : Place} → end_on side list ≡ Some p → IsApart (gap_from words side t list None) p → ⊥
+  not_apart_at_end After t list end apart = apart.1 end
+  not_apart_at_end Before t list end apart = apart.0 end
+
+  -- and a member with another one toward that side is not at that end
+  pub has_one_beyond : (side : Side) (t : Table W) (list : Ends) {p q : Place} → TellsGap words side t list None → toward side (around words t list (Some p)) ≡ Some q
+      → end_on side list ≡ Some p → ⊥
+  has_one_beyond After t list {q} links_back beyond end = none_not q (sym (subst (λ at. prev_from words t list at ≡ None) end links_back.1) ∙ beyond)
+  has_one_beyond Before t list {q} links_back beyond end = none_not q (sym (subst (λ at. next_from words t list at ≡ None) end links_back.1) ∙ beyond)

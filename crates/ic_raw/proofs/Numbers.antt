@@ -1,7 +1,6 @@
 -- The numbers of places that cross to C.
 use Rattle.std.proofs.Common.{◌≡◌, ◌<◌, ◌+◌, ◌*◌, ◌%◌, ℕ, Some, None, ap, ◌∙◌, arith}
-use Rattle.ic_unsafe_ref.specs.declared.place.Place.{Place}
-use Rattle.ic_unsafe_ref.specs.Places.{index_of, place_at, word_of}
+use Rattle.ic_link_ops.specs.Prelude.{Place, index_of, place_at, word_of}
 use Rattle.ic_unsafe_ref.proofs.PlaceLemmas.{place_at_word}
 use Rattle.ic_raw.specs.Words.{place_of}
 

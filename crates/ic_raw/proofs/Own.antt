@@ -1,9 +1,8 @@
 -- What an edit says of a list's own ends.
 use Rattle.std.proofs.Common.{◌≡◌, ◌≢◌, ◌↔◌, Option, Some, None, List, refl, sym, ap, subst, ◌∙◌}
-use Rattle.ic_unsafe_ref.specs.declared.place.Place.{Place}
+use Rattle.ic_link_ops.specs.Prelude.{Place, Table}
 use Rattle.ic_link_ops.specs.Chains.{Ends, TurnsEnds, end_of}
 use Rattle.ic_link_ops.specs.SinglyLinkedList.{Front}
-use Rattle.ic_link_ops.specs.Tables.{Table}
 use Rattle.ic_link_ops.proofs.SequenceLemmas.{none_not, some_same}
 use Rattle.ic_raw.specs.declared.gap.Gap.{Gap}
 use Rattle.ic_raw.specs.declared.table.RawTable.{RawTable}
@@ -29,7 +28,7 @@ module _ {old new : Ends} {found gap : Gap} (same : found ≡ gap) where
   pub taken_out : TurnsEnds (λ last. last) old new found.before found.behind found.behind found.before → TakenOut gap old new
   taken_out turns = rw (← same) (record { head = turns.head; tail = turns.tail _ refl })
 
--- nothing stands in front of the first member of a chain alone: so a walk along it knows whether it has left the front
+-- nothing stands before the first member of a chain alone: so a walk along it knows whether it has left the front
 pub record IsPast (front current before : Option Place) (member : Place) : Type 0 where
   pub first : before ≡ None → current ≡ front
   pub apart : (q : Place) → before ≡ Some q → front ≢ Some member
@@ -48,7 +47,7 @@ module _ {front current : Option Place} {place member : Place} (is : current ≡
   is_first None past same = ((λ none. sym (past.first refl) ∙ is ∙ ap (λ p. Some p) same), (λ e. refl))
   is_first (Some r) past same = ((λ some. absurd (none_not r (sym some))), (λ e. absurd (past.apart r refl e)))
 
--- the front of a list that a member left, by what stood in front of it
+-- the front of a list that a member left, by what stood before it
 pub loses_front : {t : Table RawOne} {member : Place} {old new : Front} (b : Option Place) → (b ≡ None) ↔ (old.head ≡ Some member)
     → new.head ≡ end_of b (next_from t old (Some member)) old.head → LosesFront t (Some member) old new
 loses_front None first is = record { first = λ e. is; other = λ away. absurd (away (first.0 refl)) }
@@ -57,7 +56,7 @@ loses_front (Some q) first is = record { first = λ e. absurd (none_not q (sym (
 -- what the words say of a singly linked list's own front, by what a view of them says
 module _ (t : RawTable RawOne) (list list' : RawFront) {es : List RawOne} {edited new : Front} (view : raw_entries t ≡ es) (read : edited ≡ list_of list)
     (written : front_of list' ≡ new.head) where
-  -- that stays, or is what stood behind the member that left
+  -- that stays, or is what stood after the member that left
   pub front_left : {before at : Option Place} {member : Place} → before ≡ at → next_from (table_of es) (list_of list) at ≡ Some member
       → new.head ≡ end_of before (next_from (lent_table t) edited (Some member)) edited.head
       → front_of list' ≡ end_of at (next_from (table_of es) (list_of list) (next_from (table_of es) (list_of list) at)) (front_of list)
@@ -72,7 +71,7 @@ module _ (t : RawTable RawOne) (list list' : RawFront) {es : List RawOne} {edite
       → front_of list' ≡ end_of at place (front_of list)
   front_put behind is own = written ∙ own ∙ (λ k. end_of (behind k) (is k) (read k).head)
 
-  -- or what stood behind the member that left, if that was the first
+  -- or what stood after the member that left, if that was the first
   pub front_lost : {member : Place} {first : Option Place} (before : Option Place) → first ≡ edited.head → (before ≡ None) ↔ (first ≡ Some member)
       → new.head ≡ end_of before (next_from (lent_table t) edited (Some member)) edited.head → LosesFront (table_of es) (Some member) (list_of list) (list_of list')
   front_lost {member} before is tells own =

@@ -1,19 +1,16 @@
 -- What the calls of rings test, and what any circle passes.
 use Rattle.std.proofs.Common.{◌≡◌, ◌≢◌, append_assoc, subst, Option, Some, None, IsSome, List, [], ◌∷◌, ◌++◌, refl, sym, ap, ◌∙◌, inl, inr, true, false, append-nil}
-use Rattle.ic_unsafe_ref.specs.declared.place.Place.{Place}
+use Rattle.ic_link_ops.specs.Prelude.{Place, IsAbsent, IsDisjoint, first, last, Table, ChangesOnly, LinkStep}
 use Rattle.ic_unsafe_ref.proofs.PlaceLemmas.{same_or_not}
 use Rattle.ic_link_ops.specs.LinkedList.{IsBetween}
-use Rattle.ic_link_ops.specs.Sequences.{IsAbsent, IsDisjoint, first, last}
 use Rattle.ic_link_ops.proofs.Chains.{last_between}
 use Rattle.ic_link_ops.proofs.SequenceLemmas.{absent_both, absent_left, absent_right, absent_turned, disjoint_both, last_not, last_or-append, none_not, some_same}
-use Rattle.ic_link_ops.specs.Tables.{Table, ChangesOnly}
-use Rattle.ic_link_ops.specs.LinkSteps.{LinkStep}
 use Rattle.ic_ring.proofs.Circles.{circle_after_free, next_not, next_some, next_stands, prev_not, prev_some, prev_stands, rotated}
 use Rattle.ic_raw.specs.declared.table.RawTable.{RawTable}
 use Rattle.ic_raw.specs.declared.gap.Side.{Side}
 use Rattle.ic_raw.specs.declared.gap.Side.TheVariants.{After, Before}
 use Rattle.ic_raw.specs.LinkWords.{LinkWords, lent_table, neighbors, table_of}
-use Rattle.ic_raw.specs.Ring.{IsCircle, IsTold, Makes, MakesTwo, beside, own_on, neighbor_on, put_in, all_put_in}
+use Rattle.ic_raw.specs.Ring.{IsCircle, AreLinked, Makes, MakesTwo, beside, own_on, neighbor_on, put_in, all_put_in}
 use Rattle.ic_raw.specs.RingCalls.{IsAmid}
 use Rattle.ic_raw.specs.Tables.{raw_entries}
 use Rattle.ic_raw.specs.Touches.{Touches}
@@ -43,7 +40,7 @@ pub neighbor_not : (side : Side) {q : Place} (x : Place × Place) → (q ≢ x.0
 neighbor_not After x apart e = apart.1 (sym e)
 neighbor_not Before x apart e = apart.0 (sym e)
 
--- the circle whose last place stands in front of the gap, and what it is once others are put in there
+-- the circle whose last place stands before the gap, and what it is once others are put in there
 abbrev pub before_gap : Side → (at : Place) → List Place → List Place
 before_gap After at r = r ++ at ∷ []
 before_gap Before at r = at ∷ r
@@ -60,7 +57,7 @@ pub absent_all : (side : Side) (at : Place) (r s : List Place) (q : Place) → I
 absent_all After at r s q out off = (out.0, absent_both q s r off out.1)
 absent_all Before at r s q out off = (out.0, absent_both q r s out.1 off)
 
--- what stands behind a place that is put in where `at` did is its new neighbor or the place itself
+-- what stands after a place that is put in where `at` did is its new neighbor or the place itself
 pub apart_without : {next at own other q : Place} → (next ≡ at → other ≡ own) → (next ≢ at → other ≡ next) → q ≢ own → q ≢ next → q ≢ other
 apart_without {next} {at} alone stays off away e = elim (same_or_not next at) [
   | inl same ↦ off (e ∙ alone same)
@@ -70,7 +67,7 @@ apart_without {next} {at} alone stays off away e = elim (same_or_not next at) [
 module _ {W : Type 0} (words : LinkWords W) where
   module _ (t : Table W) {p : Place} (s : List Place) (c : IsCircle words t (p ∷ s)) where
     -- IN A CIRCLE the words tell of each place what stands beside it
-    pub circle_tells : (side : Side) → (x : Place × Place) × IsTold words t x.0 x.1 × (own_on side x ≡ p)
+    pub circle_tells : (side : Side) → (x : Place × Place) × AreLinked words t x.0 x.1 × (own_on side x ≡ p)
     circle_tells After =
         let b = place_there _ (next_some {n = neighbors words} s c) in
         let k = next_stands {n = neighbors words} s c b.1 in ((p, b.0), record { linked = c.chain.0.linked; next = b.1; stands = k.0; prev = k.1 }, refl)
@@ -79,35 +76,35 @@ module _ {W : Type 0} (words : LinkWords W) where
         let k = prev_stands {n = neighbors words} s c a.1 in ((a.0, p), record { linked = k.0; next = k.1; stands = c.chain.0.linked; prev = a.1 }, refl)
 
   -- and of its last one, that it leads to the first
-  pub last_tells : (t : Table W) {one : Place} (x : Place) (r : List Place) → IsCircle words t (x ∷ r) → last (x ∷ r) ≡ Some one → IsTold words t one x
+  pub last_tells : (t : Table W) {one : Place} (x : Place) (r : List Place) → IsCircle words t (x ∷ r) → last (x ∷ r) ≡ Some one → AreLinked words t one x
   last_tells t x r c is =
       let stands = last_between (IsBetween (neighbors words)) t.entry (last (x ∷ r)) (x ∷ r) (Some x) c.chain (sym is) in
       record { linked = stands.linked; next = stands.next; stands = c.chain.0.linked; prev = c.chain.0.prev ∙ is }
 
   -- of two parts of a circle, the last place of each leads to the first of the other
-  pub part_tells : (t : Table W) {one : Place} (x : Place) (r : List Place) (y : Place) (s : List Place) → IsCircle words t (x ∷ r ++ y ∷ s) → last (x ∷ r) ≡ Some one → IsTold words t one y
+  pub part_tells : (t : Table W) {one : Place} (x : Place) (r : List Place) (y : Place) (s : List Place) → IsCircle words t (x ∷ r ++ y ∷ s) → last (x ∷ r) ≡ Some one → AreLinked words t one y
   part_tells t x r y s c is = last_tells t y (s ++ x ∷ r) (rotated {n = neighbors words} (x ∷ r) (y ∷ s) c) (last_or-append None (y ∷ s) (x ∷ r) ∙ is)
 
   -- no other place is beside it
-  pub not_beside : (side : Side) (t : Table W) {p : Place} (s : List Place) → IsCircle words t (p ∷ s) → (x : Place × Place) → IsTold words t x.0 x.1 → own_on side x ≡ p
+  pub not_beside : (side : Side) (t : Table W) {p : Place} (s : List Place) → IsCircle words t (p ∷ s) → (x : Place × Place) → AreLinked words t x.0 x.1 → own_on side x ≡ p
       → (q : Place) → IsAbsent q (p ∷ s) → (q ≢ x.0) × (q ≢ x.1)
-  not_beside After t s c x told own q out = (
+  not_beside After t s c x links_back own q out = (
     (λ e. out.0 (e ∙ own)),
-    next_not {n = neighbors words} s c (ap (λ z. (neighbors words (t.entry z)).next) (sym own) ∙ told.next) out,
+    next_not {n = neighbors words} s c (ap (λ z. (neighbors words (t.entry z)).next) (sym own) ∙ links_back.next) out,
   )
-  not_beside Before t s c x told own q out = (
-    prev_not {n = neighbors words} s c (ap (λ z. (neighbors words (t.entry z)).prev) (sym own) ∙ told.prev) out,
+  not_beside Before t s c x links_back own q out = (
+    prev_not {n = neighbors words} s c (ap (λ z. (neighbors words (t.entry z)).prev) (sym own) ∙ links_back.prev) out,
     (λ e. out.0 (e ∙ own)),
   )
 
-  -- PUT IN on this side: `puts` is what the insert in front of the second of the two says
+  -- PUT IN on this side: `puts` is what the insert before the second of the two says
   pub put_beside : (side : Side) (t u : Table W) {p at : Place} (s : List Place) (x : Place × Place) → own_on side x ≡ at → (neighbors words (t.entry x.0)).next ≡ Some x.1
       → IsCircle words t (at ∷ s) → IsAbsent p (at ∷ s) → ((r : List Place) → IsCircle words t (x.1 ∷ r) → IsAbsent p (x.1 ∷ r) → IsCircle words u (p ∷ x.1 ∷ r)) → IsCircle words u (put_in side at p s)
   put_beside After t u {p} s x own next c out puts = circle_after_free {n = neighbors words} s c (ap (λ z. (neighbors words (t.entry z)).next) (sym own) ∙ next) out puts
   put_beside Before t u {p} s x own next c out puts = rw own at (puts s (rw own c) (rw own out))
 
   -- WHAT THE WORDS TELL stays where both entries stay
-  pub told_same : {t u : Table W} {x y : Place} → u.entry x ≡ t.entry x → u.entry y ≡ t.entry y → IsTold words t x y → IsTold words u x y
+  pub told_same : {t u : Table W} {x y : Place} → u.entry x ≡ t.entry x → u.entry y ≡ t.entry y → AreLinked words t x y → AreLinked words u x y
   told_same one other k = record {
     linked = ap words.is_linked one ∙ k.linked;
     next = ap (λ e. (neighbors words e).next) one ∙ k.next;
@@ -116,16 +113,16 @@ module _ {W : Type 0} (words : LinkWords W) where
   }
 
   -- and where an entry changes that was not linked
-  pub told_beside : {t u : Table W} {x y p : Place} → words.is_linked (t.entry p) ≡ false → ChangesOnly t u p → IsTold words t x y → IsTold words u x y
+  pub told_beside : {t u : Table W} {x y p : Place} → words.is_linked (t.entry p) ≡ false → ChangesOnly t u p → AreLinked words t x y → AreLinked words u x y
   told_beside {t} {u} {x} {y} {p} free only k =
       let apart : (q : Place) → words.is_linked (t.entry q) ≡ true → q ≢ p = λ q on e. never free (rw e at on) in
       told_same (only.others x (apart x k.linked)) (only.others y (apart y k.stands)) k
 
   -- each place has one next place, and one before it
-  pub one_next : {t : Table W} {x y z : Place} → IsTold words t x y → IsTold words t x z → y ≡ z
+  pub one_next : {t : Table W} {x y z : Place} → AreLinked words t x y → AreLinked words t x z → y ≡ z
   one_next a b = some_same (sym a.next ∙ b.next)
 
-  pub one_before : {t : Table W} {x y z : Place} → IsTold words t x z → IsTold words t y z → x ≡ y
+  pub one_before : {t : Table W} {x y z : Place} → AreLinked words t x z → AreLinked words t y z → x ≡ y
   one_before a b = some_same (sym a.prev ∙ b.prev)
 
   -- A SETTER KEEPS the neighbor on the other side, at each place
@@ -159,9 +156,9 @@ module _ {W : Type 0} (words : LinkWords W) where
   pub circle_viewed : (t : RawTable W) {es : List W} {r : List Place} → raw_entries t ≡ es → IsCircle words (table_of words es) r → IsCircle words (lent_table words t) r
   circle_viewed t {r = r} e c = let same : IsCircle words (table_of words (raw_entries t)) r = rw e c in same
 
-  pub told_back : (t : RawTable W) {es : List W} {x y : Place} → raw_entries t ≡ es → IsTold words (lent_table words t) x y → IsTold words (table_of words es) x y
+  pub told_back : (t : RawTable W) {es : List W} {x y : Place} → raw_entries t ≡ es → AreLinked words (lent_table words t) x y → AreLinked words (table_of words es) x y
   told_back t {x = x} {y = y} e k =
-      let back : IsTold words (table_of words (raw_entries t)) x y = record { linked = k.linked; next = k.next; stands = k.stands; prev = k.prev } in rw (← e) back
+      let back : AreLinked words (table_of words (raw_entries t)) x y = record { linked = k.linked; next = k.next; stands = k.stands; prev = k.prev } in rw (← e) back
 
   -- what stands beside a place by the words stands there in the view
   pub beside_back : (side : Side) (t : RawTable W) {es : List W} (p : Place) → raw_entries t ≡ es → beside words side (table_of words es) p ≡ beside words side (lent_table words t) p
@@ -194,12 +191,12 @@ module _ {W : Type 0} (words : LinkWords W) where
     closed_back {r} c = let back : IsCircle words (table_of words (raw_entries b)) r = c in rw f back
 
   -- THE FIRST TWO of a circle tell of each other
-  pub first_tells : {t : Table W} {x y : Place} (r : List Place) → IsCircle words t (x ∷ y ∷ r) → IsTold words t x y
+  pub first_tells : {t : Table W} {x y : Place} (r : List Place) → IsCircle words t (x ∷ y ∷ r) → AreLinked words t x y
   first_tells r c = record { linked = c.chain.0.linked; next = c.chain.0.next; stands = c.chain.1.0.linked; prev = c.chain.1.0.prev }
 
   -- A PLACE PUT IN beside another: what the words tell of the two, the circle read from either, and that they are two
   pub put_tells : (side : Side) (t : Table W) (at p : Place) (r : List Place) → IsCircle words t (put_in side at p r)
-      → (x : Place × Place) × IsTold words t x.0 x.1 × (own_on side x ≡ at) × (neighbor_on side x ≡ p)
+      → (x : Place × Place) × AreLinked words t x.0 x.1 × (own_on side x ≡ at) × (neighbor_on side x ≡ p)
   put_tells After t at p r c = ((at, p), first_tells r c, refl, refl)
   put_tells Before t at p r c = ((p, at), first_tells r c, refl, refl)
 
@@ -218,58 +215,58 @@ module _ {W : Type 0} (words : LinkWords W) where
 
   -- a place that stands alone is its own neighbor on either side
   pub alone_tells : (side : Side) {t : Table W} {p : Place} → IsCircle words t (p ∷ [])
-      → (x : Place × Place) × IsTold words t x.0 x.1 × (own_on side x ≡ p) × (neighbor_on side x ≡ p)
+      → (x : Place × Place) × AreLinked words t x.0 x.1 × (own_on side x ≡ p) × (neighbor_on side x ≡ p)
   alone_tells After {t} {p} c = ((p, p), last_tells t p [] c refl, refl, refl)
   alone_tells Before {t} {p} c = ((p, p), last_tells t p [] c refl, refl, refl)
 
   -- WHAT STANDS BEHIND p, which stands where `at` did: the next place of `at`, or p where `at` stood alone
-  pub next_first : {t : Table W} {at n p next : Place} (r : List Place) → IsCircle words t (at ∷ r) → IsTold words t at n → (n ≡ at → next ≡ p) → (n ≢ at → next ≡ n)
+  pub next_first : {t : Table W} {at n p next : Place} (r : List Place) → IsCircle words t (at ∷ r) → AreLinked words t at n → (n ≡ at → next ≡ p) → (n ≢ at → next ≡ n)
       → Some next ≡ first (r ++ p ∷ [])
-  next_first [] c told alone other = ap Some (alone (some_same (sym told.next ∙ c.chain.0.next)))
-  next_first {t} {at} {n} (x ∷ r) c told alone other =
-      let is : n ≡ x = some_same (sym told.next ∙ c.chain.0.next) in ap Some (other (λ e. c.distinct.0.0 (sym e ∙ is)) ∙ is)
+  next_first [] c links_back alone other = ap Some (alone (some_same (sym links_back.next ∙ c.chain.0.next)))
+  next_first {t} {at} {n} (x ∷ r) c links_back alone other =
+      let is : n ≡ x = some_same (sym links_back.next ∙ c.chain.0.next) in ap Some (other (λ e. c.distinct.0.0 (sym e ∙ is)) ∙ is)
 
   -- A PLACE THAT STANDS BESIDE ANOTHER ALREADY is where it would be put
-  pub put_already : (side : Side) (t : Table W) (at p : Place) (r s : List Place) → IsCircle words t (p ∷ r ++ at ∷ s) → (x : Place × Place) → IsTold words t x.0 x.1
+  pub put_already : (side : Side) (t : Table W) (at p : Place) (r s : List Place) → IsCircle words t (p ∷ r ++ at ∷ s) → (x : Place × Place) → AreLinked words t x.0 x.1
       → own_on side x ≡ at → neighbor_on side x ≡ p → IsCircle words t (put_in side at p (s ++ r))
-  put_already After t at p r [] c x told own beside = rotated {n = neighbors words} (p ∷ r) (at ∷ []) c
-  put_already After t at p r (y ∷ s) c x told own beside =
+  put_already After t at p r [] c x links_back own beside = rotated {n = neighbors words} (p ∷ r) (at ∷ []) c
+  put_already After t at p r (y ∷ s) c x links_back own beside =
       let turned = rotated {n = neighbors words} (p ∷ r) (at ∷ y ∷ s) c in
-      let next : y ≡ x.1 = some_same (sym turned.chain.0.next ∙ ap (λ z. (neighbors words (t.entry z)).next) (sym own) ∙ told.next) in
+      let next : y ≡ x.1 = some_same (sym turned.chain.0.next ∙ ap (λ z. (neighbors words (t.entry z)).next) (sym own) ∙ links_back.next) in
       absurd ((absent_right p r (at ∷ y ∷ s) c.distinct.0).1.0 (sym (next ∙ beside)))
-  put_already Before t at p [] s c x told own beside = rw append-nil c
-  put_already Before t at p (y ∷ r) s c x told own beside =
+  put_already Before t at p [] s c x links_back own beside = rw append-nil c
+  put_already Before t at p (y ∷ r) s c x links_back own beside =
       let turned = rotated {n = neighbors words} (p ∷ y ∷ r) (at ∷ s) c in
       let out = absent_left p (y ∷ r) (at ∷ s) c.distinct.0 in
-      let prev = ap (λ z. (neighbors words (t.entry z)).prev) (sym own) ∙ told.prev ∙ ap Some beside in
+      let prev = ap (λ z. (neighbors words (t.entry z)).prev) (sym own) ∙ links_back.prev ∙ ap Some beside in
       absurd (last_not (Some y) r p (λ e. out.0 (sym (some_same e))) out.1 (sym (last_or-append None (at ∷ s) (p ∷ y ∷ r)) ∙ sym turned.chain.0.prev ∙ prev))
 
   -- TWO NEIGHBORS stay so where another place leaves its ring: they are none of the two that are turned to each other for it
-  pub stays_told : (side : Side) {t : Table W} {p at : Place} (from to : Place × Place) → IsTold words t from.0 p → IsTold words t p from.1 → IsTold words t to.0 to.1
+  pub stays_told : (side : Side) {t : Table W} {p at : Place} (from to : Place × Place) → AreLinked words t from.0 p → AreLinked words t p from.1 → AreLinked words t to.0 to.1
       → own_on side to ≡ at → at ≢ p → (neighbor_on side to ≢ p) → (to.0 ≢ from.0) × (to.1 ≢ from.1)
-  stays_told After from to before behind told own other beside = (
-    (λ e. beside (one_next told (rw e before))),
-    (λ e. other (sym own ∙ one_before told (rw e behind))),
+  stays_told After from to before behind links_back own other beside = (
+    (λ e. beside (one_next links_back (rw e before))),
+    (λ e. other (sym own ∙ one_before links_back (rw e behind))),
   )
-  stays_told Before from to before behind told own other beside = (
-    (λ e. other (sym own ∙ one_next told (rw e before))),
-    (λ e. beside (one_before told (rw e behind))),
+  stays_told Before from to before behind links_back own other beside = (
+    (λ e. other (sym own ∙ one_next links_back (rw e before))),
+    (λ e. beside (one_before links_back (rw e behind))),
   )
 
   -- A HEAD WHOSE LAST MEMBER IS THE HEAD has none
-  pub stands_alone : {t : Table W} {b p : Place} (s : List Place) → IsCircle words t (p ∷ s) → IsTold words t b p → b ≡ p → s ≡ []
-  stands_alone [] c told same = refl
-  stands_alone {p = p} (x ∷ s) c told same =
-      absurd (last_not (Some x) s p (λ e. c.distinct.0.0 (sym (some_same e))) c.distinct.0.1 (sym c.chain.0.prev ∙ told.prev ∙ ap Some same))
+  pub stands_alone : {t : Table W} {b p : Place} (s : List Place) → IsCircle words t (p ∷ s) → AreLinked words t b p → b ≡ p → s ≡ []
+  stands_alone [] c links_back same = refl
+  stands_alone {p = p} (x ∷ s) c links_back same =
+      absurd (last_not (Some x) s p (λ e. c.distinct.0.0 (sym (some_same e))) c.distinct.0.1 (sym c.chain.0.prev ∙ links_back.prev ∙ ap Some same))
 
   pub from_gap : (side : Side) (t : Table W) (at : Place) (r : List Place) → IsCircle words t (at ∷ r) → IsCircle words t (before_gap side at r)
   from_gap After t at r c = rotated {n = neighbors words} (at ∷ []) r c
   from_gap Before t at r c = c
 
-  pub last_before : (side : Side) (t : Table W) (at : Place) (r : List Place) → IsCircle words t (at ∷ r) → (x : Place × Place) → IsTold words t x.0 x.1 → own_on side x ≡ at
+  pub last_before : (side : Side) (t : Table W) (at : Place) (r : List Place) → IsCircle words t (at ∷ r) → (x : Place × Place) → AreLinked words t x.0 x.1 → own_on side x ≡ at
       → last (before_gap side at r) ≡ Some x.0
-  last_before After t at r c x told own = last_or-append None r (at ∷ []) ∙ ap Some (sym own)
-  last_before Before t at r c x told own = sym c.chain.0.prev ∙ ap (λ z. (neighbors words (t.entry z)).prev) (sym own) ∙ told.prev
+  last_before After t at r c x links_back own = last_or-append None r (at ∷ []) ∙ ap Some (sym own)
+  last_before Before t at r c x links_back own = sym c.chain.0.prev ∙ ap (λ z. (neighbors words (t.entry z)).prev) (sym own) ∙ links_back.prev
 
   pub all_put : (side : Side) (t : Table W) (at : Place) (r s : List Place) → IsCircle words t (before_gap side at r ++ s) → IsCircle words t (all_put_in side at r s)
   all_put After t at r s c = rotated {n = neighbors words} r (at ∷ s) (rw (append_assoc r (at ∷ []) s) at c)
@@ -280,34 +277,34 @@ module _ {W : Type 0} (words : LinkWords W) where
   none_put Before t at r c = rw append-nil c
 
   -- of two neighbors, each is linked
-  pub own_linked : (side : Side) {t : Table W} {at : Place} (x : Place × Place) → IsTold words t x.0 x.1 → own_on side x ≡ at → words.is_linked (t.entry at) ≡ true
-  own_linked After x told own = rw (sym own) told.linked
-  own_linked Before x told own = rw (sym own) told.stands
+  pub own_linked : (side : Side) {t : Table W} {at : Place} (x : Place × Place) → AreLinked words t x.0 x.1 → own_on side x ≡ at → words.is_linked (t.entry at) ≡ true
+  own_linked After x links_back own = rw (sym own) links_back.linked
+  own_linked Before x links_back own = rw (sym own) links_back.stands
 
   -- WHAT STANDS BESIDE A PLACE, by its word: of two neighbors that are told, the other one
-  pub beside_told : (side : Side) {t : Table W} {at : Place} (x : Place × Place) → IsTold words t x.0 x.1 → own_on side x ≡ at → beside words side t at ≡ Some (neighbor_on side x)
-  beside_told After {t} x told own = ap (λ z. (neighbors words (t.entry z)).next) (sym own) ∙ told.next
-  beside_told Before {t} x told own = ap (λ z. (neighbors words (t.entry z)).prev) (sym own) ∙ told.prev
+  pub beside_told : (side : Side) {t : Table W} {at : Place} (x : Place × Place) → AreLinked words t x.0 x.1 → own_on side x ≡ at → beside words side t at ≡ Some (neighbor_on side x)
+  beside_told After {t} x links_back own = ap (λ z. (neighbors words (t.entry z)).next) (sym own) ∙ links_back.next
+  beside_told Before {t} x links_back own = ap (λ z. (neighbors words (t.entry z)).prev) (sym own) ∙ links_back.prev
 
   -- so a place that is none of these is none of the two
-  pub apart_beside : (side : Side) {t : Table W} {at q : Place} (x : Place × Place) → IsTold words t x.0 x.1 → own_on side x ≡ at → (Some at ≢ Some q)
+  pub apart_beside : (side : Side) {t : Table W} {at q : Place} (x : Place × Place) → AreLinked words t x.0 x.1 → own_on side x ≡ at → (Some at ≢ Some q)
       → (beside words side t at ≢ Some q) → (q ≢ x.0) × (q ≢ x.1)
-  apart_beside After x told own off away = ((λ e. off (ap Some (sym own ∙ sym e))), (λ e. away (beside_told After x told own ∙ ap Some (sym e))))
-  apart_beside Before x told own off away = ((λ e. away (beside_told Before x told own ∙ ap Some (sym e))), (λ e. off (ap Some (sym own ∙ sym e))))
+  apart_beside After x links_back own off away = ((λ e. off (ap Some (sym own ∙ sym e))), (λ e. away (beside_told After x links_back own ∙ ap Some (sym e))))
+  apart_beside Before x links_back own off away = ((λ e. away (beside_told Before x links_back own ∙ ap Some (sym e))), (λ e. off (ap Some (sym own ∙ sym e))))
 
   -- and one that is neither of both neighbors of a place
-  pub apart_around : {t : Table W} {p q x y : Place} → IsTold words t x p → IsTold words t p y → (beside words Before t p ≢ Some q) → (beside words After t p ≢ Some q) → (q ≢ x) × (q ≢ y)
+  pub apart_around : {t : Table W} {p q x y : Place} → AreLinked words t x p → AreLinked words t p y → (beside words Before t p ≢ Some q) → (beside words After t p ≢ Some q) → (q ≢ x) × (q ≢ y)
   apart_around comes goes before behind = ((λ e. before (comes.prev ∙ ap Some (sym e))), (λ e. behind (goes.next ∙ ap Some (sym e))))
 
   -- A GAP THAT IS NOT BESIDE A HEAD, as its two tests tell, is not beside the head's own place
-  pub splices_elsewhere : (side : Side) {t : Table W} {at given b : Place} (to : Place × Place) → IsTold words t to.0 to.1 → own_on side to ≡ at → IsTold words t b given
+  pub splices_elsewhere : (side : Side) {t : Table W} {at given b : Place} (to : Place × Place) → AreLinked words t to.0 to.1 → own_on side to ≡ at → AreLinked words t b given
       → to.0 ≢ given → to.0 ≢ b → at ≢ given
-  splices_elsewhere After to told own before other apart e = other (own ∙ e)
-  splices_elsewhere Before to told own before other apart e = apart (one_before told (rw (own ∙ e) before))
+  splices_elsewhere After to links_back own before other apart e = other (own ∙ e)
+  splices_elsewhere Before to links_back own before other apart e = apart (one_before links_back (rw (own ∙ e) before))
 
   -- what is told of two places that are one
-  pub told_named : {t : Table W} {a b p : Place} → IsTold words t a b → p ≡ a → p ≡ b → IsTold words t p p
-  told_named {t} {a} {p = p} k from to = subst (λ z. IsTold words t z p) (sym from) (subst (λ z. IsTold words t a z) (sym to) k)
+  pub told_named : {t : Table W} {a b p : Place} → AreLinked words t a b → p ≡ a → p ≡ b → AreLinked words t p p
+  told_named {t} {a} {p = p} k from to = subst (λ z. AreLinked words t z p) (sym from) (subst (λ z. AreLinked words t a z) (sym to) k)
 
   -- THE WORDS are those before the call, where the view is
   pub same_back : (a b : RawTable W) {es fs : List W} → raw_entries a ≡ es → fs ≡ raw_entries b → b ≡ a → fs ≡ es
@@ -319,6 +316,6 @@ module _ {W : Type 0} (words : LinkWords W) where
   linked_back t p e on = let back : words.is_linked ((table_of words (raw_entries t)).entry p) ≡ true = on in rw (← e) back
 
   -- and one whose neighbors are told
-  pub amid_back : (t : RawTable W) {es : List W} {p : Place} → raw_entries t ≡ es → (q : Place) × IsTold words (lent_table words t) q p → (q : Place) × IsTold words (lent_table words t) p q
+  pub amid_back : (t : RawTable W) {es : List W} {p : Place} → raw_entries t ≡ es → (q : Place) × AreLinked words (lent_table words t) q p → (q : Place) × AreLinked words (lent_table words t) p q
       → IsAmid words es p
   amid_back t e from to = record { before = from.0; behind = to.0; comes = told_back t e from.1; goes = told_back t e to.1 }

@@ -3,16 +3,12 @@ use Rattle.std.proofs.Common.{◌≡◌, ◌≢◌, ℕ, zero, suc, ◌+◌, ◌
 use Rattle.std.proofs.lemmas.Bool.{lt-ltb, ltb-true}
 use Rattle.std.proofs.lemmas.Bool.Decides.{eqb_tells}
 use Rattle.std.proofs.lemmas.List.{map-append}
-use Rattle.ic_unsafe_ref.specs.declared.place.Place.{Place}
-use Rattle.ic_unsafe_ref.specs.Places.{index_of, place_at}
+use Rattle.ic_link_ops.specs.Prelude.{Place, index_of, place_at, Cut, join, first_or, last, last_or, IsAbsent, Table, ChangesOnlyIn, LinksAlso, LinkStep, TraceIs, acquires}
 use Rattle.ic_unsafe_ref.proofs.PlaceLemmas.{index_at}
-use Rattle.ic_link_ops.specs.Sequences.{Cut, join, first_or, last, last_or, IsAbsent}
-use Rattle.ic_link_ops.specs.LinkSteps.{LinkStep, Replays, acquires}
 use Rattle.ic_link_ops.specs.StepLaws.{replays_on}
-use Rattle.ic_link_ops.specs.Tables.{Table, KeepsBeside, LinksAlso}
 use Rattle.ic_link_ops.specs.PlainTables.{table_of}
 use Rattle.ic_link_ops.specs.Widths.{wide}
-use Rattle.ic_link_ops.specs.Chains.{Ends, ListHead, ShowsChain, TurnsEnds, end_of}
+use Rattle.ic_link_ops.specs.Chains.{Ends, ListHead, RepresentsChain, TurnsEnds, end_of}
 use Rattle.ic_link_ops.specs.Edits.{Inserts, Splices}
 use Rattle.ic_link_ops.proofs.SequenceLemmas.{some_same, none_not, absent_left, absent_right, absent_both, last_not, last_of_push, last_or-append}
 use Rattle.ic_raw.specs.declared.gap.Gap.{Gap}
@@ -142,7 +138,7 @@ module _ {W : Type 0} (linked : W → Bool) (t : Table W) where
   pub run_faultless : (first count : ℕ) → IsFreeRun linked t first count → first_fault (run_faults (place_fault linked t) first count) ≡ 0
   run_faultless first count r = no_faults r.run first count r.numbered r.counted r.free
 
-  -- THE RUN THAT IS LEFT: its next place, and those behind it
+  -- THE RUN THAT IS LEFT: its next place, and those after it
   pub record Begins (number left : ℕ) (run : List Place) : Type 0 where
     pub next : Place
     pub rest : List Place
@@ -181,11 +177,11 @@ not_refused {linked = linked} {t} {number} {left} r some is accepted none =
     let b = begins linked t number left r some in
     none_not b.next (sym none ∙ accepted b.next (is ∙ b.named) b.free)
 
--- and the run behind it stays free
-pub run_behind : {W : Type 0} {linked : W → Bool} {t u : Table W} {number left : ℕ} (p : Place) → place_of number ≡ Some p → number + 1 < 4294967296 → u.extent ≡ t.extent
+-- and the run after it stays free
+pub run_after : {W : Type 0} {linked : W → Bool} {t u : Table W} {number left : ℕ} (p : Place) → place_of number ≡ Some p → number + 1 < 4294967296 → u.extent ≡ t.extent
     → ((q : Place) → q ≢ p → linked (u.entry q) ≡ linked (t.entry q)) → (r : IsFreeRun linked t number left) → 0 < left
     → (rest : IsFreeRun linked u (number + 1) (left - 1)) × (r.run ≡ p ∷ rest.run)
-run_behind {linked = linked} {t} {u} {number} {left} p named small same others r some =
+run_after {linked = linked} {t} {u} {number} {left} p named small same others r some =
     let b = begins linked t number left r some in
     let one : b.next ≡ p = some_same (sym b.named ∙ named) in
     let out = run_absent number (number + 1) p b.rest named (omega arith) small b.numbered in (
@@ -194,28 +190,28 @@ run_behind {linked = linked} {t} {u} {number} {left} p named small same others r
     )
 
 module _ {E W : Type 0} (between : E → Option Place → Option Place → Type 0) (keep : Option Place → W) where
-  -- OF A RUN the places `done` are in, behind what is in front of the gap, and the rest is not
+  -- OF A RUN the places `done` are in, after what is before the gap, and the rest is not
   pub record Fills (old now : Table E) (list : ListHead W) (gap : Cut) (before : Option Place) (run rest : List Place) : Type 0 where
     pub done : List Place
     pub parts : run ≡ done ++ rest
-    pub shows : ShowsChain between keep now list ((gap.front ++ done) ++ gap.back)
+    pub shows : RepresentsChain between keep now list ((gap.front ++ done) ++ gap.back)
     pub after : before ≡ last (gap.front ++ done)
-    pub frame : KeepsBeside old now ((gap.front ++ done) ++ gap.back)
+    pub frame : ChangesOnlyIn old now ((gap.front ++ done) ++ gap.back)
 
   -- at first none is
-  pub fills_none : {t : Table E} {list : ListHead W} (gap : Cut) {before : Option Place} {run rest : List Place} → run ≡ rest → ShowsChain between keep t list (join gap)
+  pub fills_none : {t : Table E} {list : ListHead W} (gap : Cut) {before : Option Place} {run rest : List Place} → run ≡ rest → RepresentsChain between keep t list (join gap)
       → before ≡ last gap.front → Fills t t list gap before run rest
   fills_none {t} {list} gap all shown after = record {
     done = [];
     parts = all;
-    shows = subst (λ s. ShowsChain between keep t list (s ++ gap.back)) (sym (append-nil gap.front)) shown;
+    shows = subst (λ s. RepresentsChain between keep t list (s ++ gap.back)) (sym (append-nil gap.front)) shown;
     after = after ∙ sym (ap last (append-nil gap.front));
     frame = record { extent = refl; others = λ q out. refl };
   }
 
   -- one more
   pub fills_more : {old now new : Table E} {list list' : ListHead W} (gap : Cut) {before : Option Place} {run : List Place} (p : Place) {rest : List Place}
-      → (k : Fills old now list gap before run (p ∷ rest)) → Inserts (ShowsChain between keep) now new list' (record { front = gap.front ++ k.done; back = gap.back }) p
+      → (k : Fills old now list gap before run (p ∷ rest)) → Inserts (RepresentsChain between keep) now new list' (record { front = gap.front ++ k.done; back = gap.back }) p
       → Fills old new list' gap (Some p) run rest
   fills_more {new = new} {list' = list'} gap p {rest} k i =
       let f = gap.front in
@@ -226,7 +222,7 @@ module _ {E W : Type 0} (between : E → Option Place → Option Place → Type 
       record {
         done = d ++ p ∷ [];
         parts = k.parts ∙ sym (append_assoc d (p ∷ []) rest);
-        shows = subst (λ s. ShowsChain between keep new list' s) same i.shows;
+        shows = subst (λ s. RepresentsChain between keep new list' s) same i.shows;
         after = sym (ap last (sym (append_assoc f d (p ∷ []))) ∙ last_of_push (f ++ d) p);
         frame = record {
           extent = i.frame.extent ∙ k.frame.extent;
@@ -240,14 +236,14 @@ module _ {E W : Type 0} (between : E → Option Place → Option Place → Type 
 
   -- and at last all are
   pub fills_all : {old now : Table E} {list : ListHead W} (gap : Cut) {before : Option Place} {run rest : List Place} → Fills old now list gap before run rest → rest ≡ []
-      → Splices (ShowsChain between keep) old now list gap run
+      → Splices (RepresentsChain between keep) old now list gap run
   fills_all {old} {now} {list} gap {run = run} {rest} k none =
       let all : k.done ≡ run = sym (k.parts ∙ ap (λ (s : List Place). k.done ++ s) none ∙ append-nil k.done) in
       let same : (gap.front ++ k.done) ++ gap.back ≡ gap.front ++ (run ++ gap.back) =
       append_assoc gap.front k.done gap.back ∙ ap (λ (s : List Place). gap.front ++ (s ++ gap.back)) all in
       record {
-        shows = subst (λ s. ShowsChain between keep now list s) same k.shows;
-        frame = subst (λ s. KeepsBeside old now s) same k.frame;
+        shows = subst (λ s. RepresentsChain between keep now list s) same k.shows;
+        frame = subst (λ s. ChangesOnlyIn old now s) same k.frame;
       }
 
 -- an end stays where it is told again, and where something stands beside it
@@ -255,29 +251,29 @@ end_again : (at end : Option Place) → end_of at end end ≡ end
 end_again None end = refl
 end_again (Some x) end = refl
 
-end_behind : (x : Place) (s : List Place) (fresh end : Option Place) → end_of (last_or (Some x) s) fresh end ≡ end
-end_behind x [] fresh end = refl
-end_behind x (y ∷ s) fresh end = end_behind y s fresh end
+end_after : (x : Place) (s : List Place) (fresh end : Option Place) → end_of (last_or (Some x) s) fresh end ≡ end
+end_after x [] fresh end = refl
+end_after x (y ∷ s) fresh end = end_after y s fresh end
 
--- ONE MORE PLACE behind those that went in: the list begins with the first of them where nothing stands in front,
+-- ONE MORE PLACE after those that went in: the list begins with the first of them where nothing stands before,
 head_on : (done : List Place) (p : Place) (at was : Option Place) {before head head' : Option Place} → before ≡ last_or at done → head ≡ end_of at (first_or done was) was
     → head' ≡ end_of before (Some p) head → head' ≡ end_of at (first_or (done ++ p ∷ []) was) was
 head_on [] p at was after is turns = turns ∙ (λ k. end_of (after k) (Some p) ((is ∙ end_again at was) k))
-head_on (x ∷ s) p at was {head = head} after is turns = turns ∙ ap (λ b. end_of b (Some p) head) after ∙ end_behind x s (Some p) head ∙ is
+head_on (x ∷ s) p at was {head = head} after is turns = turns ∙ ap (λ b. end_of b (Some p) head) after ∙ end_after x s (Some p) head ∙ is
 
--- and ends with the last where nothing stands behind
+-- and ends with the last where nothing stands after
 tail_on : (done : List Place) (p : Place) (behind end : Option Place) → end_of behind (Some p) (end_of behind (last_or end done) end) ≡ end_of behind (last_or end (done ++ p ∷ [])) end
 tail_on done p None end = sym (last_or-append end done (p ∷ []))
 tail_on done p (Some x) end = refl
 
--- `Names`: entries of the kind say what stands in front of their places
+-- `Names`: entries of the kind say what stands before their places
 module _ {E W : Type 0} (linked : E → Bool) (keep : Option Place → W) (Names : Type 0) where
   -- OF A RUN the places `done` are linked between the sides of the gap, and the rest is not, whatever the entries say
   pub record LinksRun (old now : Table E) (list list' : ListHead W) (gap : Gap) (before : Option Place) (run rest : List Place) : Type 0 where
     pub done : List Place
     pub parts : run ≡ done ++ rest
     pub after : before ≡ last_or gap.before done
-    pub steps : Replays linked old now (map acquires done)
+    pub steps : TraceIs linked old now (map acquires done)
     pub others : (q : Place) → IsAbsent q done → gap.before ≢ Some q → (Names → gap.behind ≢ Some q) → now.entry q ≡ old.entry q
     pub head : list'.head ≡ end_of gap.before (first_or done list.head) list.head
     pub tail : (end : Option Place) → list.tail ≡ keep end → list'.tail ≡ keep (end_of gap.behind (last_or end done) end)
@@ -312,7 +308,7 @@ module _ {E W : Type 0} (linked : E → Bool) (keep : Option Place → W) (Names
     tail = λ end is. turns.tail _ (k.tail end is) ∙ ap keep (tail_on k.done p gap.behind end);
   }
 
-  -- and at last all are: nothing else is touched where entries behind the gap stay, or there are none,
+  -- and at last all are: nothing else is touched where entries after the gap stay, or there are none,
   module _ {old now : Table E} {list list' : ListHead W} {gap : Gap} {before : Option Place} {run rest : List Place} (k : LinksRun old now list list' gap before run rest)
       (none : rest ≡ []) where
     all_done : k.done ≡ run
@@ -320,7 +316,7 @@ module _ {E W : Type 0} (linked : E → Bool) (keep : Option Place → W) (Names
 
     pub touches_run : (Names → gap.behind ≡ None) → TouchesRun linked old now run gap.before
     touches_run outermost = record {
-      steps_are = subst (λ s. Replays linked old now (map acquires s)) all_done k.steps;
+      steps_are = subst (λ s. TraceIs linked old now (map acquires s)) all_done k.steps;
       others = λ q out. k.others q (subst (IsAbsent q) (sym all_done) (absent_run q run out.1)) out.0 (λ names e. none_not q (sym (outermost names) ∙ e));
     }
 
@@ -336,16 +332,16 @@ module _ {E W : Type 0} (linked : E → Bool) (keep : Option Place → W) (Names
 pub free_none : {W : Type 0} {linked : W → Bool} {t : Table W} {first count : ℕ} → count ≡ 0 → IsFreeRun linked t first count
 free_none none = record { run = []; numbered = tt; counted = sym none; free = tt }
 
-pub splices_none : {E H : Type 0} {Shows : Table E → H → List Place → Type 0} {t : Table E} {list : H} (cut : Cut) {run : List Place} → Shows t list (join cut) → run ≡ []
-    → Splices Shows t t list cut run
-splices_none {Shows = Shows} {t} {list} cut shown none =
-    let nothing : Splices Shows t t list cut [] = record { shows = shown; frame = record { extent = refl; others = λ q out. refl } } in
-    subst (λ run. Splices Shows t t list cut run) (sym none) nothing
+pub splices_none : {E H : Type 0} {Represents : Table E → H → List Place → Type 0} {t : Table E} {list : H} (cut : Cut) {run : List Place} → Represents t list (join cut) → run ≡ []
+    → Splices Represents t t list cut run
+splices_none {Represents = Represents} {t} {list} cut shown none =
+    let nothing : Splices Represents t t list cut [] = record { shows = shown; frame = record { extent = refl; others = λ q out. refl } } in
+    subst (λ run. Splices Represents t t list cut run) (sym none) nothing
 
 pub touches_no_run : {W : Type 0} {linked : W → Bool} {t : Table W} {first count : ℕ} {end : Option Place} → count ≡ 0 → (free : IsFreeRun linked t first count)
     → TouchesRun linked t t free.run end
 touches_no_run {linked = linked} {t} {first} {count} none free = record {
-  steps_are = subst (λ s. Replays linked t t (map acquires s)) (sym (none_left linked t first count free none)) (λ q. refl);
+  steps_are = subst (λ s. TraceIs linked t t (map acquires s)) (sym (none_left linked t first count free none)) (λ q. refl);
   others = λ q out. refl;
 }
 
@@ -382,15 +378,15 @@ module _ {W : Type 0} (linked : W → Bool) (unlinked : W) where
     free = subst (λ fs. AreFree linked (table_of unlinked fs) r.run) e (are_back t r.run r.free);
   }
 
-  -- what a fill of a view touches is touched among the words, behind the end of the gap that was found
+  -- what a fill of a view touches is touched among the words, after the end of the gap that was found
   pub run_touched : {Names : Type 0} (a b : RawTable W) {es fs : List W} {found : Option Gap} {end : Option Place} {first count : ℕ} → raw_entries a ≡ es → fs ≡ raw_entries b
       → ((g : Gap) → found ≡ Some g → (Names → g.behind ≡ None) → (free : IsFreeRun linked (raw_table unlinked a) first count)
       → TouchesRun linked (raw_table unlinked a) (raw_table unlinked b) free.run g.before)
       → ((g : Gap) × (found ≡ Some g)) → ((g : Gap) → found ≡ Some g → (g.before ≡ end) × (Names → g.behind ≡ None))
       → (free : IsFreeRun linked (table_of unlinked es) first count) → TouchesRun linked (table_of unlinked es) (table_of unlinked fs) free.run end
   unfolding run_viewed
-  run_touched a b view words touched gap told free =
-      let at = told gap.0 gap.1 in
+  run_touched a b view words touched gap links_back free =
+      let at = links_back gap.0 gap.1 in
       touched_back unlinked a b view words (ap (λ e. e ∷ map Some free.run) (sym at.0)) (touched gap.0 gap.1 at.1 (run_viewed a view free))
 
   same_faults : (t : RawTable W) (first count : ℕ)

@@ -2,12 +2,10 @@
 use Rattle.std.proofs.Common.{◌≡◌, ℕ, ◌+◌, ◌*◌, ◌/◌, ◌%◌, ◌<◌, ◌≤◌, List, length, Bool, true, false, cond, nat_eq, nat_lt, Option, Some, None, slice_set, slice_index_or, refl, sym, ap, ◌∙◌, subst, inl, inr, arith, ne_eqb}
 use Rattle.std.proofs.lemmas.Bool.{ltb-true, lt-ltb, le-ltb}
 use Rattle.std.proofs.lemmas.List.{length-set}
-use Rattle.ic_unsafe_ref.specs.declared.place.Place.{Place}
-use Rattle.ic_unsafe_ref.specs.Places.{index_of, word_of, place_at}
+use Rattle.ic_link_ops.specs.Prelude.{Place, index_of, word_of, place_at, Table, ChangesOnly}
 use Rattle.ic_unsafe_ref.proofs.PlaceLemmas.{place_at_word, word_fits, same_or_not, word_is, word_tells}
 use Rattle.ic_link_ops.specs.declared.color.Color.{Color}
 use Rattle.ic_link_ops.specs.declared.color.Color.TheVariants.{Red, Black}
-use Rattle.ic_link_ops.specs.Tables.{Table, ChangesOnly}
 use Rattle.ic_link_ops.specs.PlainTables.{entry_at, table_with}
 use Rattle.ic_link_ops.specs.RedBlackTree.{Node}
 use Rattle.ic_link_ops.specs.TreeWords.{one_if_black}
@@ -114,7 +112,7 @@ pub record IsQuiet (places : ℕ) (old new : RawThree) : Type 0 where
 pub keeps_marks : {identity : List ℕ} (es : List RawThree) (p : Place) (new beyond : RawThree) (i : ℕ) → i ≡ index_of p → nat_lt (index_of p) (length es) ≡ true
     → IsQuiet (length es) (slice_index_or es i beyond) new
     → KeepsMarks (table_with no_tree_words identity es) (table_with no_tree_words identity (slice_set es i new))
-keeps_marks {identity} es p new beyond i at_p has quiet = record { extent = only.extent; marks = marks; names = names } where
+keeps_marks {identity} es p new beyond i at_p has keeps_links = record { extent = only.extent; marks = marks; names = names } where
   only : ChangesOnly (table_with no_tree_words identity es) (table_with no_tree_words identity (slice_set es i new)) p
   only = changes_only no_tree_words es p new i at_p
 
@@ -130,14 +128,14 @@ keeps_marks {identity} es p new beyond i at_p has quiet = record { extent = only
   marks : (q : Place) → is_linked_three (entry_at no_tree_words (slice_set es i new) q) ≡ is_linked_three (entry_at no_tree_words es q)
   marks q = elim (same_or_not q p) [
     | inl e ↦ subst (λ z. is_linked_three (entry_at no_tree_words (slice_set es i new) z) ≡ is_linked_three (entry_at no_tree_words es z)) (sym e)
-        (ap is_linked_three is ∙ quiet.mark ∙ sym (ap is_linked_three was))
+        (ap is_linked_three is ∙ keeps_links.mark ∙ sym (ap is_linked_three was))
     | inr n ↦ ap is_linked_three (only.others q n)
   ]
 
   names : (q : Place) → NamesWithin (length es) (entry_at no_tree_words es q) → NamesWithin (length (slice_set es i new)) (entry_at no_tree_words (slice_set es i new) q)
   names q h = subst (λ n. NamesWithin n (entry_at no_tree_words (slice_set es i new) q)) (sym (length-set es i new)) (elim (same_or_not q p) [
     | inl e ↦ subst (NamesWithin (length es)) (sym (ap (entry_at no_tree_words (slice_set es i new)) e ∙ is))
-        (quiet.names (subst (NamesWithin (length es)) (ap (entry_at no_tree_words es) e ∙ was) h))
+        (keeps_links.names (subst (NamesWithin (length es)) (ap (entry_at no_tree_words es) e ∙ was) h))
     | inr n ↦ subst (NamesWithin (length es)) (sym (only.others q n)) h
   ])
 
@@ -153,8 +151,8 @@ module _ (p : Place) (places : ℕ) (w : RawThree) where
     pub left_set : says (record w { left = n + w.left % 2 }) p places ≡ record (says w p places) { left = o }
     left_set = ap (λ x. record (says w p places) { left = x }) (named (place_beside o n w.left is))
 
-    pub left_quiet : IsQuiet places w (record w { left = n + w.left % 2 })
-    left_quiet = record {
+    pub left_keeps_links : IsQuiet places w (record w { left = n + w.left % 2 })
+    left_keeps_links = record {
       mark = mark_beside o n w.left is;
       names = λ h. record { left = within (place_beside o n w.left is); right = h.right; parent = h.parent };
     }
@@ -162,8 +160,8 @@ module _ (p : Place) (places : ℕ) (w : RawThree) where
     pub right_set : says (record w { right = n }) p places ≡ record (says w p places) { right = o }
     right_set = ap (λ x. record (says w p places) { right = x }) (named (ap place_in is ∙ place_kept o))
 
-    pub right_quiet : IsQuiet places w (record w { right = n })
-    right_quiet = record { mark = refl; names = λ h. record { left = h.left; right = within (ap place_in is ∙ place_kept o); parent = h.parent } }
+    pub right_keeps_links : IsQuiet places w (record w { right = n })
+    right_keeps_links = record { mark = refl; names = λ h. record { left = h.left; right = within (ap place_in is ∙ place_kept o); parent = h.parent } }
 
     pub parent_set : says (record w { parent = n + w.parent % 2 }) p places ≡ record (says w p places) { parent = o }
     parent_set =
@@ -171,8 +169,8 @@ module _ (p : Place) (places : ℕ) (w : RawThree) where
         let mark = mark_beside o n w.parent is in
         λ k. record (says w p places) { parent = above k; color = cond (mark k) Black Red }
 
-    pub parent_quiet : IsQuiet places w (record w { parent = n + w.parent % 2 })
-    parent_quiet = record { mark = refl; names = λ h. record { left = h.left; right = h.right; parent = within (place_beside o n w.parent is) } }
+    pub parent_keeps_links : IsQuiet places w (record w { parent = n + w.parent % 2 })
+    parent_keeps_links = record { mark = refl; names = λ h. record { left = h.left; right = h.right; parent = within (place_beside o n w.parent is) } }
 
     module _ (c : Color) (b : ℕ) (eb : b ≡ one_if_black c) where
       place_colored : place_in (n + b) ≡ o
@@ -191,8 +189,8 @@ module _ (p : Place) (places : ℕ) (w : RawThree) where
           let color = ap (λ m. cond (nat_eq m 1) Black Red) mark ∙ color_kept c in
           λ k. record (says w p places) { parent = above k; color = color k }
 
-      pub parent_and_color_quiet : IsQuiet places w (record w { parent = n + b })
-      parent_and_color_quiet = record { mark = refl; names = λ h. record { left = h.left; right = h.right; parent = within place_colored } }
+      pub parent_and_color_keeps_links : IsQuiet places w (record w { parent = n + b })
+      parent_and_color_keeps_links = record { mark = refl; names = λ h. record { left = h.left; right = h.right; parent = within place_colored } }
 
   module _ (c : Color) (b : ℕ) (is : b ≡ one_if_black c) where
     pub same_parent : place_in (w.parent / 2 * 2 + b) ≡ place_in w.parent
@@ -209,8 +207,8 @@ module _ (p : Place) (places : ℕ) (w : RawThree) where
         let color = ap (λ m. cond (nat_eq m 1) Black Red) mark ∙ color_kept c in
         λ k. record (says w p places) { parent = above k; color = color k }
 
-    pub color_quiet : IsQuiet places w (record w { parent = w.parent / 2 * 2 + b })
-    color_quiet = record {
+    pub color_keeps_links : IsQuiet places w (record w { parent = w.parent / 2 * 2 + b })
+    color_keeps_links = record {
       mark = refl;
       names = λ h. record { left = h.left; right = h.right; parent = subst (λ x. named_within places x ≡ x) (sym same_parent) h.parent };
     }

@@ -1,16 +1,12 @@
--- What calls of a singly linked list read of what is shown, and of the places that lead to one another.
+-- What calls of a singly linked list read of what is represented, and of the places that lead to one another.
 use Rattle.std.proofs.Common.{◌≡◌, ◌≢◌, ◌↔◌, ◌≤◌, Option, Some, None, List, [], ◌∷◌, ◌++◌, length, true, refl, sym, ap, subst, ◌∙◌, arith}
-use Rattle.ic_unsafe_ref.specs.declared.place.Place.{Place}
-use Rattle.ic_unsafe_ref.specs.Places.{index_of}
-use Rattle.ic_link_ops.specs.Sequences.{Cut, join, first_or, first, last, IsAbsent, IsDistinct, IsAfter}
-use Rattle.ic_link_ops.specs.LinkSteps.{LinkStep, acquires, releases}
-use Rattle.ic_link_ops.specs.Tables.{Table, ChangesOnly, IsCovered, IsLinked, KeepsLinked, Unlinks}
+use Rattle.ic_link_ops.specs.Prelude.{Place, index_of, Cut, join, first_or, first, last, IsAbsent, IsDistinct, IsAfter, Table, ChangesOnly, IsCovered, IsLinked, KeepsLinked, Unlinks, LinkStep, acquires, releases}
 use Rattle.ic_link_ops.specs.Chains.{IsChain}
 use Rattle.ic_link_ops.specs.EntryLaws.{linked_in_range}
 use Rattle.ic_link_ops.specs.SinglyLinkedList.{Front, IsFollowed, list_from, successor_at}
 use Rattle.ic_link_ops.proofs.SequenceLemmas.{first_of_back, first_or-append, last_of_push, none_not, some_same}
 use Rattle.ic_link_ops.proofs.Chains.{chain_glue, chain_one}
-use Rattle.ic_link_ops.proofs.ShownLists.{before_gap}
+use Rattle.ic_link_ops.proofs.RepresentedLists.{before_gap}
 use Rattle.ic_link_ops.proofs.SinglyLists.{followed_linked, followed_one}
 use Rattle.ic_raw.specs.declared.words.RawOne.{RawOne}
 use Rattle.ic_raw.specs.declared.words.RawFront.{RawFront}
@@ -20,12 +16,12 @@ use Rattle.ic_raw.specs.Gaps.{gap_of}
 use Rattle.ic_raw.specs.Words.{no_word, is_linked_one}
 use Rattle.ic_raw.specs.Tables.{IsFree, raw_entries}
 use Rattle.ic_raw.specs.Touches.{IsNoneOf, Touches}
-use Rattle.ic_raw.specs.Singly.{LeadsTo, Shows, ShowsSome, TellsGap, TellsMember, table_of, lent_table, list_of, successor, next_from}
-use Rattle.ic_raw.proofs.Views.{viewed, shown_back}
+use Rattle.ic_raw.specs.Singly.{LeadsTo, Represents, RepresentsSome, TellsGap, TellsMember, table_of, lent_table, list_of, successor, next_from}
+use Rattle.ic_raw.proofs.Views.{viewed, represented_back}
 use Rattle.ic_raw.proofs.Lists.{kept}
 use Rattle.ic_raw.proofs.Touches.{touches_insert, touches_remove, touches_replace}
 
--- what has something behind it is linked
+-- what has something after it is linked
 pub law : (e : RawOne) (b a : Option Place) → IsFollowed successor e b a → is_linked_one e ≡ true
 law = followed_linked {s = successor} {linked = is_linked_one} (λ e. refl)
 
@@ -33,23 +29,23 @@ law = followed_linked {s = successor} {linked = is_linked_one} (λ e. refl)
 pub covered : (t : RawTable RawOne) (q : Place) → is_linked_one ((lent_table t).entry q) ≡ true → IsCovered (lent_table t) q
 covered t q on = linked_in_range is_linked_one no_word refl (raw_entries t) (index_of q) on
 
--- the place before a gap leads to the one behind it
-pub next_shown : {t : Table RawOne} {list : Front} (front back : List Place) → Shows t list (front ++ back) → (at : Option Place) → at ≡ last front → next_from t list at ≡ first back
-next_shown front back shown None e = shown.head ∙ first_of_back front back e
-next_shown front back shown (Some q) e = (before_gap front back shown e).next
+-- the place before a gap leads to the one after it
+pub next_represented : {t : Table RawOne} {list : Front} (front back : List Place) → Represents t list (front ++ back) → (at : Option Place) → at ≡ last front → next_from t list at ≡ first back
+next_represented front back shown None e = shown.head ∙ first_of_back front back e
+next_represented front back shown (Some q) e = (before_gap front back shown e).next
 
--- what is found by a view of the words is found by what they show
+-- what is found by a view of the words is found by what they represent
 pub gap_viewed : (t : RawTable RawOne) {words : List RawOne} {list shown : Front} {at named : Option Place} {found : Option Gap}
     → raw_entries t ≡ words → list ≡ shown → at ≡ named
-    → ((cut : Cut) → Shows (lent_table t) list (join cut) → IsAfter cut at → found ≡ Some (gap_of cut))
-    → (cut : Cut) → Shows (table_of words) shown (join cut) → IsAfter cut named → found ≡ Some (gap_of cut)
+    → ((cut : Cut) → Represents (lent_table t) list (join cut) → IsAfter cut at → found ≡ Some (gap_of cut))
+    → (cut : Cut) → Represents (table_of words) shown (join cut) → IsAfter cut named → found ≡ Some (gap_of cut)
 gap_viewed t view same is finds cut shows after = finds cut (rw same (viewed no_word kept t view shows)) (is ∙ after)
 
--- what is found behind a place by a view of the words stands there by the words themselves
-pub behind_told : (t : RawTable RawOne) {words : List RawOne} (list : RawFront) {shown : Front} {at named : Option Place} {gap : Gap} {q : Place}
+-- what is found after a place by a view of the words stands there by the words themselves
+pub after_told : (t : RawTable RawOne) {words : List RawOne} (list : RawFront) {shown : Front} {at named : Option Place} {gap : Gap} {q : Place}
     → raw_entries t ≡ words → shown ≡ list_of list → at ≡ named → gap ≡ record { before = at; behind = next_from (lent_table t) shown at } → gap.behind ≡ Some q
     → next_from (table_of words) (list_of list) named ≡ Some q
-behind_told t list {shown} {at} {named} {gap} {q} view same is found stands =
+after_told t list {shown} {at} {named} {gap} {q} view same is found stands =
     let seen : next_from (lent_table t) shown at ≡ Some q = sym (ap (λ (g : Gap). g.behind) found) ∙ stands in
     let there = subst (λ l. next_from (lent_table t) l at ≡ Some q) same seen in
     let back : next_from (table_of (raw_entries t)) (list_of list) named ≡ Some q = subst (λ a. next_from (lent_table t) (list_of list) a ≡ Some q) is there in
@@ -71,10 +67,10 @@ module _ (t : RawTable RawOne) {words : List RawOne} {list shown : Front} (view 
       subst (λ es. seen ↔ TellsMember (table_of es) list named) view
       (subst (λ l. seen ↔ TellsMember (table_of (raw_entries t)) l named) same (subst (λ a. seen ↔ TellsMember (table_of (raw_entries t)) shown a) is it))
 
-  pub some_shown : ShowsSome (lent_table t) shown ↔ ShowsSome (table_of words) list
-  some_shown = (
-    (λ x. (x.0, shown_back no_word kept t view (subst (λ l. Shows (lent_table t) l x.0) same x.1))),
-    (λ x. (x.0, viewed no_word kept t view (subst (λ l. Shows (table_of words) l x.0) (sym same) x.1))),
+  pub some_represented : RepresentsSome (lent_table t) shown ↔ RepresentsSome (table_of words) list
+  some_represented = (
+    (λ x. (x.0, represented_back no_word kept t view (subst (λ l. Represents (lent_table t) l x.0) same x.1))),
+    (λ x. (x.0, viewed no_word kept t view (subst (λ l. Represents (table_of words) l x.0) (sym same) x.1))),
   )
 
 -- the words tell of a first member, which is linked
@@ -87,25 +83,25 @@ member_first t {p = p} is on = (
 -- and of one after a place, where the gap that is found there has one
 pub member_told : (t : Table RawOne) (list : Front) {at : Option Place} {gap : Gap} {p : Place} → TellsGap t list at → gap ≡ record { before = at; behind = next_from t list at }
     → gap.behind ≡ Some p → TellsMember t list at
-member_told t list {p = p} told found is = (told, (λ none. none_not p (sym none ∙ sym (ap (λ (g : Gap). g.behind) found) ∙ is)))
+member_told t list {p = p} links_back found is = (links_back, (λ none. none_not p (sym none ∙ sym (ap (λ (g : Gap). g.behind) found) ∙ is)))
 
--- a list without a first member shows none
-pub shows_none : (t : Table RawOne) (list : Front) → list.head ≡ None → ShowsSome t list
-shows_none t list is = ([], record { distinct = tt; chain = tt; head = is; tail = refl })
+-- a list without a first member represents none
+pub represents_none : (t : Table RawOne) (list : Front) → list.head ≡ None → RepresentsSome t list
+represents_none t list is = ([], record { distinct = tt; chain = tt; head = is; tail = refl })
 
 -- A CHAIN THAT ENDS COMES TO NO PLACE TWICE: from there it would go on the same way, and end as soon
 module _ (t : Place → RawOne) where
-  -- no entry says what stands in front of its place
-  pub behind_any : (b b' : Option Place) (w : List Place) (a : Option Place) → IsChain (IsFollowed successor) t b w a → IsChain (IsFollowed successor) t b' w a
-  behind_any b b' [] a c = tt
-  behind_any b b' (x ∷ w) a c = (record { linked = c.0.linked; next = c.0.next }, c.1)
+  -- no entry says what stands before its place
+  pub after_any : (b b' : Option Place) (w : List Place) (a : Option Place) → IsChain (IsFollowed successor) t b w a → IsChain (IsFollowed successor) t b' w a
+  after_any b b' [] a c = tt
+  after_any b b' (x ∷ w) a c = (record { linked = c.0.linked; next = c.0.next }, c.1)
 
   not_ahead : (b b' : Option Place) (x : Place) (w rest : List Place) → IsChain (IsFollowed successor) t b (x ∷ w) None → IsChain (IsFollowed successor) t b' rest None
       → length rest ≤ length w → IsAbsent x rest
   not_ahead b b' x w [] c k few = tt
   not_ahead b b' x w (y ∷ rest) c k few = (
     (λ e.
-        let same : x ∷ w ≡ y ∷ rest = chain_one (IsFollowed successor) followed_one t b (x ∷ w) (y ∷ rest) (ap Some e) c (behind_any b' b (y ∷ rest) None k) in
+        let same : x ∷ w ≡ y ∷ rest = chain_one (IsFollowed successor) followed_one t b (x ∷ w) (y ∷ rest) (ap Some e) c (after_any b' b (y ∷ rest) None k) in
         omega (arith, ap length same, few)),
     not_ahead b (Some y) x w rest c k.1 (omega (arith, few)),
   )
@@ -115,7 +111,7 @@ module _ (t : Place → RawOne) where
   ended_distinct b (x ∷ w) c = (not_ahead b (Some x) x w w c c.1 (omega arith), ended_distinct (Some x) w c.1)
 
 module _ {t : Table RawOne} {front at : Place} (leads : LeadsTo t front at) (linked : is_linked_one (t.entry at) ≡ true) where
-  -- what is walked, with `at` itself, in front of what stands behind
+  -- what is walked, with `at` itself, before what stands after
   chain_on : (next : Option Place) → (successor_at successor t at).next ≡ next → IsChain (IsFollowed successor) t.entry None (leads.walked ++ at ∷ []) next
   chain_on next behind =
       chain_glue (IsFollowed successor) t.entry None leads.walked (at ∷ []) next leads.chain (record { linked = linked; next = behind }, tt)
@@ -123,12 +119,12 @@ module _ {t : Table RawOne} {front at : Place} (leads : LeadsTo t front at) (lin
   starts_on : (next : Option Place) → Some front ≡ first_or (leads.walked ++ at ∷ []) next
   starts_on next = leads.starts ∙ sym (first_or-append leads.walked (at ∷ []) next)
 
-  -- they lead on to what stands behind it,
+  -- they lead on to what stands after it,
   pub leads_on : {next : Place} → (successor_at successor t at).next ≡ Some next → LeadsTo t front next
   leads_on {next} behind = record { walked = leads.walked ++ at ∷ []; chain = chain_on (Some next) behind; starts = starts_on (Some next) }
 
   -- and where nothing does, they are a list, which ends there
-  pub ends_there : (successor_at successor t at).next ≡ None → (s : List Place) × Shows t (list_from (Some front)) s × (Some at ≡ last s)
+  pub ends_there : (successor_at successor t at).next ≡ None → (s : List Place) × Represents t (list_from (Some front)) s × (Some at ≡ last s)
   ends_there behind =
       let chain = chain_on None behind in (
         leads.walked ++ at ∷ [],
@@ -145,7 +141,7 @@ pub touches_places : {old new : Table RawOne} {steps : List LinkStep} (places : 
     → Touches is_linked_one old new steps places
 touches_places places k = record { steps_are = k.steps_are; others = λ q out. k.others q (apart_none places q out) }
 
--- AN EDIT TOUCHES NOTHING BEHIND IT, because no entry says what stands in front of its place
+-- AN EDIT TOUCHES NOTHING BEHIND IT, because no entry says what stands before its place
 module _ {old mid new : Table RawOne} {before behind : Option Place} {p : Place} where
   pub touches_put : IsFree is_linked_one old p → IsLinked is_linked_one mid p → ChangesOnly old mid p → KeepsLinked is_linked_one mid new
       → ((q : Place) → before ≢ Some q → q ≢ p → (⊥ → behind ≢ Some q) → new.entry q ≡ mid.entry q)

@@ -1,9 +1,7 @@
 -- What an edit touches follows of what its parts change: the link that is acquired or released, and the neighbors that are turned.
 use Rattle.std.proofs.Common.{◌≡◌, ◌≢◌, Bool, Option, Some, List, [], ◌∷◌, ◌++◌, sym, ap, subst, ◌∙◌}
-use Rattle.ic_unsafe_ref.specs.declared.place.Place.{Place}
-use Rattle.ic_link_ops.specs.Tables.{Table, ChangesOnly, IsLinked, KeepsLinked, LinksAlso, Unlinks}
-use Rattle.ic_link_ops.specs.LinkSteps.{LinkStep, acquires, releases}
-use Rattle.ic_link_ops.specs.StepLaws.{replays_within}
+use Rattle.ic_link_ops.specs.Prelude.{Place, Table, ChangesOnly, IsLinked, KeepsLinked, LinksAlso, Unlinks, LinkStep, acquires, releases}
+use Rattle.ic_link_ops.specs.StepLaws.{trace_within}
 use Rattle.ic_link_ops.specs.PlainTables.{table_of}
 use Rattle.ic_raw.specs.declared.table.RawTable.{RawTable}
 use Rattle.ic_raw.specs.Tables.{IsFree, raw_entries, raw_table}
@@ -23,7 +21,7 @@ module _ {E : Type 0} {linked : E → Bool} where
   pub unlinks_last : {old mid new : Table E} {p : Place} → KeepsLinked linked old mid → Unlinks linked mid new p → Unlinks linked old new p
   unlinks_last keeps off = record { was = sym (keeps _) ∙ off.was; is = off.is; others = λ q n. off.others q n ∙ keeps q }
 
-  -- `Names`: entries of the kind say what stands in front of their places
+  -- `Names`: entries of the kind say what stands before their places
   module _ {Names : Type 0} {old mid new : Table E} {before behind : Option Place} where
     -- INSERT: p is linked, and then put between its neighbors
     pub touches_insert : {p : Place} → IsFree linked old p → IsLinked linked mid p → ChangesOnly old mid p → KeepsLinked linked mid new
@@ -92,5 +90,5 @@ module _ {E : Type 0} {linked : E → Bool} where
       → Touches linked (table_of unlinked es) (table_of unlinked fs) steps places'
   touched_back unlinked a b {steps} {places} e f same touched =
       let back : Touches linked (table_of unlinked (raw_entries a)) (table_of unlinked (raw_entries b)) steps places =
-      record { steps_are = replays_within linked _ _ steps _ _ touched.steps_are; others = touched.others } in
+      record { steps_are = trace_within linked _ _ steps _ _ touched.steps_are; others = touched.others } in
       rw (← e, f, same) back

@@ -1,13 +1,10 @@
 -- What an edit of a tree leaves whatever the words say: which places are linked, and sets of places out of which no link leads.
 use Rattle.std.proofs.Common.{◌≡◌, ◌≢◌, ◌⊎◌, ℕ, Bool, true, false, cond, nat_lt, Option, Some, None, List, [], ◌∷◌, refl, sym, ap, ◌∙◌, subst, inl, inr, eq-eqb}
 use Rattle.std.proofs.lemmas.Bool.{lt-ltb}
-use Rattle.ic_unsafe_ref.specs.declared.place.Place.{Place}
-use Rattle.ic_unsafe_ref.specs.Places.{index_of}
+use Rattle.ic_link_ops.specs.Prelude.{Place, index_of, Extent, Table, ChangesOnly, LinksAlso, Unlinks, Exchanges, LinkStep, TraceIs}
 use Rattle.ic_unsafe_ref.proofs.PlaceLemmas.{same_or_not}
-use Rattle.ic_link_ops.specs.LinkSteps.{LinkStep, Replays}
 use Rattle.ic_link_ops.specs.RedBlackTree.{Node}
-use Rattle.ic_link_ops.specs.StepLaws.{replays_within}
-use Rattle.ic_link_ops.specs.Tables.{Extent, Table, ChangesOnly, LinksAlso, Unlinks, Exchanges}
+use Rattle.ic_link_ops.specs.StepLaws.{trace_within}
 use Rattle.ic_link_ops.specs.Walk.{is_end}
 use Rattle.ic_link_ops.proofs.SequenceLemmas.{none_not, some_same}
 use Rattle.ic_link_ops.proofs.Walks.{is_end_not}
@@ -80,10 +77,10 @@ pub came_within : {t mid u : Table RawThree} {p : Place} {root root' at : Option
     → KeepsMarks mid u
     → ((T : Place → Bool) → IsClosedBut seen_node (seen mid) root (Some p) T → T p ≡ true → IsIn T at → IsClosed seen_node (seen u) root' T)
     → IsIn (has_place t) root → IsIn (has_place t) at → StaysWithin t u root root' (Some p) None (at ∷ [])
-came_within {t} {mid} {u} {p} {root} {root'} {at} free only bare quiet puts root_in at_in = record {
-  extent = quiet.extent ∙ only.extent;
+came_within {t} {mid} {u} {p} {root} {root'} {at} free only bare keeps_links puts root_in at_in = record {
+  extent = keeps_links.extent ∙ only.extent;
   starts = in_nodes (stays (has_place t) (closed t root root_in) at_in);
-  names = λ q out h. quiet.names q (elim (same_or_not q p) [
+  names = λ q out h. keeps_links.names q (elim (same_or_not q p) [
     | inl e ↦ subst (IsWithin mid) (sym e) bare
     | inr n ↦ elim h [ inl e ↦ absurd (n (sym (some_same e))) | inr w ↦ changed_within only q n w ]
   ]);
@@ -105,10 +102,10 @@ came_within {t} {mid} {u} {p} {root} {root'} {at} free only bare quiet puts root
 pub stays_within : {t u : Table RawThree} {root root' : Option Place} {ends : List (Option Place)} → KeepsMarks t u
     → StaysClosed seen_node (seen t) (seen u) root root' ends []
     → IsIn (has_place t) root → AreIn (has_place t) ends → StaysWithin t u root root' None None ends
-stays_within {t} {root = root} quiet stays root_in ends_in = record {
-  extent = quiet.extent;
+stays_within {t} {root = root} keeps_links stays root_in ends_in = record {
+  extent = keeps_links.extent;
   starts = in_nodes (stays (has_place t) (closed t root root_in) ends_in).0;
-  names = λ q out h. elim h [ inl e ↦ absurd (none_not q e) | inr w ↦ quiet.names q w ];
+  names = λ q out h. elim h [ inl e ↦ absurd (none_not q e) | inr w ↦ keeps_links.names q w ];
   closed = λ S h ends. (stays S h ends).0;
 }
 
@@ -151,10 +148,10 @@ module _ (a b : RawTable RawThree) {es fs : List RawThree} where
       } in
       rw (← e, f, x, x', y, z, o) back
 
-  pub steps_back : (steps : List LinkStep) → raw_entries a ≡ es → fs ≡ raw_entries b → Replays is_linked_three (lent_table a) (lent_table b) steps
-      → Replays is_linked_three (table_of es) (table_of fs) steps
+  pub steps_back : (steps : List LinkStep) → raw_entries a ≡ es → fs ≡ raw_entries b → TraceIs is_linked_three (lent_table a) (lent_table b) steps
+      → TraceIs is_linked_three (table_of es) (table_of fs) steps
   steps_back steps e f makes =
-      let back : Replays is_linked_three (table_of (raw_entries a)) (table_of (raw_entries b)) steps = replays_within is_linked_three _ _ steps _ _ makes in
+      let back : TraceIs is_linked_three (table_of (raw_entries a)) (table_of (raw_entries b)) steps = trace_within is_linked_three _ _ steps _ _ makes in
       rw (← e, f) back
 
   pub exchanges_back : {p out : Place} → raw_entries a ≡ es → fs ≡ raw_entries b → Exchanges is_linked_three (lent_table a) (lent_table b) p out

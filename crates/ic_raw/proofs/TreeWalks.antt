@@ -1,15 +1,12 @@
 -- Trees that are walked from the first member on, while their members lose their marks.
 use Rattle.std.proofs.Common.{◌≡◌, ◌≢◌, ◌⊎◌, Bool, true, false, eq-eqb, ℕ, ◌≤◌, ◌-◌, ◌*◌, ◌/◌, ◌%◌, inl, inr, Option, Some, None, List, [], ◌∷◌, ◌++◌, length, drop, refl, sym, ap, ◌∙◌, subst, arith, append_assoc, append-nil}
 use Rattle.std.proofs.lemmas.Bool.{ltb-true}
-use Rattle.ic_unsafe_ref.specs.declared.place.Place.{Place}
-use Rattle.ic_unsafe_ref.specs.Places.{index_of, place_at}
+use Rattle.ic_link_ops.specs.Prelude.{Place, index_of, place_at, Cut, join, first, last, IsMember, Extent, Table, ChangesOnly}
 use Rattle.ic_unsafe_ref.proofs.PlaceLemmas.{same_or_not}
-use Rattle.ic_link_ops.specs.Sequences.{Cut, join, first, last, IsMember}
-use Rattle.ic_link_ops.specs.Tables.{Extent, Table, ChangesOnly}
 use Rattle.ic_link_ops.specs.Trees.{Tree, leaf, fork}
 use Rattle.ic_link_ops.specs.RedBlackTree.{Node, IsTree}
 use Rattle.ic_link_ops.proofs.SequenceLemmas.{first_is, fewer, gap_not, last_of_push, nothing_first, split_member}
-use Rattle.ic_link_ops.proofs.ShownTrees.{holds_linked, holds_length, root_member}
+use Rattle.ic_link_ops.proofs.RepresentedTrees.{holds_linked, holds_length, root_member}
 use Rattle.ic_rbtree.specs.Closed.{IsIn}
 use Rattle.ic_raw.specs.declared.words.RawThree.{RawThree}
 use Rattle.ic_raw.specs.Seen.{seen, seen_node, has_place}
@@ -29,7 +26,7 @@ module _ {t : Table RawThree} {root : Option Place} where
   pub root_in : {s : List Place} → IsSeen t root s → IsIn (has_place t) root
   root_in shown = member_in shown root (λ q is out. root_member shown is out)
 
-  -- and what stands in front of a gap
+  -- and what stands before a gap
   pub before_in : (cut : Cut) {at : Option Place} → IsSeen t root (join cut) → at ≡ last cut.front → IsIn (has_place t) at
   before_in cut {at} shown after = member_in shown at (λ q is out. (gap_not cut.front cut.back after refl out).0 is)
 
@@ -119,7 +116,7 @@ unmarks_back a b e f marks =
     record { extent = ap (λ (x : Extent). record { places = x.places; identity = [] }) marks.extent; entries = marks.entries } in
     rw (← e, f) back
 
--- A WALK HAS COME TO `at`: the members `done` are in front of it, and the others fit into the steps that are left
+-- A WALK HAS COME TO `at`: the members `done` are before it, and the others fit into the steps that are left
 pub record HasComeTo (s : List Place) (at : Option Place) (left : ℕ) : Type 0 where
   pub done : List Place
   pub rest : List Place
@@ -141,7 +138,7 @@ module _ {s : List Place} {p : Place} {left : ℕ} (k : HasComeTo s (Some p) lef
   pub walk_member : IsMember p s
   walk_member = subst (IsMember p) (sym parts_are) (split_member k.done p (drop 1 k.rest))
 
-  -- behind which the rest stands, to which a step leads
+  -- after which the rest stands, to which a step leads
   walk_gap : (cut : Cut) × (s ≡ join cut) × (Some p ≡ last cut.front) × (cut.back ≡ drop 1 k.rest)
   walk_gap = (
     record { front = k.done ++ p ∷ []; back = drop 1 k.rest },

@@ -1,14 +1,11 @@
 -- Trees as the words say them, and as they are seen.
 use Rattle.std.proofs.Common.{◌≡◌, ◌≢◌, ℕ, zero, suc, ◌+◌, ◌≤◌, Bool, true, false, cond, nat_lt, Option, Some, None, List, [], ◌∷◌, ◌++◌, refl, sym, ap, ◌∙◌, subst, inl, inr, arith}
 use Rattle.std.proofs.lemmas.Bool.{lt-ltb}
-use Rattle.ic_unsafe_ref.specs.declared.place.Place.{Place}
-use Rattle.ic_unsafe_ref.specs.Places.{index_of}
+use Rattle.ic_link_ops.specs.Prelude.{Place, index_of, Cut, join, first, last, IsAbsent, Extent, Table, IsCovered, IsLinked, ChangesOnlyIn}
 use Rattle.ic_unsafe_ref.proofs.PlaceLemmas.{same_or_not}
 use Rattle.ic_link_ops.specs.declared.color.Color.{Color}
 use Rattle.ic_link_ops.specs.declared.side.Side.{Side}
 use Rattle.ic_link_ops.specs.declared.side.Side.TheVariants.{Left, Right}
-use Rattle.ic_link_ops.specs.Sequences.{Cut, join, first, last, IsAbsent}
-use Rattle.ic_link_ops.specs.Tables.{Extent, Table, IsCovered, IsLinked, KeepsBeside}
 use Rattle.ic_link_ops.specs.EntryLaws.{linked_in_range}
 use Rattle.ic_link_ops.specs.Trees.{Tree, leaf, fork, top, in_order}
 use Rattle.ic_link_ops.specs.Frames.{child_on}
@@ -18,32 +15,32 @@ use Rattle.ic_link_ops.specs.RedBlackTree.{IsTree}
 use Rattle.ic_link_ops.specs.RedBlackTree as trees
 use Rattle.ic_link_ops.proofs.SequenceLemmas.{gap_not, none_not, absent_with, absent_both, absent_right}
 use Rattle.ic_link_ops.proofs.Times.{one_at_self, one_at_other, times_order, times_absent}
-use Rattle.ic_link_ops.proofs.ShownTrees.{no_members, no_root, root_member, holds_linked, holds_out, shows_kept}
+use Rattle.ic_link_ops.proofs.RepresentedTrees.{no_members, no_root, root_member, holds_linked, holds_out, represents_kept}
 use Rattle.ic_rbtree.specs.Closed.{IsIn, IsClosed}
 use Rattle.ic_rbtree.specs.Insertion as holes
-use Rattle.ic_rbtree.specs.Pieces.{Piece, ArePieces, Shown}
+use Rattle.ic_rbtree.specs.Pieces.{Piece, ArePieces, Represented}
 use Rattle.ic_rbtree.specs.Sides.{IsBeside}
 use Rattle.ic_rbtree.proofs.Closed.{in_there}
-use Rattle.ic_rbtree.proofs.Removing.{shown_of, shows_of}
+use Rattle.ic_rbtree.proofs.Removing.{represented_of, represents_of}
 use Rattle.ic_raw.specs.declared.words.RawThree.{RawThree}
 use Rattle.ic_raw.specs.declared.table.RawTable.{RawTable}
-use Rattle.ic_raw.specs.Gaps.{Stands}
+use Rattle.ic_raw.specs.Gaps.{IsNoneOrLinked}
 use Rattle.ic_raw.specs.Words.{place_in, no_tree_words, is_linked_three}
 use Rattle.ic_raw.specs.Tables.{raw_entries}
-use Rattle.ic_raw.specs.Tree.{node, Shows, IsHole, table_of, lent_table}
+use Rattle.ic_raw.specs.Tree.{node, Represents, IsInsertPos, table_of, lent_table}
 use Rattle.ic_raw.specs.Seen.{named_within, seen_node, seen, has_place, IsWithin, KeepsMarks}
 use Rattle.ic_raw.proofs.Seen.{named_itself}
 
 -- a sequence stays where no entry changes
-pub kept : (t u : Table RawThree) (root : Option Place) (s : List Place) → Shows t root s → ((q : Place) → u.entry q ≡ t.entry q) → Shows u root s
-kept t u root s shown same = shows_kept shown (λ q member. same q)
+pub kept : (t u : Table RawThree) (root : Option Place) (s : List Place) → Represents t root s → ((q : Place) → u.entry q ≡ t.entry q) → Represents u root s
+kept t u root s shown same = represents_kept shown (λ q member. same q)
 
 -- what stands beside a gap is a member, and linked, and one place at most stands there
 beside_member : (side : Side) (cut : Cut) {at : Option Place} {q : Place} → IsBeside side cut at → at ≡ Some q → IsAbsent q (join cut) → ⊥
 beside_member Left cut e is out = (gap_not cut.front cut.back refl e out).1 is
 beside_member Right cut e is out = (gap_not cut.front cut.back e refl out).0 is
 
-pub beside_stands : {t : Table RawThree} {root : Option Place} (side : Side) (cut : Cut) → Shows t root (join cut) → {at : Option Place} → IsBeside side cut at → Stands is_linked_three t at
+pub beside_stands : {t : Table RawThree} {root : Option Place} (side : Side) (cut : Cut) → Represents t root (join cut) → {at : Option Place} → IsBeside side cut at → IsNoneOrLinked is_linked_three t at
 beside_stands side cut shown e q is = holds_linked shown.held (beside_member side cut e is)
 
 pub one_beside : (side : Side) (cut : Cut) {a b : Option Place} → IsBeside side cut a → IsBeside side cut b → a ≡ b
@@ -51,43 +48,43 @@ one_beside Left cut x y = x ∙ sym y
 one_beside Right cut x y = x ∙ sym y
 
 -- the root is linked, if there is one
-pub root_stands : {t : Table RawThree} {root : Option Place} {s : List Place} → Shows t root s → Stands is_linked_three t root
+pub root_stands : {t : Table RawThree} {root : Option Place} {s : List Place} → Represents t root s → IsNoneOrLinked is_linked_three t root
 root_stands shown q is = holds_linked shown.held (λ out. root_member shown is out)
 
 -- and there is one where a member stands beside a gap
-pub beside_rooted : {t : Table RawThree} {root : Option Place} (side : Side) (cut : Cut) → Shows t root (join cut) → {at : Option Place} {q : Place} → IsBeside side cut at → at ≡ Some q → root ≢ None
+pub beside_rooted : {t : Table RawThree} {root : Option Place} (side : Side) (cut : Cut) → Represents t root (join cut) → {at : Option Place} {q : Place} → IsBeside side cut at → at ≡ Some q → root ≢ None
 beside_rooted {t} {root} side cut shown {at} {q} e is none =
-    beside_member side cut e is (subst (λ s. IsAbsent q s) (sym (no_root (subst (λ r. Shows t r (join cut)) none shown))) tt)
+    beside_member side cut e is (subst (λ s. IsAbsent q s) (sym (no_root (subst (λ r. Represents t r (join cut)) none shown))) tt)
 
 -- a hole at a member is beside it, and else beside none
-pub hole_beside : (t : Table RawThree) (side : Side) (at : Option Place) (cut : Cut) → IsHole side t at cut → IsBeside side cut at
+pub hole_beside : (t : Table RawThree) (side : Side) (at : Option Place) (cut : Cut) → IsInsertPos side t at cut → IsBeside side cut at
 hole_beside t Left None cut h = sym (ap first h.1)
 hole_beside t Right None cut h = sym (ap last h.0)
 hole_beside t side (Some x) cut h = h.1
 
 -- where a hole is, a member is linked, or the tree has no root
-pub hole_stands : {t : Table RawThree} {root : Option Place} (side : Side) (at : Option Place) (cut : Cut) → Shows t root (join cut) → IsHole side t at cut → Stands is_linked_three t at
+pub hole_stands : {t : Table RawThree} {root : Option Place} (side : Side) (at : Option Place) (cut : Cut) → Represents t root (join cut) → IsInsertPos side t at cut → IsNoneOrLinked is_linked_three t at
 hole_stands side None cut shown h = λ q e. absurd (none_not q e)
 hole_stands side (Some x) cut shown h = beside_stands side cut shown h.1
 
-pub hole_empty : {t : Table RawThree} {root : Option Place} (side : Side) (cut : Cut) → Shows t root (join cut) → IsHole side t None cut → root ≡ None
-hole_empty {t} {root} side cut shown h = no_members (subst (λ s. Shows t root s) (ap (λ s. s ++ cut.back) h.0 ∙ h.1) shown)
+pub hole_empty : {t : Table RawThree} {root : Option Place} (side : Side) (cut : Cut) → Represents t root (join cut) → IsInsertPos side t None cut → root ≡ None
+hole_empty {t} {root} side cut shown h = no_members (subst (λ s. Represents t root s) (ap (λ s. s ++ cut.back) h.0 ∙ h.1) shown)
 
 -- a hole among the words is one in their view
-pub hole_viewed : {es : List RawThree} (t : RawTable RawThree) (side : Side) (at : Option Place) (cut : Cut) → raw_entries t ≡ es → IsHole side (table_of es) at cut
-    → IsHole side (lent_table t) at cut
+pub hole_viewed : {es : List RawThree} (t : RawTable RawThree) (side : Side) (at : Option Place) (cut : Cut) → raw_entries t ≡ es → IsInsertPos side (table_of es) at cut
+    → IsInsertPos side (lent_table t) at cut
 hole_viewed t side None cut e h = h
 hole_viewed t side (Some q) cut e h = (subst (λ fs. child_on side (node (entry_at no_tree_words fs q)) ≡ None) (sym e) h.0, h.1)
 
 -- entries that are seen as they were are as they were
-pub frame_told : {t u : Table RawThree} {s : List Place} → KeepsBeside (seen t) (seen u) s → KeepsBeside t u s
+pub frame_told : {t u : Table RawThree} {s : List Place} → ChangesOnlyIn (seen t) (seen u) s → ChangesOnlyIn t u s
 frame_told frame = record { extent = frame.extent; others = λ q out. ap (λ e. e.words) (frame.others q out) }
 
 -- A PLACE IS TOLD, so that what is seen of it is what it says: it is linked, and its words name within the table
-abbrev pub IsTold : Table RawThree → Place → Type 0
-IsTold t p = IsLinked is_linked_three t p × IsWithin t p
+abbrev pub AreLinked : Table RawThree → Place → Type 0
+AreLinked t p = IsLinked is_linked_three t p × IsWithin t p
 
-pub told_kept : {t u : Table RawThree} → KeepsMarks t u → (q : Place) → IsTold t q → IsTold u q
+pub told_kept : {t u : Table RawThree} → KeepsMarks t u → (q : Place) → AreLinked t q → AreLinked u q
 told_kept kept q h = (kept.marks q ∙ h.0, kept.names q h.1)
 
 -- NO NAME LEADS OUT OF THE TABLE, and so all its places are a closed set
@@ -113,7 +110,7 @@ module _ (t : Table RawThree) where
   }
 
   -- a hole is seen as one
-  pub seen_hole : (side : Side) (at : Option Place) (cut : Cut) → IsHole side t at cut → holes.IsHole seen_node (seen t) at side cut
+  pub seen_hole : (side : Side) (at : Option Place) (cut : Cut) → IsInsertPos side t at cut → holes.IsInsertPos seen_node (seen t) at side cut
   seen_hole side None cut h = h
   seen_hole Left (Some q) cut h = (ap (named_within t.extent.places) h.0, h.1)
   seen_hole Right (Some q) cut h = (ap (named_within t.extent.places) h.0, h.1)
@@ -131,7 +128,7 @@ module _ (t : Table RawThree) (law : (q : Place) → is_linked_three (t.entry q)
   pub has : (p : Place) → is_linked_three (t.entry p) ≡ true → has_place t p ≡ true
   has p on = lt-ltb (index_of p) t.extent.places (law p on)
 
-  pub end_in : (at : Option Place) → Stands is_linked_three t at → IsIn (has_place t) at
+  pub end_in : (at : Option Place) → IsNoneOrLinked is_linked_three t at → IsIn (has_place t) at
   end_in None h = tt
   end_in (Some p) h = has p (h p refl)
 
@@ -162,14 +159,14 @@ module _ (t : Table RawThree) (law : (q : Place) → is_linked_three (t.entry q)
         | inr n ↦ either (times q a) (times q b) (omega (arith, some, one_at_other q p n)) (λ m. tree_within (Some p) a h.1 here q m) (λ m. tree_within (Some p) b h.2 here q m)
       ]
 
-  pub within : {root : Option Place} {s : List Place} → Shows t root s → (q : Place) → (IsAbsent q s → ⊥) → IsWithin t q
+  pub within : {root : Option Place} {s : List Place} → Represents t root s → (q : Place) → (IsAbsent q s → ⊥) → IsWithin t q
   within {root} {s} shown q member = tree_within None shown.tree shown.held.entries tt q (positive (times q shown.tree) refl) where
     positive : (m : ℕ) → times q shown.tree ≡ m → 1 ≤ times q shown.tree
     positive zero e = absurd (member (times_absent q s (ap (times_in q) (sym shown.held.order) ∙ times_order q shown.tree ∙ e)))
     positive (suc m) e = omega (arith, e)
 
   -- what is seen as a hole is one
-  pub hole_told : {root : Option Place} (side : Side) (at : Option Place) (cut : Cut) → Shows t root (join cut) → holes.IsHole seen_node (seen t) at side cut → IsHole side t at cut
+  pub hole_told : {root : Option Place} (side : Side) (at : Option Place) (cut : Cut) → Represents t root (join cut) → holes.IsInsertPos seen_node (seen t) at side cut → IsInsertPos side t at cut
   hole_told side None cut shown h = h
   hole_told Left (Some q) cut shown h = (sym (within shown q (beside_member Left cut h.1 refl)).left ∙ h.0, h.1)
   hole_told Right (Some q) cut shown h = (sym (within shown q (beside_member Right cut h.1 refl)).right ∙ h.0, h.1)
@@ -184,9 +181,9 @@ module _ (t : Table RawThree) (law : (q : Place) → is_linked_three (t.entry q)
         seen_tree (Some p) b h.2 here,
       )
 
-  pub seen_shown : {root : Option Place} {s : List Place} (ps : List Piece) → Shown node t t root s ps → ArePieces seen_node (seen t).entry ps
-      → Shown seen_node (seen t) (seen t) root s ps
-  seen_shown ps h rest = record {
+  pub seen_represented : {root : Option Place} {s : List Place} (ps : List Piece) → Represented node t t root s ps → ArePieces seen_node (seen t).entry ps
+      → Represented seen_node (seen t) (seen t) root s ps
+  seen_represented ps h rest = record {
     tree = h.tree;
     stands = record {
       are = ((tt, h.stands.are.0.1), (seen_tree None h.tree h.stands.are.1.0 tt, rest));
@@ -199,23 +196,23 @@ module _ (t : Table RawThree) (law : (q : Place) → is_linked_three (t.entry q)
     shape = h.shape;
   }
 
-  pub seen_shows : {root : Option Place} {s : List Place} → Shows t root s → trees.Shows seen_node (seen t) root s
-  seen_shows h = shows_of seen_node (seen_shown [] (shown_of node h) tt)
+  pub seen_represents : {root : Option Place} {s : List Place} → Represents t root s → trees.Represents seen_node (seen t) root s
+  seen_represents h = represents_of seen_node (seen_represented [] (represented_of node h) tt)
 
   -- members are told, and a place beside them that is
-  pub members_told : {root : Option Place} {s : List Place} → Shows t root s → (q : Place) → (IsAbsent q s → ⊥) → IsTold t q
+  pub members_told : {root : Option Place} {s : List Place} → Represents t root s → (q : Place) → (IsAbsent q s → ⊥) → AreLinked t q
   members_told shown q member = (holds_linked shown.held member, within shown q member)
 
-  pub told_with : {root : Option Place} {s : List Place} (front : List Place) (p : Place) (back : List Place) → Shows t root s → IsTold t p
-      → ((q : Place) → IsAbsent q s → IsAbsent q (front ++ back)) → (q : Place) → (IsAbsent q (front ++ p ∷ back) → ⊥) → IsTold t q
+  pub told_with : {root : Option Place} {s : List Place} (front : List Place) (p : Place) (back : List Place) → Represents t root s → AreLinked t p
+      → ((q : Place) → IsAbsent q s → IsAbsent q (front ++ back)) → (q : Place) → (IsAbsent q (front ++ p ∷ back) → ⊥) → AreLinked t q
   told_with front p back shown is among q member = elim (same_or_not q p) [
-    | inl e ↦ subst (IsTold t) (sym e) is
+    | inl e ↦ subst (AreLinked t) (sym e) is
     | inr n ↦ members_told shown q (λ out. member (absent_with front back p q n (among q out)))
   ]
 
 -- WHAT IS SEEN THE WORDS SHOW, where the members are told
 module _ (t : Table RawThree) where
-  told_tree : (up : Option Place) (tree : Tree) → IsTree seen_node (seen t).entry up tree → ((q : Place) → 1 ≤ times q tree → IsTold t q) → IsTree node t.entry up tree
+  told_tree : (up : Option Place) (tree : Tree) → IsTree seen_node (seen t).entry up tree → ((q : Place) → 1 ≤ times q tree → AreLinked t q) → IsTree node t.entry up tree
   told_tree up leaf h is = tt
   told_tree up (fork c a p b) h is =
       let here = is p (let one = one_at_self p in omega (arith, one)) in (
@@ -230,8 +227,8 @@ module _ (t : Table RawThree) where
         told_tree (Some p) b h.2 (λ q m. is q (omega (arith, m))),
       )
 
-  pub told : {root : Option Place} {s : List Place} → trees.Shows seen_node (seen t) root s → ((q : Place) → (IsAbsent q s → ⊥) → IsTold t q) → Shows t root s
-  told h is = record {
+  pub links_back : {root : Option Place} {s : List Place} → trees.Represents seen_node (seen t) root s → ((q : Place) → (IsAbsent q s → ⊥) → AreLinked t q) → Represents t root s
+  links_back h is = record {
     tree = h.tree;
     held = record {
       order = h.held.order;
@@ -256,6 +253,6 @@ topmost entry (fork c a x b) p t none inside = elim (same_or_not p x) [
   | inr apart ↦ absurd (inside (absent_with (in_order a) (in_order b) x p apart (absent_both p (in_order a) (in_order b) (below_named entry x a p t.1 none) (below_named entry x b p t.2 none))))
 ]
 
-pub root_by_parent : {t : Table RawThree} {root : Option Place} (front : List Place) (p : Place) (back : List Place) → Shows t root (front ++ p ∷ back) → (node (t.entry p)).parent ≡ None → root ≡ Some p
+pub root_by_parent : {t : Table RawThree} {root : Option Place} (front : List Place) (p : Place) (back : List Place) → Represents t root (front ++ p ∷ back) → (node (t.entry p)).parent ≡ None → root ≡ Some p
 root_by_parent {t} front p back shown none =
     shown.starts ∙ topmost t.entry shown.tree p shown.held.entries none (λ out. (absent_right p front (p ∷ back) (subst (IsAbsent p) shown.held.order out)).0 refl)

@@ -1,9 +1,7 @@
 -- What holds of a view holds of the words that were lent.
 use Rattle.std.proofs.Common.{◌≡◌, ◌↔◌, Bool, Option, List, [], refl, ap, subst}
 use Rattle.std.specs.declared.cmp.Ordering.{Ordering}
-use Rattle.ic_unsafe_ref.specs.declared.place.Place.{Place}
-use Rattle.ic_link_ops.specs.Sequences.{Cut}
-use Rattle.ic_link_ops.specs.Tables.{Table, KeepsBeside, IsUnlinked}
+use Rattle.ic_link_ops.specs.Prelude.{Place, Cut, Table, ChangesOnlyIn, IsUnlinked}
 use Rattle.ic_link_ops.specs.PlainTables.{entry_at, table_of}
 use Rattle.ic_link_ops.specs.Edits.{Inserts, Removes, Replaces, Splices, Splits}
 use Rattle.ic_rbtree.specs.Ordered.{InsertsInOrder}
@@ -13,8 +11,8 @@ use Rattle.ic_raw.specs.Gaps.{NamesFree}
 use Rattle.ic_raw.specs.Tables.{raw_entries, raw_table, IsFree}
 
 module _ {W : Type 0} (unlinked : W) where
-  pub frame_back : (a b : RawTable W) {s : List Place} → KeepsBeside (raw_table unlinked a) (raw_table unlinked b) s
-      → KeepsBeside (table_of unlinked (raw_entries a)) (table_of unlinked (raw_entries b)) s
+  pub frame_back : (a b : RawTable W) {s : List Place} → ChangesOnlyIn (raw_table unlinked a) (raw_table unlinked b) s
+      → ChangesOnlyIn (table_of unlinked (raw_entries a)) (table_of unlinked (raw_entries b)) s
   frame_back a b f = record { extent = ap (λ e. record { places = e.places; identity = [] }) f.extent; others = f.others }
 
   -- what is free among the words is free in the view
@@ -36,55 +34,55 @@ module _ {W : Type 0} (unlinked : W) where
       (subst (λ at. seen ↔ NamesFree is_linked (table_of unlinked (raw_entries t)) at) is same)
 
   -- `kept`: a sequence stays where no entry changes
-  module _ {H : Type 0} {Shows : Table W → H → List Place → Type 0}
-      (kept : (t u : Table W) (h : H) (s : List Place) → Shows t h s → ((q : Place) → u.entry q ≡ t.entry q) → Shows u h s) where
-    -- what the words show the view shows
-    pub viewed : {es : List W} (t : RawTable W) {h : H} {s : List Place} → raw_entries t ≡ es → Shows (table_of unlinked es) h s → Shows (raw_table unlinked t) h s
+  module _ {H : Type 0} {Represents : Table W → H → List Place → Type 0}
+      (kept : (t u : Table W) (h : H) (s : List Place) → Represents t h s → ((q : Place) → u.entry q ≡ t.entry q) → Represents u h s) where
+    -- what the words represent the view represents
+    pub viewed : {es : List W} (t : RawTable W) {h : H} {s : List Place} → raw_entries t ≡ es → Represents (table_of unlinked es) h s → Represents (raw_table unlinked t) h s
     viewed t e shown = kept _ _ _ _ shown (λ q. ap (λ es. entry_at unlinked es q) e)
 
     -- and the other way round
-    pub shown_back : {es : List W} (t : RawTable W) {h : H} {s : List Place} → raw_entries t ≡ es → Shows (raw_table unlinked t) h s → Shows (table_of unlinked es) h s
-    shown_back t {h} {s} e shown =
-        let back : Shows (table_of unlinked (raw_entries t)) h s = kept _ _ _ _ shown (λ q. refl) in
+    pub represented_back : {es : List W} (t : RawTable W) {h : H} {s : List Place} → raw_entries t ≡ es → Represents (raw_table unlinked t) h s → Represents (table_of unlinked es) h s
+    represented_back t {h} {s} e shown =
+        let back : Represents (table_of unlinked (raw_entries t)) h s = kept _ _ _ _ shown (λ q. refl) in
         rw (← e) back
 
     -- and what is done to the view is done to the words, once the list is kept
     pub inserted_back : (a b : RawTable W) {es fs : List W} {h h' : H} {cut : Cut} {p : Place} → raw_entries a ≡ es → fs ≡ raw_entries b → h' ≡ h
-        → Inserts Shows (raw_table unlinked a) (raw_table unlinked b) h cut p → Inserts Shows (table_of unlinked es) (table_of unlinked fs) h' cut p
+        → Inserts Represents (raw_table unlinked a) (raw_table unlinked b) h cut p → Inserts Represents (table_of unlinked es) (table_of unlinked fs) h' cut p
     inserted_back a b {h} {cut} {p} e f k i =
-        let back : Inserts Shows (table_of unlinked (raw_entries a)) (table_of unlinked (raw_entries b)) h cut p =
+        let back : Inserts Represents (table_of unlinked (raw_entries a)) (table_of unlinked (raw_entries b)) h cut p =
         record { shows = kept _ _ _ _ i.shows (λ q. refl); frame = frame_back a b i.frame } in
         rw (← e, f, k) back
 
     pub ordered_back : (at : Place → Ordering) (p : Place) (a b : RawTable W) {es fs : List W} {h h' : H} {s : List Place} → raw_entries a ≡ es → fs ≡ raw_entries b → h' ≡ h
-        → InsertsInOrder Shows at (raw_table unlinked a) (raw_table unlinked b) h s p → InsertsInOrder Shows at (table_of unlinked es) (table_of unlinked fs) h' s p
+        → InsertsInOrder Represents at (raw_table unlinked a) (raw_table unlinked b) h s p → InsertsInOrder Represents at (table_of unlinked es) (table_of unlinked fs) h' s p
     ordered_back at p a b {h'} e f k i = record { gap = i.gap; same = i.same; border = i.border; inserted = inserted_back a b {h' = h'} e f k i.inserted }
 
     pub removed_back : (a b : RawTable W) {es fs : List W} {h h' : H} {cut : Cut} → raw_entries a ≡ es → fs ≡ raw_entries b → h' ≡ h
-        → Removes Shows (raw_table unlinked a) (raw_table unlinked b) h cut → Removes Shows (table_of unlinked es) (table_of unlinked fs) h' cut
+        → Removes Represents (raw_table unlinked a) (raw_table unlinked b) h cut → Removes Represents (table_of unlinked es) (table_of unlinked fs) h' cut
     removed_back a b {h} {cut} e f k r =
-        let back : Removes Shows (table_of unlinked (raw_entries a)) (table_of unlinked (raw_entries b)) h cut =
+        let back : Removes Represents (table_of unlinked (raw_entries a)) (table_of unlinked (raw_entries b)) h cut =
         record { shows = kept _ _ _ _ r.shows (λ q. refl); frame = frame_back a b r.frame } in
         rw (← e, f, k) back
 
     pub replaced_back : (a b : RawTable W) {es fs : List W} {h h' : H} {cut : Cut} {p : Place} → raw_entries a ≡ es → fs ≡ raw_entries b → h' ≡ h
-        → Replaces Shows (raw_table unlinked a) (raw_table unlinked b) h cut p → Replaces Shows (table_of unlinked es) (table_of unlinked fs) h' cut p
+        → Replaces Represents (raw_table unlinked a) (raw_table unlinked b) h cut p → Replaces Represents (table_of unlinked es) (table_of unlinked fs) h' cut p
     replaced_back a b {h} {cut} {p} e f k r =
-        let back : Replaces Shows (table_of unlinked (raw_entries a)) (table_of unlinked (raw_entries b)) h cut p =
+        let back : Replaces Represents (table_of unlinked (raw_entries a)) (table_of unlinked (raw_entries b)) h cut p =
         record { shows = kept _ _ _ _ r.shows (λ q. refl); frame = frame_back a b r.frame } in
         rw (← e, f, k) back
 
     pub spliced_back : (a b : RawTable W) {es fs : List W} {h h' : H} {cut : Cut} {t : List Place} → raw_entries a ≡ es → fs ≡ raw_entries b → h' ≡ h
-        → Splices Shows (raw_table unlinked a) (raw_table unlinked b) h cut t → Splices Shows (table_of unlinked es) (table_of unlinked fs) h' cut t
+        → Splices Represents (raw_table unlinked a) (raw_table unlinked b) h cut t → Splices Represents (table_of unlinked es) (table_of unlinked fs) h' cut t
     spliced_back a b {h} {cut} {t} e f k r =
-        let back : Splices Shows (table_of unlinked (raw_entries a)) (table_of unlinked (raw_entries b)) h cut t =
+        let back : Splices Represents (table_of unlinked (raw_entries a)) (table_of unlinked (raw_entries b)) h cut t =
         record { shows = kept _ _ _ _ r.shows (λ q. refl); frame = frame_back a b r.frame } in
         rw (← e, f, k) back
 
     pub splits_back : (a b : RawTable W) {es fs : List W} {h h' g g' : H} {s t : List Place} → raw_entries a ≡ es → fs ≡ raw_entries b → h' ≡ h → g' ≡ g
-        → Splits Shows (raw_table unlinked a) (raw_table unlinked b) h g s t → Splits Shows (table_of unlinked es) (table_of unlinked fs) h' g' s t
+        → Splits Represents (raw_table unlinked a) (raw_table unlinked b) h g s t → Splits Represents (table_of unlinked es) (table_of unlinked fs) h' g' s t
     splits_back a b {h} {g = g} {s} {t} e f k l r =
-        let back : Splits Shows (table_of unlinked (raw_entries a)) (table_of unlinked (raw_entries b)) h g s t =
+        let back : Splits Represents (table_of unlinked (raw_entries a)) (table_of unlinked (raw_entries b)) h g s t =
         record { keeps = kept _ _ _ _ r.keeps (λ q. refl); hands_out = kept _ _ _ _ r.hands_out (λ q. refl); frame = frame_back a b r.frame } in
         rw (← e, f, k, l) back
 
@@ -102,5 +100,5 @@ module _ {W : Type 0} (unlinked : W) where
       rw f back
 
 -- what a call does stays said where the words before it, and those after it, are named otherwise
-pub renamed : {W : Type 0} (Does : List W → List W → Type 0) {old old' new new' : List W} → old' ≡ old → new ≡ new' → Does old' new' → Does old new
-renamed Does e f does = rw (← e, f) does
+pub renamed : {W : Type 0} (Trace : List W → List W → Type 0) {old old' new new' : List W} → old' ≡ old → new ≡ new' → Trace old' new' → Trace old new
+renamed Trace e f does = rw (← e, f) does

@@ -1,61 +1,58 @@
--- What calls of an XOR list read of what is shown.
+-- What calls of an XOR list read of what is represented.
 use Rattle.std.proofs.Common.{◌≡◌, ℕ, nat_eq, true, Option, Some, None, List, [], ◌∷◌, ◌++◌, drop, reverse, refl, sym, ap, subst, ◌∙◌, append_assoc, append-nil}
 use Rattle.std.proofs.lemmas.Bool.{eq-eqb}
-use Rattle.ic_unsafe_ref.specs.declared.place.Place.{Place}
-use Rattle.ic_unsafe_ref.specs.Places.{word_of}
-use Rattle.ic_link_ops.specs.Sequences.{first, last, but_last}
-use Rattle.ic_link_ops.specs.Tables.{Table}
+use Rattle.ic_link_ops.specs.Prelude.{Place, word_of, first, last, but_last, Table}
 use Rattle.ic_link_ops.specs.Chains.{Ends}
 use Rattle.ic_link_ops.specs.XorLaws.{joins_symmetric, joins_finds_other}
 use Rattle.ic_link_ops.proofs.SequenceLemmas.{first_of_back, last_of_front, last_of_push, split_last, first_is}
-use Rattle.ic_link_ops.proofs.ShownLists.{shows_middle, shows_reversed, before_gap, behind_gap, gap_linked, gap_behind_linked}
+use Rattle.ic_link_ops.proofs.RepresentedLists.{represents_middle, represents_reversed, before_gap, after_gap, gap_linked, gap_after_linked}
 use Rattle.ic_link_ops.proofs.XorLists.{joined_linked, joined_symmetric}
 use Rattle.ic_raw.specs.declared.words.RawOne.{RawOne}
 use Rattle.ic_raw.specs.declared.table.RawTable.{RawTable}
 use Rattle.ic_raw.specs.Words.{is_linked_one, next_of_one}
 use Rattle.ic_raw.specs.declared.gap.Gap.{Gap}
-use Rattle.ic_raw.specs.Gaps.{Stands, Turns}
+use Rattle.ic_raw.specs.Gaps.{IsNoneOrLinked, Turns}
 use Rattle.ic_raw.specs.Tables.{raw_entries}
 use Rattle.ic_raw.specs.Singly.{table_of, lent_table}
-use Rattle.ic_raw.specs.Xor.{Shows, Joins, GoesOn, Faces, TellsGap, TellsMember, TellsEnds, LeadsThrough, other}
+use Rattle.ic_raw.specs.Xor.{Represents, Joins, GoesOn, Faces, TellsGap, TellsMember, TellsEnds, LeadsThrough, other}
 use Rattle.ic_raw.proofs.Entries.{same_word}
-use Rattle.ic_raw.proofs.Lists.{before_stands, behind_stands}
+use Rattle.ic_raw.proofs.Lists.{before_stands, after_stands}
 
 -- two words are the same exactly if their places are
 pub words_tell : {a b : Option Place} {v w : ℕ} → v ≡ word_of a → w ≡ word_of b → (nat_eq v w ≡ true → a ≡ b) × (a ≡ b → nat_eq v w ≡ true)
 words_tell {a} {b} {v} {w} e f = (same_word a b e f, λ same. eq-eqb v w (e ∙ ap word_of same ∙ sym f))
 
 -- either neighbor tells the other
-pub other_behind : (e : RawOne) (a b : Option Place) → Joins e a b → other e a ≡ b
-other_behind e a b j = joins_finds_other (next_of_one e) a b j
+pub other_after : (e : RawOne) (a b : Option Place) → Joins e a b → other e a ≡ b
+other_after e a b j = joins_finds_other (next_of_one e) a b j
 
 other_before : (e : RawOne) (a b : Option Place) → Joins e a b → other e b ≡ a
 other_before e a b j = joins_finds_other (next_of_one e) b a (joins_symmetric (next_of_one e) a b j)
 
 -- a list goes on beyond a place, and the place faces its neighbor, by what stands there
-goes_on_by : (t : Table RawOne) (end : Option Place) (p : Place) (beyond : Option Place) → Stands is_linked_one t beyond → (beyond ≡ None → end ≡ Some p) → GoesOn t.entry end p beyond
+goes_on_by : (t : Table RawOne) (end : Option Place) (p : Place) (beyond : Option Place) → IsNoneOrLinked is_linked_one t beyond → (beyond ≡ None → end ≡ Some p) → GoesOn t.entry end p beyond
 goes_on_by t end p None stands ends = ends refl
 goes_on_by t end p (Some q) stands ends = stands q refl
 
-faces_by : (t : Table RawOne) (end place neighbor : Option Place) → Stands is_linked_one t place → (place ≡ None → end ≡ neighbor)
-    → ((p : Place) → place ≡ Some p → Stands is_linked_one t (other (t.entry p) neighbor))
+faces_by : (t : Table RawOne) (end place neighbor : Option Place) → IsNoneOrLinked is_linked_one t place → (place ≡ None → end ≡ neighbor)
+    → ((p : Place) → place ≡ Some p → IsNoneOrLinked is_linked_one t (other (t.entry p) neighbor))
     → ((p : Place) → place ≡ Some p → other (t.entry p) neighbor ≡ None → end ≡ Some p) → Faces t.entry end place neighbor
 faces_by t end None neighbor stands none beyond ends = none refl
 faces_by t end (Some p) neighbor stands none beyond ends = (stands p refl, goes_on_by t end p (other (t.entry p) neighbor) (beyond p refl) (ends p refl))
 
-module _ {t : Table RawOne} {list : Ends} (front back : List Place) (shown : Shows t list (front ++ back)) where
+module _ {t : Table RawOne} {list : Ends} (front back : List Place) (shown : Represents t list (front ++ back)) where
   -- the list, cut on the other side of a place beside a gap, and what stands there
-  cut_before : {p : Place} → Some p ≡ last front → Shows t list (but_last front ++ p ∷ back)
+  cut_before : {p : Place} → Some p ≡ last front → Represents t list (but_last front ++ p ∷ back)
   cut_before {p} here = rw (← append_assoc (but_last front) (p ∷ []) back) (rw (← split_last front (sym here)) shown)
 
   beyond_before : {p : Place} {to : Option Place} → Some p ≡ last front → to ≡ first back → other (t.entry p) to ≡ last (but_last front)
   beyond_before {p} here k = ap (other (t.entry p)) k ∙ other_before (t.entry p) _ _ (before_gap front back shown here).joined
 
-  cut_behind : {p : Place} → Some p ≡ first back → Shows t list ((front ++ p ∷ []) ++ drop 1 back)
-  cut_behind {p} here = rw (append_assoc front (p ∷ []) (drop 1 back)) (rw (← first_is back here) shown)
+  cut_after : {p : Place} → Some p ≡ first back → Represents t list ((front ++ p ∷ []) ++ drop 1 back)
+  cut_after {p} here = rw (append_assoc front (p ∷ []) (drop 1 back)) (rw (← first_is back here) shown)
 
-  beyond_behind : {p : Place} {to : Option Place} → Some p ≡ first back → to ≡ last front → other (t.entry p) to ≡ first (drop 1 back)
-  beyond_behind {p} here k = ap (other (t.entry p)) k ∙ other_behind (t.entry p) _ _ (behind_gap front back shown here).joined
+  beyond_after : {p : Place} {to : Option Place} → Some p ≡ first back → to ≡ last front → other (t.entry p) to ≡ first (drop 1 back)
+  beyond_after {p} here k = ap (other (t.entry p)) k ∙ other_after (t.entry p) _ _ (after_gap front back shown here).joined
 
   -- so each place beside a gap faces the other
   before_faces : {at to : Option Place} → at ≡ last front → to ≡ first back → Faces t.entry list.head at to
@@ -64,42 +61,42 @@ module _ {t : Table RawOne} {list : Ends} (front back : List Place) (shown : Sho
       (λ p is q n. gap_linked joined_linked (but_last front) (p ∷ back) (cut_before (sym is ∙ e)) (sym n ∙ beyond_before (sym is ∙ e) k))
       (λ p is n. (cut_before (sym is ∙ e)).head ∙ first_of_back (but_last front) (p ∷ back) (sym n ∙ beyond_before (sym is ∙ e) k))
 
-  behind_faces : {at to : Option Place} → at ≡ first back → to ≡ last front → Faces t.entry list.tail at to
-  behind_faces {at} {to} e k =
-      faces_by t list.tail at to (behind_stands joined_linked front back shown e) (λ none. shown.tail ∙ last_of_front front back (sym none ∙ e) ∙ sym k)
-      (λ p is q n. gap_behind_linked joined_linked (front ++ p ∷ []) (drop 1 back) (cut_behind (sym is ∙ e)) (sym n ∙ beyond_behind (sym is ∙ e) k))
+  after_faces : {at to : Option Place} → at ≡ first back → to ≡ last front → Faces t.entry list.tail at to
+  after_faces {at} {to} e k =
+      faces_by t list.tail at to (after_stands joined_linked front back shown e) (λ none. shown.tail ∙ last_of_front front back (sym none ∙ e) ∙ sym k)
+      (λ p is q n. gap_after_linked joined_linked (front ++ p ∷ []) (drop 1 back) (cut_after (sym is ∙ e)) (sym n ∙ beyond_after (sym is ∙ e) k))
       (λ p is n.
-      (cut_behind (sym is ∙ e)).tail ∙ last_of_front (front ++ p ∷ []) (drop 1 back) (sym n ∙ beyond_behind (sym is ∙ e) k) ∙ last_of_push front p)
+      (cut_after (sym is ∙ e)).tail ∙ last_of_front (front ++ p ∷ []) (drop 1 back) (sym n ∙ beyond_after (sym is ∙ e) k) ∙ last_of_push front p)
 
-  -- THE WORDS TELL OF EACH GAP of a list that is shown,
+  -- THE WORDS TELL OF EACH GAP of a list that is represented,
   pub gap_told : {before behind : Option Place} → before ≡ last front → behind ≡ first back → TellsGap t list before behind
-  gap_told e k = (before_faces e k, behind_faces k e)
+  gap_told e k = (before_faces e k, after_faces k e)
 
 -- of each member, which is linked, and whose neighbors tell each other,
-module _ {t : Table RawOne} {list : Ends} (front : List Place) (p : Place) (back : List Place) (shown : Shows t list (front ++ p ∷ back)) where
+module _ {t : Table RawOne} {list : Ends} (front : List Place) (p : Place) (back : List Place) (shown : Represents t list (front ++ p ∷ back)) where
   pub member_told : {before behind : Option Place} → before ≡ last front → behind ≡ first back → TellsMember t list before p behind
   member_told e k =
-      let cut : Shows t list ((front ++ p ∷ []) ++ back) = rw append_assoc shown in
-      (before_faces front (p ∷ back) shown e refl, behind_faces (front ++ p ∷ []) back cut k (sym (last_of_push front p)))
+      let cut : Represents t list ((front ++ p ∷ []) ++ back) = rw append_assoc shown in
+      (before_faces front (p ∷ back) shown e refl, after_faces (front ++ p ∷ []) back cut k (sym (last_of_push front p)))
 
   pub member_linked : is_linked_one (t.entry p) ≡ true
-  member_linked = behind_stands joined_linked front (p ∷ back) shown refl p refl
+  member_linked = after_stands joined_linked front (p ∷ back) shown refl p refl
 
-  pub next_shown : {before : Option Place} → before ≡ last front → other (t.entry p) before ≡ first back
-  next_shown e = ap (other (t.entry p)) e ∙ other_behind (t.entry p) _ _ (shows_middle front back shown).joined
+  pub next_represented : {before : Option Place} → before ≡ last front → other (t.entry p) before ≡ first back
+  next_represented e = ap (other (t.entry p)) e ∙ other_after (t.entry p) _ _ (represents_middle front back shown).joined
 
-  pub prev_shown : {behind : Option Place} → behind ≡ first back → other (t.entry p) behind ≡ last front
-  prev_shown e = ap (other (t.entry p)) e ∙ other_before (t.entry p) _ _ (shows_middle front back shown).joined
+  pub prev_represented : {behind : Option Place} → behind ≡ first back → other (t.entry p) behind ≡ last front
+  prev_represented e = ap (other (t.entry p)) e ∙ other_before (t.entry p) _ _ (represents_middle front back shown).joined
 
 -- and of the list by its ends
-pub ends_told : {t : Table RawOne} {list : Ends} {s : List Place} → Shows t list s → TellsEnds t list
+pub ends_told : {t : Table RawOne} {list : Ends} {s : List Place} → Represents t list s → TellsEnds t list
 ends_told {t} {list} {s} shown =
-    let whole : Shows t list (s ++ []) = rw append-nil shown in
-    (behind_faces [] s shown shown.head refl, before_faces s [] whole shown.tail refl)
+    let whole : Represents t list (s ++ []) = rw append-nil shown in
+    (after_faces [] s shown shown.head refl, before_faces s [] whole shown.tail refl)
 
 -- a list is turned round by its ends alone
-pub turned : {t : Table RawOne} {list list' : Ends} {s : List Place} → Shows t list s → list'.head ≡ list.tail → list'.tail ≡ list.head → Shows t list' (reverse s)
-turned shown head tail = shows_reversed (joined_symmetric (λ e a b. joins_symmetric (next_of_one e) a b)) shown head tail
+pub turned : {t : Table RawOne} {list list' : Ends} {s : List Place} → Represents t list s → list'.head ≡ list.tail → list'.tail ≡ list.head → Represents t list' (reverse s)
+turned shown head tail = represents_reversed (joined_symmetric (λ e a b. joins_symmetric (next_of_one e) a b)) shown head tail
 
 -- a list's own ends, by what they are read of and written to
 pub turned_back : {gap : Gap} {begins ends ends' : Option Place} {old old' new new' : Ends} → ends' ≡ ends → old ≡ old' → new' ≡ new → Turns gap begins ends old new

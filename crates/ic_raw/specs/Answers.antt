@@ -15,9 +15,9 @@ refusal (zero ∷ faults) = refusal faults
 refusal (suc fault ∷ faults) = suc fault
 
 -- THE CALL IS ACCEPTED, and does this
-pub record IsAccepted (status : ℕ) (Does : Type 0) : Type 0 where
+pub record IsAccepted (status : ℕ) (Trace : Type 0) : Type 0 where
   pub accepted : status ≡ OK
-  pub done : Does
+  pub done : Trace
 
 -- A MEMBER IS FOUND, and its number handed out, or there is none
 abbrev pub IsFound : Option Place → (status number : ℕ) → Type 0

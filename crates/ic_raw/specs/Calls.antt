@@ -1,34 +1,32 @@
--- WHAT A CALL DOES to the words of a table and of its list, by the sequence that they show: in the same words for every kind.
+-- WHAT A CALL DOES to the words of a table and of its list, by the sequence that they represent: in the same words for every kind.
 use Rattle.std.specs.Prelude.{ℕ, Bool, ◌∷◌, ◌++◌, List, Option}
-use Rattle.ic_unsafe_ref.specs.declared.place.Place.{Place}
-use Rattle.ic_link_ops.specs.Sequences.{Cut, join, IsDisjoint, IsMember}
-use Rattle.ic_link_ops.specs.Tables.{Table, IsUnlinked, KeepsBeside}
+use Rattle.ic_link_ops.specs.Prelude.{Place, Cut, join, IsDisjoint, IsMember, Table, IsUnlinked, ChangesOnlyIn}
 use Rattle.ic_link_ops.specs.PlainTables.{table_of}
 use Rattle.ic_link_ops.specs.Edits.{Inserts, Removes, Replaces, Splices, Splits}
 use Rattle.ic_raw.specs.Answers.{IsAccepted}
-use Rattle.ic_raw.specs.Gaps.{before, Stands}
+use Rattle.ic_raw.specs.Gaps.{before, IsNoneOrLinked}
 use Rattle.ic_raw.specs.Tables.{IsFree, member_fault, place_fault}
 use Rattle.ic_raw.specs.Words.{HasNumber}
 
 -- each member of s is unlinked, and nothing but entries of members is changed
 pub record Clears {E : Type 0} (linked : E → Bool) (old new : Table E) (s : List Place) : Type 0 where
   pub unlinked : (p : Place) → IsMember p s → IsUnlinked linked new p
-  pub frame : KeepsBeside old new s
+  pub frame : ChangesOnlyIn old new s
 
--- `Shows t head s`: the table shows s for the list with this head. `head_of`: what a list's words say. old and new, list and list': the words
--- before the call and after it
-module _ {W R H : Type 0} (Shows : Table W → H → List Place → Type 0) (linked : W → Bool) (unlinked : W) (head_of : R → H) where
-  -- the words of a table show s for the words of a list
-  abbrev pub ShowsList : List W → R → List Place → Type 0
-  ShowsList words list s = Shows (table_of unlinked words) (head_of list) s
+-- `Represents t head s`: the table represents s for the list with this head. `head_of`: what a list's words say. old and new, list and list': the
+-- words before the call and after it
+module _ {W R H : Type 0} (Represents : Table W → H → List Place → Type 0) (linked : W → Bool) (unlinked : W) (head_of : R → H) where
+  -- the words of a table represent s for the words of a list
+  abbrev pub RepresentsList : List W → R → List Place → Type 0
+  RepresentsList words list s = Represents (table_of unlinked words) (head_of list) s
 
   -- the place is free in the table of these words
   abbrev pub FreeIn : List W → Place → Type 0
   FreeIn words = IsFree linked (table_of unlinked words)
 
   -- an end is none or a linked place of it
-  abbrev pub StandsIn : List W → Option Place → Type 0
-  StandsIn words at = Stands linked (table_of unlinked words) at
+  abbrev pub IsNoneOrLinkedIn : List W → Option Place → Type 0
+  IsNoneOrLinkedIn words at = IsNoneOrLinked linked (table_of unlinked words) at
 
   -- the fault of a member that is named, and of a place that is to go in
   abbrev pub fault_at : List W → Option Place → ℕ
@@ -41,46 +39,46 @@ module _ {W R H : Type 0} (Shows : Table W → H → List Place → Type 0) (lin
     -- p, which is free, is inserted
     abbrev pub Inserted : Cut → Place → Type 0
     Inserted cut p =
-        ShowsList old list (join cut) → FreeIn old p → IsAccepted status (Inserts Shows (table_of unlinked old) (table_of unlinked new) (head_of list') cut p)
+        RepresentsList old list (join cut) → FreeIn old p → IsAccepted status (Inserts Represents (table_of unlinked old) (table_of unlinked new) (head_of list') cut p)
 
     -- a member is removed, and unlinked
     abbrev pub Removed : Place → (front back : List Place) → Type 0
     Removed out front back =
-        ShowsList old list (front ++ out ∷ back) → IsAccepted status
-        (Removes Shows (table_of unlinked old) (table_of unlinked new) (head_of list') (before out front back) × IsUnlinked linked (table_of unlinked new) out)
+        RepresentsList old list (front ++ out ∷ back) → IsAccepted status
+        (Removes Represents (table_of unlinked old) (table_of unlinked new) (head_of list') (before out front back) × IsUnlinked linked (table_of unlinked new) out)
 
     -- and its number is handed out
     abbrev pub Popped : ℕ → Place → (front back : List Place) → Type 0
     Popped number out front back =
-        ShowsList old list (front ++ out ∷ back) → IsAccepted status
-        (Removes Shows (table_of unlinked old) (table_of unlinked new) (head_of list') (before out front back) × IsUnlinked linked (table_of unlinked new) out
+        RepresentsList old list (front ++ out ∷ back) → IsAccepted status
+        (Removes Represents (table_of unlinked old) (table_of unlinked new) (head_of list') (before out front back) × IsUnlinked linked (table_of unlinked new) out
         × HasNumber out number)
 
     -- a member is replaced by p, which is free, and unlinked
     abbrev pub Replaced : Place → (front back : List Place) → Place → Type 0
     Replaced out front back p =
-        ShowsList old list (front ++ out ∷ back) → FreeIn old p → IsAccepted status
-        (Replaces Shows (table_of unlinked old) (table_of unlinked new) (head_of list') (before out front back) p × IsUnlinked linked (table_of unlinked new) out)
+        RepresentsList old list (front ++ out ∷ back) → FreeIn old p → IsAccepted status
+        (Replaces Represents (table_of unlinked old) (table_of unlinked new) (head_of list') (before out front back) p × IsUnlinked linked (table_of unlinked new) out)
 
     -- and its number is handed out
     abbrev pub Exchanged : ℕ → Place → (front back : List Place) → Place → Type 0
     Exchanged number out front back p =
-        ShowsList old list (front ++ out ∷ back) → FreeIn old p → IsAccepted status
-        (Replaces Shows (table_of unlinked old) (table_of unlinked new) (head_of list') (before out front back) p × IsUnlinked linked (table_of unlinked new) out
+        RepresentsList old list (front ++ out ∷ back) → FreeIn old p → IsAccepted status
+        (Replaces Represents (table_of unlinked old) (table_of unlinked new) (head_of list') (before out front back) p × IsUnlinked linked (table_of unlinked new) out
         × HasNumber out number)
 
     -- all of t is spliced in
     abbrev pub Spliced : R → Cut → List Place → Type 0
     Spliced given cut t =
-        ShowsList old list (join cut) → ShowsList old given t → IsDisjoint t (join cut)
-        → IsAccepted status (Splices Shows (table_of unlinked old) (table_of unlinked new) (head_of list') cut t)
+        RepresentsList old list (join cut) → RepresentsList old given t → IsDisjoint t (join cut)
+        → IsAccepted status (Splices Represents (table_of unlinked old) (table_of unlinked new) (head_of list') cut t)
 
     -- the list is cut: one part is kept, and the other handed out in the words `rest`
     abbrev pub Split : R → Cut → (kept handed : List Place) → Type 0
     Split rest cut kept handed =
-        ShowsList old list (join cut)
-        → IsAccepted status (Splits Shows (table_of unlinked old) (table_of unlinked new) (head_of list') (head_of rest) kept handed)
+        RepresentsList old list (join cut)
+        → IsAccepted status (Splits Represents (table_of unlinked old) (table_of unlinked new) (head_of list') (head_of rest) kept handed)
 
     -- all members are unlinked
     abbrev pub Cleared : List Place → Type 0
-    Cleared s = ShowsList old list s → IsAccepted status (Clears linked (table_of unlinked old) (table_of unlinked new) s)
+    Cleared s = RepresentsList old list s → IsAccepted status (Clears linked (table_of unlinked old) (table_of unlinked new) s)

@@ -2,21 +2,21 @@
 use Rattle.std.specs.Prelude.{◌≡◌, ◌≢◌, ◌<◌, ◌≤◌, ◌++◌, ◌∷◌, ℕ, zero, suc, List, [], length}
 use Rattle.std.specs.List.{AllByRecursion}
 use Rattle.ic_unsafe_ref.specs.declared.place.Place.{Place}
-use Rattle.ic_check.specs.Checked.{IsShown, ShowsNone}
+use Rattle.ic_check.specs.Checked.{IsRepresented, RepresentsNone}
 use Rattle.ic_raw.specs.declared.status.TheConstants.{OK, BROKEN}
 use Rattle.ic_raw.specs.declared.words.RawFront.{RawFront}
 use Rattle.ic_raw.specs.declared.words.RawOne.{RawOne}
 use Rattle.ic_raw.specs.Answers.{IsStatus, refusal}
 use Rattle.ic_raw.specs.Hash.{slot_of, bucket_at, buckets_fault, HoldsChains}
 use Rattle.ic_raw.specs.Keys.{key_of, keys_fault}
-use Rattle.ic_raw.specs.Singly.{ShowsList}
+use Rattle.ic_raw.specs.Singly.{RepresentsList}
 
 -- `old`, `new`: the words of the table before the call and after it
 module _ {W : Type 0} (old new : List W) (status : ℕ) where
-  -- THE MEMBERS ARE COUNTED, if the words show any sequence, in words that said `was`. `Shown`: they show this sequence
-  pub record CheckCall (Shown : List Place → Type 0) (was members : ℕ) : Type 0 where
-    pub shown : status ≡ OK → IsShown Shown members
-    pub not_shown : status ≢ OK → ShowsNone Shown
+  -- THE MEMBERS ARE COUNTED, if the words represent any sequence, in words that said `was`. `Represented`: they represent this sequence
+  pub record CheckCall (Represented : List Place → Type 0) (was members : ℕ) : Type 0 where
+    pub shown : status ≡ OK → IsRepresented Represented members
+    pub not_represented : status ≢ OK → RepresentsNone Represented
     pub refused : status ≢ OK → members ≡ was
     pub same : new ≡ old
     pub why : status ≢ OK → status ≡ BROKEN
@@ -28,10 +28,10 @@ BelongsIn hashes buckets i p = slot_of buckets (key_of hashes p) ≡ i
 
 -- s is the chain in bucket i, and each member belongs there
 pub record IsOwnChain (words : List RawOne) (hashes : List ℕ) (buckets : List RawFront) (i : ℕ) (s : List Place) : Type 0 where
-  pub shown : ShowsList words (bucket_at buckets i) s
+  pub shown : RepresentsList words (bucket_at buckets i) s
   pub own : AllByRecursion (BelongsIn hashes buckets i) s
 
--- the members of the first chains, so many of them, those of one behind those of the one before
+-- the members of the first chains, so many of them, those of one after those of the one before
 abbrev pub members_of : (chains : ℕ → List Place) → ℕ → List Place
 members_of chains zero = []
 members_of chains (suc i) = members_of chains i ++ chains i
@@ -47,8 +47,8 @@ pub record HoldsByHash (words : List RawOne) (hashes : List ℕ) (buckets : List
 module _ (hashes : List ℕ) (old new : List RawOne) (status was members : ℕ) where
   -- THE MEMBERS OF ALL CHAINS ARE COUNTED, if each chain ends, no two share a member, and each member is in the bucket where its hash leads
   pub record HashCheckCall (buckets : List RawFront) : Type 0 where
-    pub shown : status ≡ OK → IsShown (HoldsByHash old hashes buckets) members
-    pub not_shown : status ≢ OK → length old ≤ length hashes → 1 ≤ length buckets → ShowsNone (HoldsByHash old hashes buckets)
+    pub shown : status ≡ OK → IsRepresented (HoldsByHash old hashes buckets) members
+    pub not_represented : status ≢ OK → length old ≤ length hashes → 1 ≤ length buckets → RepresentsNone (HoldsByHash old hashes buckets)
     pub looked : status ≡ OK → (length old ≤ length hashes) × (1 ≤ length buckets)
     pub refused : status ≢ OK → members ≡ was
     pub same : new ≡ old

@@ -1,14 +1,11 @@
 -- Runs of places with numbers one after another, and what a call does that puts one in: in the same words for every kind.
 use Rattle.std.specs.Prelude.{◌≡◌, ℕ, zero, suc, ◌+◌, ◌-◌, Bool, List, [], ◌∷◌, length, map, Option, Some}
-use Rattle.ic_unsafe_ref.specs.declared.place.Place.{Place}
-use Rattle.ic_link_ops.specs.Sequences.{Cut, join}
-use Rattle.ic_link_ops.specs.Tables.{Table}
-use Rattle.ic_link_ops.specs.LinkSteps.{acquires}
+use Rattle.ic_link_ops.specs.Prelude.{Place, Cut, join, Table, acquires}
 use Rattle.ic_link_ops.specs.PlainTables.{table_of}
 use Rattle.ic_link_ops.specs.Edits.{Splices}
 use Rattle.ic_raw.specs.declared.status.TheConstants.{OK}
 use Rattle.ic_raw.specs.Answers.{IsAccepted}
-use Rattle.ic_raw.specs.Calls.{ShowsList}
+use Rattle.ic_raw.specs.Calls.{RepresentsList}
 use Rattle.ic_raw.specs.Tables.{IsFree}
 use Rattle.ic_raw.specs.Touches.{Touches}
 use Rattle.ic_raw.specs.Words.{place_of}
@@ -45,14 +42,14 @@ pub record IsFreeRun {E : Type 0} (linked : E → Bool) (t : Table E) (first cou
 abbrev pub last_of_run : (first count : ℕ) → Option Place
 last_of_run first count = place_of (first + (count - 1))
 
--- A FILL TOUCHES NO MORE: it links each place of the run, in its order, and changes no entry but theirs and that of the end that it puts them behind
+-- A FILL TOUCHES NO MORE: it links each place of the run, in its order, and changes no entry but theirs and that of the end that it puts them after
 abbrev pub TouchesRun : {E : Type 0} → (linked : E → Bool) → (old new : Table E) → (run : List Place) → (end : Option Place) → Type 0
 TouchesRun linked old new run end = Touches linked old new (map acquires run) (end ∷ map Some run)
 
--- `Shows`, `linked`, `unlinked` and `head_of` are those of a kind, as in Calls
-module _ {W R H : Type 0} (Shows : Table W → H → List Place → Type 0) (linked : W → Bool) (unlinked : W) (head_of : R → H) where
+-- `Represents`, `linked`, `unlinked` and `head_of` are those of a kind, as in Calls
+module _ {W R H : Type 0} (Represents : Table W → H → List Place → Type 0) (linked : W → Bool) (unlinked : W) (head_of : R → H) where
   -- a run that is free goes in where the list is cut
   abbrev pub Filled : (old new : List W) (list list' : R) (status : ℕ) → Cut → (first count : ℕ) → Type 0
   Filled old new list list' status cut first count =
-      ShowsList Shows linked unlinked head_of old list (join cut) → (free : IsFreeRun linked (table_of unlinked old) first count)
-      → IsAccepted status (Splices Shows (table_of unlinked old) (table_of unlinked new) (head_of list') cut free.run)
+      RepresentsList Represents linked unlinked head_of old list (join cut) → (free : IsFreeRun linked (table_of unlinked old) first count)
+      → IsAccepted status (Splices Represents (table_of unlinked old) (table_of unlinked new) (head_of list') cut free.run)

@@ -1,8 +1,6 @@
 -- The gap at which a call edits.
 use Rattle.std.specs.Prelude.{◌≡◌, ◌≢◌, ◌∷◌, List, Bool, Option, Some, None}
-use Rattle.ic_unsafe_ref.specs.declared.place.Place.{Place}
-use Rattle.ic_link_ops.specs.Sequences.{Cut, at_front, at_back, first, last, IsAfter, IsBefore}
-use Rattle.ic_link_ops.specs.Tables.{Table, IsLinked}
+use Rattle.ic_link_ops.specs.Prelude.{Place, Cut, at_front, at_back, first, last, IsAfter, IsBefore, Table, IsLinked}
 use Rattle.ic_link_ops.specs.Chains.{Ends, end_of}
 use Rattle.ic_raw.specs.declared.gap.Gap.{Gap}
 use Rattle.ic_raw.specs.Tables.{IsFree}
@@ -15,12 +13,12 @@ IsBeside After cut at = IsAfter cut at
 IsBeside Before cut at = IsBefore cut at
 
 -- none, or a linked place
-abbrev pub Stands : {E : Type 0} → (E → Bool) → Table E → Option Place → Type 0
-Stands linked t at = (q : Place) → at ≡ Some q → IsLinked linked t q
+abbrev pub IsNoneOrLinked : {E : Type 0} → (E → Bool) → Table E → Option Place → Type 0
+IsNoneOrLinked linked t at = (q : Place) → at ≡ Some q → IsLinked linked t q
 
 -- both sides of a gap are
 abbrev pub StandBeside : {E : Type 0} → (E → Bool) → Table E → Gap → Type 0
-StandBeside linked t gap = Stands linked t gap.before × Stands linked t gap.behind
+StandBeside linked t gap = IsNoneOrLinked linked t gap.before × IsNoneOrLinked linked t gap.behind
 
 -- the place that is to go in is named, and free
 abbrev pub NamesFree : {E : Type 0} → (E → Bool) → Table E → Option Place → Type 0
@@ -34,8 +32,8 @@ BeginApart one other = (p : Place) → other ≡ Some p → one ≢ Some p
 abbrev pub gap_between : (before behind : Option Place) → Gap
 gap_between before behind = record { before = before; behind = behind }
 
--- A LIST'S OWN ENDS after an edit at a gap: on a side where a member stands, the end is as it was. Where none stands in front of the gap, the list
--- begins with the one of these now, and where none stands behind it, it ends with the other
+-- A LIST'S OWN ENDS after an edit at a gap: on a side where a member stands, the end is as it was. Where none stands before the gap, the list
+-- begins with the one of these now, and where none stands after it, it ends with the other
 pub record Turns (gap : Gap) (begins ends : Option Place) (old new : Ends) : Type 0 where
   pub head : new.head ≡ end_of gap.before begins old.head
   pub tail : new.tail ≡ end_of gap.behind ends old.tail
@@ -61,7 +59,7 @@ AllPutIn gap given = Turns gap (or_else given.head gap.behind) (or_else given.ta
 abbrev pub IsMoved : (from : Gap) → (member : Option Place) → (to : Gap) → (old new : Ends) → Type 0
 IsMoved from member to old new = (without : Ends) × TakenOut from old without × PutIn to member without new
 
--- A LIST IS CUT AT A GAP: the part in front begins as the list did, and the part behind ends as it did. A part without members has no ends
+-- A LIST IS CUT AT A GAP: the part before begins as the list did, and the part after ends as it did. A part without members has no ends
 pub record IsCutAt (gap : Gap) (old front back : Ends) : Type 0 where
   pub front_head : front.head ≡ end_of gap.before None old.head
   pub front_tail : front.tail ≡ gap.before
@@ -81,7 +79,7 @@ IsApart gap p = (gap.before ≢ Some p) × (gap.behind ≢ Some p)
 abbrev pub gap_of : Cut → Gap
 gap_of cut = record { before = last cut.front; behind = first cut.back }
 
--- the outermost gap on this side of none: in front of all, or behind all
+-- the outermost gap on this side of none: before all, or after all
 abbrev pub outermost : Side → List Place → Cut
 outermost After s = at_front s
 outermost Before s = at_back s
@@ -91,6 +89,6 @@ abbrev pub toward : Side → Gap → Option Place
 toward After gap = gap.before
 toward Before gap = gap.behind
 
--- the gap in front of a member
+-- the gap before a member
 abbrev pub before : Place → (front back : List Place) → Cut
 before p front back = record { front = front; back = p ∷ back }

@@ -1,13 +1,11 @@
 -- Hash tables over a caller's words: an array of buckets, each the singly linked list of those members whose hash leads there.
 use Rattle.std.specs.Prelude.{◌≡◌, ◌≢◌, ◌<◌, ℕ, ◌%◌, Bool, true, nat_eq, cond, Option, None, List, length, slice_index_or}
-use Rattle.ic_unsafe_ref.specs.declared.place.Place.{Place}
-use Rattle.ic_link_ops.specs.Sequences.{IsDisjoint}
-use Rattle.ic_link_ops.specs.Tables.{IsLinked}
+use Rattle.ic_link_ops.specs.Prelude.{Place, IsDisjoint, IsLinked}
 use Rattle.ic_raw.specs.declared.status.TheConstants.{OK, OUT_OF_RANGE}
 use Rattle.ic_raw.specs.declared.words.RawOne.{RawOne}
 use Rattle.ic_raw.specs.declared.words.RawFront.{RawFront}
 use Rattle.ic_raw.specs.Keys.{key_of}
-use Rattle.ic_raw.specs.Singly.{LeadsFrom, ShowsList, table_of, word_of_front}
+use Rattle.ic_raw.specs.Singly.{LeadsFrom, RepresentsList, table_of, word_of_front}
 use Rattle.ic_raw.specs.Words.{is_linked_one, HasNumber}
 
 -- the number of the bucket where a hash leads
@@ -40,7 +38,7 @@ abbrev pub NamesKey : List RawOne → (front : Option Place) → List ℕ → �
 NamesKey words front keys key number =
     (q : Place) × IsLinked is_linked_one (table_of words) q × (has_key keys key q ≡ true) × HasNumber q number × LeadsFrom (table_of words) front q
 
--- THE BUCKETS HOLD these chains: each shows its own, and no two of them share a member
+-- THE BUCKETS HOLD these chains: each represents its own, and no two of them share a member
 pub record HoldsChains (words : List RawOne) (buckets : List RawFront) (chains : ℕ → List Place) : Type 0 where
-  pub shown : (i : ℕ) → i < length buckets → ShowsList words (bucket_at buckets i) (chains i)
+  pub shown : (i : ℕ) → i < length buckets → RepresentsList words (bucket_at buckets i) (chains i)
   pub apart : (i j : ℕ) → i < length buckets → j < length buckets → i ≢ j → IsDisjoint (chains i) (chains j)

@@ -2,18 +2,14 @@
 use Rattle.std.specs.Prelude.{◌≡◌, ℕ, Bool, true, false, Option, Some, None, List, [], ◌∷◌, length, cond, nat_lt, slice_index}
 use Rattle.std.specs.Ordering.{nat_cmp, is_eq, is_le, is_ge}
 use Rattle.std.specs.declared.cmp.Ordering.{Ordering}
-use Rattle.ic_unsafe_ref.specs.declared.place.Place.{Place}
-use Rattle.ic_unsafe_ref.specs.Objects.{at_indexes}
-use Rattle.ic_unsafe_ref.specs.Places.{index_of}
+use Rattle.ic_link_ops.specs.Prelude.{Place, index_of, at_indexes, Cut, first, last, Table, IsLinked}
 use Rattle.ic_link_ops.specs.Frames.{child_on}
-use Rattle.ic_link_ops.specs.Sequences.{Cut, first, last}
-use Rattle.ic_link_ops.specs.Tables.{Table, IsLinked}
 use Rattle.ic_link_ops.specs.declared.side.Side.{Side}
 use Rattle.ic_link_ops.specs.declared.side.Side.TheVariants.{Left, Right}
 use Rattle.ic_rbtree.specs.Borders.{Finds, IsLowerBorder, IsUpperBorder}
 use Rattle.ic_rbtree.specs.Comparing.{compared, goes_left}
 use Rattle.ic_rbtree.specs.Descents.{side_of}
-use Rattle.ic_rbtree.specs.Insertion.{IsHole}
+use Rattle.ic_rbtree.specs.Insertion.{IsInsertPos}
 use Rattle.ic_rbtree.specs.Ordered as ordered
 use Rattle.ic_rbtree.specs.declared.keys.key_adapter.Bound.TheVariants.{Included}
 use Rattle.ic_raw.specs.declared.status.TheConstants.{OK, OUT_OF_RANGE}
@@ -26,7 +22,7 @@ use Rattle.ic_raw.specs.Answers.{IsAccepted}
 use Rattle.ic_raw.specs.declared.nodes.Seen.{Seen}
 use Rattle.ic_raw.specs.Seen.{seen, seen_node}
 use Rattle.ic_raw.specs.Words.{HasNumber, is_linked_three}
-use Rattle.ic_raw.specs.Tree.{Shows, ShowsTree, FreeIn, root_in, table_of}
+use Rattle.ic_raw.specs.Tree.{Represents, RepresentsTree, FreeIn, root_in, table_of}
 
 -- how a key stands to that of each place: `Less` where it is less
 abbrev pub against : ℕ → List ℕ → Place → Ordering
@@ -50,11 +46,11 @@ past way p false = record { parent = Some p; side = Right; front = Some p; back 
 
 -- THE WAY ENDS in this gap, which is a hole as the table is seen
 pub record EndsIn (t : Table RawThree) (gap : Cut) (way : Way) : Type 0 where
-  pub hole : IsHole seen_node (seen t) way.parent way.side gap
+  pub hole : IsInsertPos seen_node (seen t) way.parent way.side gap
   pub front_is : way.front ≡ last gap.front
   pub back_is : way.back ≡ first gap.back
 
--- THE WAY HAS TURNED right at the member in front, and left at the one behind, as the test says
+-- THE WAY HAS TURNED right at the member before, and left at the one after, as the test says
 pub record HasTurned (left : Place → Bool) (way : Way) : Type 0 where
   pub front : (q : Place) → way.front ≡ Some q → left q ≡ false
   pub back : (q : Place) → way.back ≡ Some q → left q ≡ true
@@ -94,8 +90,8 @@ Meets AtMost order = is_ge order ≡ true
 abbrev pub NamesTarget : Target → List ℕ → ℕ → Table RawThree → ℕ → Type 0
 NamesTarget target keys key t number = (q : Place) × IsLinked is_linked_three t q × HasNumber q number × Meets target (against key keys q)
 
--- p, which is free, is inserted behind all members with no greater key than its own
+-- p, which is free, is inserted after all members with no greater key than its own
 abbrev pub InsertedInOrder : (keys : List ℕ) (old new : List RawThree) (tree tree' : RawRoot) (status : ℕ) → List Place → Place → Type 0
 InsertedInOrder keys old new tree tree' status s p =
-    ShowsTree old tree s → FreeIn old p
-    → IsAccepted status (ordered.InsertsInOrder Shows (against (key_of keys p) keys) (table_of old) (table_of new) (root_in tree') s p)
+    RepresentsTree old tree s → FreeIn old p
+    → IsAccepted status (ordered.InsertsInOrder Represents (against (key_of keys p) keys) (table_of old) (table_of new) (root_in tree') s p)

@@ -26,3 +26,4 @@ pub mod XorCalls
 pub mod TreeCalls
 pub mod SearchCalls
 pub mod HashCalls
+pub mod Surgery

@@ -1,7 +1,6 @@
 -- Words of doubly linked places, of 8 bytes or of 4, and tables over them.
 use Rattle.std.specs.Prelude.{◌≡◌, ℕ, Bool, List, Option}
-use Rattle.ic_unsafe_ref.specs.declared.place.Place.{Place}
-use Rattle.ic_link_ops.specs.Tables.{Table}
+use Rattle.ic_link_ops.specs.Prelude.{Place, Table}
 use Rattle.ic_link_ops.specs.LinkedList.{Neighbors}
 use Rattle.ic_link_ops.specs.PlainTables as plain
 use Rattle.ic_link_ops.specs.Widths.{Width, wide, narrow, nameable}

@@ -1,53 +1,51 @@
 -- WHAT THE CALLS OF DOUBLY LINKED LISTS DO: each record is the whole contract of a call. It says first what the call does to a list that the table
--- shows, and then what holds whatever the words say: what an accepted call has found before it edits, which entries it changes and which ends the
--- list has then, and what a refused one leaves, and why.
+-- represents, and then what holds whatever the words say: what an accepted call has found before it edits, which entries it changes and which ends
+-- the list has then, and what a refused one leaves, and why.
 use Rattle.std.specs.Prelude.{◌≡◌, ◌≢◌, ◌↔◌, ◌++◌, ◌∷◌, ℕ, List, [], Option, Some, None}
-use Rattle.ic_unsafe_ref.specs.declared.place.Place.{Place}
-use Rattle.ic_link_ops.specs.Sequences.{Cut, join, at_back}
-use Rattle.ic_link_ops.specs.Tables.{KeepsLinked}
-use Rattle.ic_link_ops.specs.LinkSteps.{acquires, releases}
+use Rattle.ic_link_ops.specs.Prelude.{Place, Cut, join, at_back, KeepsLinked, acquires, releases}
 use Rattle.ic_link_ops.specs.Chains.{no_members}
 use Rattle.ic_raw.specs.declared.gap.Side.{Side}
 use Rattle.ic_raw.specs.declared.gap.Side.TheVariants.{After, Before}
 use Rattle.ic_raw.specs.declared.status.TheConstants.{OK, NULL, BROKEN}
 use Rattle.ic_raw.specs.declared.words.RawEnds.{RawEnds}
-use Rattle.ic_raw.specs.declared.words.RawTwo.{RawTwo}
 use Rattle.ic_raw.specs.Answers.{IsStatus, refusal}
-use Rattle.ic_raw.specs.Doubly.{ShowsList, FreeIn, StandsIn, TellsGap, IsEnd, IsWritten, IsFreeRunIn, around, end_on, gap_from, table_of, ends_of, words_of, fault_at, fault_of}
+use Rattle.ic_raw.specs.Doubly.{RepresentsList, IsNoneOrLinkedIn, TellsGap, IsEnd, IsWritten, IsFreeRunIn, around, end_on, gap_from, ends_of, words_of}
 use Rattle.ic_raw.specs.Doubly.{Inserted, Removed, Popped, Replaced, Moved, Stayed, Spliced, Split, Cleared, Filled}
 use Rattle.ic_raw.specs.Fills.{TouchesRun, last_of_run, run_faults}
 use Rattle.ic_raw.specs.Gaps.{AllPutIn, IsApart, IsBeside, IsCutBeside, IsMoved, PutIn, TakenOut, Turns, gap_between, outermost}
+use Rattle.ic_raw.specs.LinkWords.{LinkWords, table_of, FreeIn, fault_at, fault_of}
 use Rattle.ic_raw.specs.Touches.{Touches, sides}
-use Rattle.ic_raw.specs.Words.{is_linked_two, place_of, HasNumber}
+use Rattle.ic_raw.specs.Words.{place_of, HasNumber}
 
--- `old`, `new`: the words of the table before the call and after it. `list`, `list'`: those of the list. `status`: what the call returns
-module _ (old new : List RawTwo) (list list' : RawEnds) (status : ℕ) where
+-- `link`: what the words of a place say. `old`, `new`: those of the table before the call and after it. `list`, `list'`: those of the list.
+-- `status`: what the call returns
+module _ {W : Type 0} (link : LinkWords W) (old new : List W) (list list' : RawEnds) (status : ℕ) where
   -- A PLACE GOES INTO THE GAP on this side of the member `at`, at none into the outermost one
   pub record InsertCall (side : Side) (at place : Option Place) : Type 0 where
-    pub inserted : (cut : Cut) (p : Place) → IsBeside side cut at → place ≡ Some p → Inserted old new list list' status cut p
-    pub free : (p : Place) → place ≡ Some p → status ≡ OK → FreeIn old p
+    pub inserted : (cut : Cut) (p : Place) → IsBeside side cut at → place ≡ Some p → Inserted link old new list list' status cut p
+    pub free : (p : Place) → place ≡ Some p → status ≡ OK → FreeIn link old p
     pub no_place : place ≡ None → status ≢ OK
-    pub stands : status ≡ OK → StandsIn old at
-    pub told : status ≡ OK → TellsGap side (table_of old) (ends_of list) at
-    pub own : status ≡ OK → PutIn (gap_from side (table_of old) (ends_of list) at) place (ends_of list) (ends_of list')
-    pub touched : (p : Place) → place ≡ Some p → status ≡ OK → Touches is_linked_two (table_of old) (table_of new) (acquires p ∷ [])
-        (Some p ∷ sides (gap_from side (table_of old) (ends_of list) at))
+    pub stands : status ≡ OK → IsNoneOrLinkedIn link old at
+    pub links_back : status ≡ OK → TellsGap link side (table_of link old) (ends_of list) at
+    pub own : status ≡ OK → PutIn (gap_from link side (table_of link old) (ends_of list) at) place (ends_of list) (ends_of list')
+    pub touched : (p : Place) → place ≡ Some p → status ≡ OK → Touches link.is_linked (table_of link old) (table_of link new) (acquires p ∷ [])
+        (Some p ∷ sides (gap_from link side (table_of link old) (ends_of list) at))
     pub words : IsWritten list → IsWritten list'
     pub refused : status ≢ OK → (new ≡ old) × (list' ≡ list)
-    pub why : status ≢ OK → status ≡ refusal (fault_at old at ∷ fault_of old place ∷ [])
+    pub why : status ≢ OK → status ≡ refusal (fault_at link old at ∷ fault_of link old place ∷ [])
     pub is_status : IsStatus status
 
   -- THE FIRST MEMBER LEAVES, on the side Before the last one, and its number is handed out, in words that said `was`
   pub record PopCall (side : Side) (was popped : ℕ) : Type 0 where
-    pub taken : (front back : List Place) (p : Place) → IsEnd side front back → Popped old new list list' status popped p front back
+    pub taken : (front back : List Place) (p : Place) → IsEnd side front back → Popped link old new list list' status popped p front back
     pub handed : (p : Place) → end_on side (ends_of list) ≡ Some p → status ≡ OK → HasNumber p popped
     pub null : (status ≡ NULL) ↔ (end_on side (ends_of list) ≡ None)
-    pub stands : status ≡ OK → StandsIn old (end_on side (ends_of list))
-    pub outer : status ≡ OK → TellsGap side (table_of old) (ends_of list) None
-    pub inner : status ≡ OK → TellsGap side (table_of old) (ends_of list) (end_on side (ends_of list))
-    pub own : status ≡ OK → TakenOut (around (table_of old) (ends_of list) (end_on side (ends_of list))) (ends_of list) (ends_of list')
-    pub touched : (p : Place) → end_on side (ends_of list) ≡ Some p → status ≡ OK → Touches is_linked_two (table_of old) (table_of new) (releases p ∷ [])
-        (Some p ∷ sides (around (table_of old) (ends_of list) (Some p)))
+    pub stands : status ≡ OK → IsNoneOrLinkedIn link old (end_on side (ends_of list))
+    pub outer : status ≡ OK → TellsGap link side (table_of link old) (ends_of list) None
+    pub inner : status ≡ OK → TellsGap link side (table_of link old) (ends_of list) (end_on side (ends_of list))
+    pub own : status ≡ OK → TakenOut (around link (table_of link old) (ends_of list) (end_on side (ends_of list))) (ends_of list) (ends_of list')
+    pub touched : (p : Place) → end_on side (ends_of list) ≡ Some p → status ≡ OK → Touches link.is_linked (table_of link old) (table_of link new) (releases p ∷ [])
+        (Some p ∷ sides (around link (table_of link old) (ends_of list) (Some p)))
     pub words : IsWritten list → IsWritten list'
     pub refused : status ≢ OK → (new ≡ old) × (list' ≡ list) × (popped ≡ was)
     pub why : status ≢ OK → status ≢ NULL → status ≡ BROKEN
@@ -55,129 +53,129 @@ module _ (old new : List RawTwo) (list list' : RawEnds) (status : ℕ) where
 
   -- A MEMBER LEAVES
   pub record RemoveCall (at : Option Place) : Type 0 where
-    pub removed : (front back : List Place) (p : Place) → at ≡ Some p → Removed old new list list' status p front back
+    pub removed : (front back : List Place) (p : Place) → at ≡ Some p → Removed link old new list list' status p front back
     pub null : (status ≡ NULL) ↔ (at ≡ None)
-    pub stands : status ≡ OK → StandsIn old at
-    pub before : status ≡ OK → TellsGap Before (table_of old) (ends_of list) at
-    pub behind : status ≡ OK → TellsGap After (table_of old) (ends_of list) at
-    pub own : status ≡ OK → TakenOut (around (table_of old) (ends_of list) at) (ends_of list) (ends_of list')
-    pub touched : (p : Place) → at ≡ Some p → status ≡ OK → Touches is_linked_two (table_of old) (table_of new) (releases p ∷ [])
-        (Some p ∷ sides (around (table_of old) (ends_of list) at))
+    pub stands : status ≡ OK → IsNoneOrLinkedIn link old at
+    pub before : status ≡ OK → TellsGap link Before (table_of link old) (ends_of list) at
+    pub behind : status ≡ OK → TellsGap link After (table_of link old) (ends_of list) at
+    pub own : status ≡ OK → TakenOut (around link (table_of link old) (ends_of list) at) (ends_of list) (ends_of list')
+    pub touched : (p : Place) → at ≡ Some p → status ≡ OK → Touches link.is_linked (table_of link old) (table_of link new) (releases p ∷ [])
+        (Some p ∷ sides (around link (table_of link old) (ends_of list) at))
     pub words : IsWritten list → IsWritten list'
     pub refused : status ≢ OK → (new ≡ old) × (list' ≡ list)
-    pub why : status ≢ OK → status ≢ NULL → status ≡ refusal (fault_at old at ∷ [])
+    pub why : status ≢ OK → status ≢ NULL → status ≡ refusal (fault_at link old at ∷ [])
     pub is_status : IsStatus status
 
   -- A PLACE STANDS WHERE A MEMBER DID, which leaves
   pub record ReplaceCall (at place : Option Place) : Type 0 where
-    pub replaced : (front back : List Place) (out p : Place) → at ≡ Some out → place ≡ Some p → Replaced old new list list' status out front back p
-    pub free : (p : Place) → place ≡ Some p → status ≡ OK → FreeIn old p
+    pub replaced : (front back : List Place) (out p : Place) → at ≡ Some out → place ≡ Some p → Replaced link old new list list' status out front back p
+    pub free : (p : Place) → place ≡ Some p → status ≡ OK → FreeIn link old p
     pub no_place : place ≡ None → status ≢ OK
     pub null : (status ≡ NULL) ↔ (at ≡ None)
-    pub stands : status ≡ OK → StandsIn old at
-    pub before : status ≡ OK → TellsGap Before (table_of old) (ends_of list) at
-    pub behind : status ≡ OK → TellsGap After (table_of old) (ends_of list) at
-    pub own : status ≡ OK → PutIn (around (table_of old) (ends_of list) at) place (ends_of list) (ends_of list')
-    pub touched : (out p : Place) → at ≡ Some out → place ≡ Some p → status ≡ OK → Touches is_linked_two (table_of old) (table_of new) (acquires p ∷ releases out ∷ [])
-        (Some p ∷ Some out ∷ sides (around (table_of old) (ends_of list) at))
+    pub stands : status ≡ OK → IsNoneOrLinkedIn link old at
+    pub before : status ≡ OK → TellsGap link Before (table_of link old) (ends_of list) at
+    pub behind : status ≡ OK → TellsGap link After (table_of link old) (ends_of list) at
+    pub own : status ≡ OK → PutIn (around link (table_of link old) (ends_of list) at) place (ends_of list) (ends_of list')
+    pub touched : (out p : Place) → at ≡ Some out → place ≡ Some p → status ≡ OK → Touches link.is_linked (table_of link old) (table_of link new) (acquires p ∷ releases out ∷ [])
+        (Some p ∷ Some out ∷ sides (around link (table_of link old) (ends_of list) at))
     pub words : status ≡ OK → IsWritten list'
     pub refused : status ≢ OK → (new ≡ old) × (list' ≡ list)
-    pub why : status ≢ OK → status ≢ NULL → status ≡ refusal (fault_at old at ∷ fault_of old place ∷ [])
+    pub why : status ≢ OK → status ≢ NULL → status ≡ refusal (fault_at link old at ∷ fault_of link old place ∷ [])
     pub is_status : IsStatus status
 
   -- A MEMBER MOVES into the gap on this side of the member `at`, at none into the outermost one. Beside itself it stays
   pub record MoveCall (side : Side) (at place : Option Place) : Type 0 where
     pub moved : (cut : Cut) (front back : List Place) (p : Place) → IsBeside side cut at → place ≡ Some p → join cut ≡ front ++ back
-        → Moved old new list list' status p front back cut
-    pub itself : (front back : List Place) (p : Place) → at ≡ Some p → place ≡ Some p → Stayed old new list list' status p front back
+        → Moved link old new list list' status p front back cut
+    pub itself : (front back : List Place) (p : Place) → at ≡ Some p → place ≡ Some p → Stayed link old new list list' status p front back
     pub there : (front back : List Place) (p : Place) → IsBeside side (record { front = front; back = back }) at → place ≡ Some p
-        → Stayed old new list list' status p front back
+        → Stayed link old new list list' status p front back
     pub null : (status ≡ NULL) ↔ (place ≡ None)
-    pub stands : status ≡ OK → StandsIn old at
-    pub told : status ≡ OK → TellsGap side (table_of old) (ends_of list) at
-    pub member : status ≡ OK → StandsIn old place
-    pub before : status ≡ OK → TellsGap Before (table_of old) (ends_of list) place
-    pub behind : status ≡ OK → TellsGap After (table_of old) (ends_of list) place
-    pub linked : KeepsLinked is_linked_two (table_of old) (table_of new)
-    pub touched : status ≡ OK → Touches is_linked_two (table_of old) (table_of new) []
-        (place ∷ sides (around (table_of old) (ends_of list) place) ++ sides (gap_from side (table_of old) (ends_of list) at))
-    pub own : (p : Place) → place ≡ Some p → status ≡ OK → IsApart (gap_from side (table_of old) (ends_of list) at) p
-        → IsMoved (around (table_of old) (ends_of list) place) place (gap_from side (table_of old) (ends_of list) at) (ends_of list) (ends_of list')
-    pub stays : (p : Place) → place ≡ Some p → status ≡ OK → (IsApart (gap_from side (table_of old) (ends_of list) at) p → ⊥) → (new ≡ old) × (list' ≡ list)
+    pub stands : status ≡ OK → IsNoneOrLinkedIn link old at
+    pub links_back : status ≡ OK → TellsGap link side (table_of link old) (ends_of list) at
+    pub member : status ≡ OK → IsNoneOrLinkedIn link old place
+    pub before : status ≡ OK → TellsGap link Before (table_of link old) (ends_of list) place
+    pub behind : status ≡ OK → TellsGap link After (table_of link old) (ends_of list) place
+    pub linked : KeepsLinked link.is_linked (table_of link old) (table_of link new)
+    pub touched : status ≡ OK → Touches link.is_linked (table_of link old) (table_of link new) []
+        (place ∷ sides (around link (table_of link old) (ends_of list) place) ++ sides (gap_from link side (table_of link old) (ends_of list) at))
+    pub own : (p : Place) → place ≡ Some p → status ≡ OK → IsApart (gap_from link side (table_of link old) (ends_of list) at) p
+        → IsMoved (around link (table_of link old) (ends_of list) place) place (gap_from link side (table_of link old) (ends_of list) at) (ends_of list) (ends_of list')
+    pub stays : (p : Place) → place ≡ Some p → status ≡ OK → (IsApart (gap_from link side (table_of link old) (ends_of list) at) p → ⊥) → (new ≡ old) × (list' ≡ list)
     pub words : IsWritten list → IsWritten list'
     pub refused : status ≢ OK → (new ≡ old) × (list' ≡ list)
-    pub why : status ≢ OK → status ≢ NULL → status ≡ refusal (fault_at old at ∷ fault_at old place ∷ [])
+    pub why : status ≢ OK → status ≢ NULL → status ≡ refusal (fault_at link old at ∷ fault_at link old place ∷ [])
     pub is_status : IsStatus status
 
   -- A MEMBER MOVES TO THE FRONT, on the side Before to the back
   pub record MoveToEndCall (side : Side) (place : Option Place) : Type 0 where
-    pub moved : (front back : List Place) (p : Place) → place ≡ Some p → Moved old new list list' status p front back (outermost side (front ++ back))
-    pub there : (front back : List Place) (p : Place) → IsEnd side front back → place ≡ Some p → Stayed old new list list' status p front back
+    pub moved : (front back : List Place) (p : Place) → place ≡ Some p → Moved link old new list list' status p front back (outermost side (front ++ back))
+    pub there : (front back : List Place) (p : Place) → IsEnd side front back → place ≡ Some p → Stayed link old new list list' status p front back
     pub null : (status ≡ NULL) ↔ (place ≡ None)
-    pub told : status ≡ OK → TellsGap side (table_of old) (ends_of list) None
-    pub member : status ≡ OK → StandsIn old place
-    pub before : status ≡ OK → TellsGap Before (table_of old) (ends_of list) place
-    pub behind : status ≡ OK → TellsGap After (table_of old) (ends_of list) place
-    pub linked : KeepsLinked is_linked_two (table_of old) (table_of new)
-    pub touched : status ≡ OK → Touches is_linked_two (table_of old) (table_of new) []
-        (place ∷ sides (around (table_of old) (ends_of list) place) ++ sides (gap_from side (table_of old) (ends_of list) None))
+    pub links_back : status ≡ OK → TellsGap link side (table_of link old) (ends_of list) None
+    pub member : status ≡ OK → IsNoneOrLinkedIn link old place
+    pub before : status ≡ OK → TellsGap link Before (table_of link old) (ends_of list) place
+    pub behind : status ≡ OK → TellsGap link After (table_of link old) (ends_of list) place
+    pub linked : KeepsLinked link.is_linked (table_of link old) (table_of link new)
+    pub touched : status ≡ OK → Touches link.is_linked (table_of link old) (table_of link new) []
+        (place ∷ sides (around link (table_of link old) (ends_of list) place) ++ sides (gap_from link side (table_of link old) (ends_of list) None))
     pub own : (p : Place) → place ≡ Some p → status ≡ OK → end_on side (ends_of list) ≢ Some p
-        → IsMoved (around (table_of old) (ends_of list) place) place (gap_from side (table_of old) (ends_of list) None) (ends_of list) (ends_of list')
+        → IsMoved (around link (table_of link old) (ends_of list) place) place (gap_from link side (table_of link old) (ends_of list) None) (ends_of list) (ends_of list')
     pub stays : (p : Place) → place ≡ Some p → status ≡ OK → end_on side (ends_of list) ≡ Some p → (new ≡ old) × (list' ≡ list)
     pub words : IsWritten list → IsWritten list'
     pub refused : status ≢ OK → (new ≡ old) × (list' ≡ list)
-    pub why : status ≢ OK → status ≢ NULL → status ≡ refusal (fault_at old place ∷ [])
+    pub why : status ≢ OK → status ≢ NULL → status ≡ refusal (fault_at link old place ∷ [])
     pub is_status : IsStatus status
 
   -- ALL MEMBERS OF A SECOND LIST GO INTO THE GAP on this side of the member `at`, at none into the outermost one. `given`, `given'`: its words
   pub record SpliceCall (side : Side) (at : Option Place) (given given' : RawEnds) : Type 0 where
-    pub spliced : (cut : Cut) (t : List Place) → IsBeside side cut at → Spliced old new list list' status given cut t
+    pub spliced : (cut : Cut) (t : List Place) → IsBeside side cut at → Spliced link old new list list' status given cut t
     pub emptied : status ≡ OK → given' ≡ words_of no_members
-    pub stands : status ≡ OK → StandsIn old at
-    pub told : status ≡ OK → TellsGap side (table_of old) (ends_of list) at
-    pub front : status ≡ OK → TellsGap After (table_of old) (ends_of given) None
-    pub back : status ≡ OK → TellsGap Before (table_of old) (ends_of given) None
+    pub stands : status ≡ OK → IsNoneOrLinkedIn link old at
+    pub links_back : status ≡ OK → TellsGap link side (table_of link old) (ends_of list) at
+    pub front : status ≡ OK → TellsGap link After (table_of link old) (ends_of given) None
+    pub back : status ≡ OK → TellsGap link Before (table_of link old) (ends_of given) None
     pub apart : status ≡ OK → (p : Place) → (ends_of given).head ≡ Some p → (ends_of list).head ≢ Some p
-    pub touched : status ≡ OK → Touches is_linked_two (table_of old) (table_of new) []
-        (sides (gap_from side (table_of old) (ends_of list) at) ++ (ends_of given).head ∷ (ends_of given).tail ∷ [])
-    pub own : status ≡ OK → AllPutIn (gap_from side (table_of old) (ends_of list) at) (ends_of given) (ends_of list) (ends_of list')
+    pub touched : status ≡ OK → Touches link.is_linked (table_of link old) (table_of link new) []
+        (sides (gap_from link side (table_of link old) (ends_of list) at) ++ (ends_of given).head ∷ (ends_of given).tail ∷ [])
+    pub own : status ≡ OK → AllPutIn (gap_from link side (table_of link old) (ends_of list) at) (ends_of given) (ends_of list) (ends_of list')
     pub words : status ≡ OK → IsWritten list'
     pub refused : status ≢ OK → (new ≡ old) × (list' ≡ list) × (given' ≡ given)
-    pub why : status ≢ OK → status ≡ refusal (fault_at old at ∷ [])
+    pub why : status ≢ OK → status ≡ refusal (fault_at link old at ∷ [])
     pub is_status : IsStatus status
 
   -- THE LIST IS CUT at the gap on this side of the member `at`, at none at the outermost one, and the part on that side handed out, in words
   -- that say no member. `rest`, `rest'`: these words
   pub record SplitCall (side : Side) (at : Option Place) (rest rest' : RawEnds) : Type 0 where
-    pub split : (cut : Cut) → IsBeside side cut at → ends_of rest ≡ no_members → Split side old new list list' status rest' cut
+    pub split : (cut : Cut) → IsBeside side cut at → ends_of rest ≡ no_members → Split link old new list list' status side rest' cut
     pub empty : status ≡ OK → ends_of rest ≡ no_members
-    pub stands : status ≡ OK → StandsIn old at
-    pub told : status ≡ OK → TellsGap side (table_of old) (ends_of list) at
-    pub touched : status ≡ OK → Touches is_linked_two (table_of old) (table_of new) [] (sides (gap_from side (table_of old) (ends_of list) at))
-    pub own : status ≡ OK → IsCutBeside side (gap_from side (table_of old) (ends_of list) at) (ends_of list) (ends_of list') (ends_of rest')
+    pub stands : status ≡ OK → IsNoneOrLinkedIn link old at
+    pub links_back : status ≡ OK → TellsGap link side (table_of link old) (ends_of list) at
+    pub touched : status ≡ OK → Touches link.is_linked (table_of link old) (table_of link new) [] (sides (gap_from link side (table_of link old) (ends_of list) at))
+    pub own : status ≡ OK → IsCutBeside side (gap_from link side (table_of link old) (ends_of list) at) (ends_of list) (ends_of list') (ends_of rest')
     pub words : status ≡ OK → IsWritten list'
     pub rest_words : status ≡ OK → IsWritten rest'
     pub refused : status ≢ OK → (new ≡ old) × (list' ≡ list) × (rest' ≡ rest)
-    pub why : status ≢ OK → status ≡ refusal (fault_at old at ∷ [])
+    pub why : status ≢ OK → status ≡ refusal (fault_at link old at ∷ [])
     pub is_status : IsStatus status
 
   -- A RUN OF `count` PLACES GOES IN BEHIND ALL MEMBERS
   pub record FillCall (first count : ℕ) : Type 0 where
-    pub filled : (s : List Place) → Filled old new list list' status (at_back s) first count
-    pub free : status ≡ OK → IsFreeRunIn old first count
+    pub filled : (s : List Place) → Filled link old new list list' status (at_back s) first count
+    pub free : status ≡ OK → IsFreeRunIn link old first count
     pub nothing : count ≡ 0 → (status ≡ OK) × (new ≡ old) × (list' ≡ list)
-    pub told : status ≡ OK → count ≢ 0 → TellsGap Before (table_of old) (ends_of list) None
+    pub links_back : status ≡ OK → count ≢ 0 → TellsGap link Before (table_of link old) (ends_of list) None
     pub own : status ≡ OK → count ≢ 0 → Turns (gap_between (ends_of list).tail None) (place_of first) (last_of_run first count) (ends_of list) (ends_of list')
-    pub touched : status ≡ OK → (free : IsFreeRunIn old first count) → TouchesRun is_linked_two (table_of old) (table_of new) free.run (ends_of list).tail
+    pub touched : status ≡ OK → (free : IsFreeRunIn link old first count) → TouchesRun link.is_linked (table_of link old) (table_of link new) free.run (ends_of list).tail
     pub words : status ≡ OK → count ≢ 0 → IsWritten list'
     pub refused : status ≢ OK → (new ≡ old) × (list' ≡ list)
-    pub why : status ≢ OK → status ≡ refusal (run_faults (fault_of old) first count)
+    pub why : status ≢ OK → status ≡ refusal (run_faults (fault_of link old) first count)
     pub is_status : IsStatus status
 
   -- ALL MEMBERS LEAVE
   pub record ClearCall : Type 0 where
-    pub cleared : (s : List Place) → Cleared old new list list' status s
-    pub ended : status ≡ OK → (s : List Place) × ShowsList old list s
+    pub cleared : (s : List Place) → Cleared link old new list list' status s
+    pub ended : status ≡ OK → (s : List Place) × RepresentsList link old list s
     pub emptied : status ≡ OK → list' ≡ words_of no_members
     pub refused : status ≢ OK → (new ≡ old) × (list' ≡ list)
     pub why : status ≢ OK → status ≡ BROKEN

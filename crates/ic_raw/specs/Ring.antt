@@ -1,7 +1,6 @@
 -- Rings over a caller's words: a head is a place of the table, and stands in a circle with its members.
 use Rattle.std.specs.Prelude.{◌≡◌, List, [], ◌∷◌, ◌++◌, Option, Some, true}
-use Rattle.ic_unsafe_ref.specs.declared.place.Place.{Place}
-use Rattle.ic_link_ops.specs.Tables.{Table, KeepsBeside}
+use Rattle.ic_link_ops.specs.Prelude.{Place, Table, ChangesOnlyIn}
 use Rattle.ic_link_ops.specs.LinkedList.{neighbors_at}
 use Rattle.ic_ring.specs.Rings as rings
 use Rattle.ic_raw.specs.declared.gap.Side.{Side}
@@ -9,12 +8,12 @@ use Rattle.ic_raw.specs.declared.gap.Side.TheVariants.{After, Before}
 use Rattle.ic_raw.specs.LinkWords.{LinkWords, neighbors}
 
 module _ {W : Type 0} (words : LinkWords W) where
-  -- r IS A CIRCLE: no place stands twice in it, each stands between its neighbors, and behind the last stands the first
+  -- r IS A CIRCLE: no place stands twice in it, each stands between its neighbors, and after the last stands the first
   abbrev pub IsCircle : Table W → List Place → Type 0
   IsCircle t = rings.IsCircle (neighbors words) t.entry
 
-  -- THE WORDS TELL that y stands behind x: both are linked, and each names the other
-  pub record IsTold (t : Table W) (x y : Place) : Type 0 where
+  -- THE WORDS TELL that y stands after x: both are linked, and each names the other
+  pub record AreLinked (t : Table W) (x y : Place) : Type 0 where
     pub linked : words.is_linked (t.entry x) ≡ true
     pub next : (neighbors_at (neighbors words) t x).next ≡ Some y
     pub stands : words.is_linked (t.entry y) ≡ true
@@ -32,13 +31,13 @@ module _ {W : Type 0} (words : LinkWords W) where
   -- a circle is there, and nothing but entries of these places is changed
   pub record Makes (old new : Table W) (touched made : List Place) : Type 0 where
     pub circle : IsCircle new made
-    pub frame : KeepsBeside old new touched
+    pub frame : ChangesOnlyIn old new touched
 
   -- two circles are
   pub record MakesTwo (old new : Table W) (touched made other : List Place) : Type 0 where
     pub circle : IsCircle new made
     pub beside : IsCircle new other
-    pub frame : KeepsBeside old new touched
+    pub frame : ChangesOnlyIn old new touched
 
 -- of two neighbors, the one on whose side the other stands: the first, or the second
 abbrev pub own_on : Side → Place × Place → Place

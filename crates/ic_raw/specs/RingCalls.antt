@@ -1,16 +1,13 @@
 -- WHAT THE CALLS OF RINGS DO: each record is the whole contract of a call, in its order: what it does to rings,
 -- whatever holds of an accepted call, and what holds of a refused one.
 use Rattle.std.specs.Prelude.{◌≡◌, ◌≢◌, ◌↔◌, ◌⊎◌, ◌++◌, ◌∷◌, ℕ, List, [], Option, Some, None}
-use Rattle.ic_unsafe_ref.specs.declared.place.Place.{Place}
-use Rattle.ic_link_ops.specs.Sequences.{IsDisjoint, last}
-use Rattle.ic_link_ops.specs.Tables.{ChangesOnly, IsLinked, IsUnlinked}
-use Rattle.ic_link_ops.specs.LinkSteps.{acquires, releases}
+use Rattle.ic_link_ops.specs.Prelude.{Place, IsDisjoint, last, ChangesOnly, IsLinked, IsUnlinked, acquires, releases}
 use Rattle.ic_raw.specs.declared.gap.Side.{Side}
 use Rattle.ic_raw.specs.declared.gap.Side.TheVariants.{After}
 use Rattle.ic_raw.specs.declared.status.TheConstants.{OK, NULL}
 use Rattle.ic_raw.specs.Answers.{IsStatus, IsAccepted, refusal}
 use Rattle.ic_raw.specs.LinkWords.{LinkWords, table_of, FreeIn, fault_at, fault_of}
-use Rattle.ic_raw.specs.Ring.{IsCircle, IsTold, Makes, MakesTwo, around, beside, own_on, put_in, all_put_in}
+use Rattle.ic_raw.specs.Ring.{IsCircle, AreLinked, Makes, MakesTwo, around, beside, own_on, put_in, all_put_in}
 use Rattle.ic_raw.specs.Touches.{Touches}
 use Rattle.ic_raw.specs.Words.{HasNumber}
 
@@ -18,8 +15,8 @@ use Rattle.ic_raw.specs.Words.{HasNumber}
 pub record IsAmid {W : Type 0} (words : LinkWords W) (es : List W) (p : Place) : Type 0 where
   pub before : Place
   pub behind : Place
-  pub comes : IsTold words (table_of words es) before p
-  pub goes : IsTold words (table_of words es) p behind
+  pub comes : AreLinked words (table_of words es) before p
+  pub goes : AreLinked words (table_of words es) p behind
 
 -- `words`: what the words of a place say. `old`, `new`: those of the table before the call and after it
 module _ {W : Type 0} (words : LinkWords W) (old new : List W) (status : ℕ) where
@@ -40,7 +37,7 @@ module _ {W : Type 0} (words : LinkWords W) (old new : List W) (status : ℕ) wh
     pub free : (p : Place) → place ≡ Some p → status ≡ OK → FreeIn words old p
     pub no_place : place ≡ None → status ≢ OK
     pub null : (status ≡ NULL) ↔ (at ≡ None)
-    pub told : (h : Place) → at ≡ Some h → status ≡ OK → (x : Place × Place) × IsTold words (table_of words old) x.0 x.1 × (own_on side x ≡ h)
+    pub links_back : (h : Place) → at ≡ Some h → status ≡ OK → (x : Place × Place) × AreLinked words (table_of words old) x.0 x.1 × (own_on side x ≡ h)
     pub touched : (h p : Place) → at ≡ Some h → place ≡ Some p → status ≡ OK
         → Touches words.is_linked (table_of words old) (table_of words new) (acquires p ∷ []) (Some p ∷ Some h ∷ beside words side (table_of words old) h ∷ [])
     pub refused : status ≢ OK → new ≡ old
@@ -52,22 +49,22 @@ module _ {W : Type 0} (words : LinkWords W) (old new : List W) (status : ℕ) wh
     pub removed : (p : Place) (r : List Place) → place ≡ Some p → IsCircle words (table_of words old) (p ∷ r)
         → IsAccepted status (Makes words (table_of words old) (table_of words new) (p ∷ r) r × IsUnlinked words.is_linked (table_of words new) p)
     pub null : (status ≡ NULL) ↔ (place ≡ None)
-    pub told : (p : Place) → place ≡ Some p → status ≡ OK → IsAmid words old p
+    pub links_back : (p : Place) → place ≡ Some p → status ≡ OK → IsAmid words old p
     pub touched : (p : Place) → place ≡ Some p → status ≡ OK
         → Touches words.is_linked (table_of words old) (table_of words new) (releases p ∷ []) (Some p ∷ around words (table_of words old) p)
     pub refused : status ≢ OK → new ≡ old
     pub why : status ≢ OK → status ≢ NULL → status ≡ refusal (fault_at words old place ∷ [])
     pub is_status : IsStatus status
 
-  -- TWO PLACES EXCHANGE what stands behind them: two rings become one, and one becomes two
+  -- TWO PLACES EXCHANGE what stands after them: two rings become one, and one becomes two
   pub record ExchangeCall (one other : Option Place) : Type 0 where
     pub joins : (x y : Place) (r s : List Place) → one ≡ Some x → other ≡ Some y → IsCircle words (table_of words old) r → IsCircle words (table_of words old) s → IsDisjoint r s
         → last r ≡ Some x → last s ≡ Some y → IsAccepted status (Makes words (table_of words old) (table_of words new) (r ++ s) (r ++ s))
     pub cuts : (x y : Place) (r s : List Place) → one ≡ Some x → other ≡ Some y → IsCircle words (table_of words old) (r ++ s) → last r ≡ Some x → last s ≡ Some y
         → IsAccepted status (MakesTwo words (table_of words old) (table_of words new) (r ++ s) r s)
     pub null : (status ≡ NULL) ↔ ((one ≡ None) ⊎ (other ≡ None))
-    pub told : (x : Place) → one ≡ Some x → status ≡ OK → (q : Place) × IsTold words (table_of words old) x q
-    pub told_other : (y : Place) → other ≡ Some y → status ≡ OK → (q : Place) × IsTold words (table_of words old) y q
+    pub links_back : (x : Place) → one ≡ Some x → status ≡ OK → (q : Place) × AreLinked words (table_of words old) x q
+    pub links_back_other : (y : Place) → other ≡ Some y → status ≡ OK → (q : Place) × AreLinked words (table_of words old) y q
     pub touched : (x y : Place) → one ≡ Some x → other ≡ Some y → status ≡ OK
         → Touches words.is_linked (table_of words old) (table_of words new) [] (Some x ∷ beside words After (table_of words old) x ∷ Some y ∷ beside words After (table_of words old) y ∷ [])
     pub refused : status ≢ OK → new ≡ old
@@ -82,7 +79,7 @@ module _ {W : Type 0} (words : LinkWords W) (old new : List W) (status : ℕ) wh
     pub empty : (h : Place) → head ≡ Some h → IsCircle words (table_of words old) (h ∷ []) → status ≡ NULL
     pub linked : status ≡ OK → (p : Place) × HasNumber p popped × IsLinked words.is_linked (table_of words old) p
     pub none : head ≡ None → status ≡ NULL
-    pub null : (h : Place) → head ≡ Some h → status ≡ NULL → IsTold words (table_of words old) h h
+    pub null : (h : Place) → head ≡ Some h → status ≡ NULL → AreLinked words (table_of words old) h h
     pub touched : (h : Place) → head ≡ Some h → status ≡ OK → (p : Place) × (beside words side (table_of words old) h ≡ Some p) × HasNumber p popped
         × Touches words.is_linked (table_of words old) (table_of words new) (releases p ∷ []) (Some p ∷ around words (table_of words old) p)
     pub refused : status ≢ OK → (new ≡ old) × (popped ≡ was)
@@ -95,7 +92,7 @@ module _ {W : Type 0} (words : LinkWords W) (old new : List W) (status : ℕ) wh
         → IsAccepted status (Makes words (table_of words old) (table_of words new) (p ∷ h ∷ r) (p ∷ r) × IsUnlinked words.is_linked (table_of words new) h)
     pub free : (p : Place) → place ≡ Some p → status ≡ OK → FreeIn words old p
     pub no_place : place ≡ None → status ≢ OK
-    pub told : (h : Place) → at ≡ Some h → status ≡ OK → IsAmid words old h
+    pub links_back : (h : Place) → at ≡ Some h → status ≡ OK → IsAmid words old h
     pub null : (status ≡ NULL) ↔ (at ≡ None)
     pub touched : (h p : Place) → at ≡ Some h → place ≡ Some p → status ≡ OK
         → Touches words.is_linked (table_of words old) (table_of words new) (acquires p ∷ releases h ∷ []) (Some p ∷ Some h ∷ around words (table_of words old) h)
@@ -110,7 +107,7 @@ module _ {W : Type 0} (words : LinkWords W) (old new : List W) (status : ℕ) wh
     pub within : (h p : Place) (r s : List Place) → at ≡ Some h → place ≡ Some p → IsCircle words (table_of words old) (p ∷ r ++ h ∷ s)
         → IsAccepted status (Makes words (table_of words old) (table_of words new) (p ∷ r ++ h ∷ s) (put_in side h p (s ++ r)))
     pub itself : (p : Place) (r : List Place) → at ≡ Some p → place ≡ Some p → IsCircle words (table_of words old) (p ∷ r) → IsAccepted status (new ≡ old)
-    pub told : (p : Place) → place ≡ Some p → status ≡ OK → IsAmid words old p
+    pub links_back : (p : Place) → place ≡ Some p → status ≡ OK → IsAmid words old p
     pub linked : (h : Place) → at ≡ Some h → status ≡ OK → IsLinked words.is_linked (table_of words old) h
     pub null : (status ≡ NULL) ↔ ((at ≡ None) ⊎ (place ≡ None))
     pub touched : (h p : Place) → at ≡ Some h → place ≡ Some p → status ≡ OK
@@ -124,7 +121,7 @@ module _ {W : Type 0} (words : LinkWords W) (old new : List W) (status : ℕ) wh
     pub spliced : (h g : Place) (r s : List Place) → at ≡ Some h → given ≡ Some g → IsCircle words (table_of words old) (h ∷ r) → IsCircle words (table_of words old) (g ∷ s)
         → IsDisjoint (h ∷ r) (g ∷ s)
         → IsAccepted status (MakesTwo words (table_of words old) (table_of words new) (h ∷ r ++ g ∷ s) (all_put_in side h r s) (g ∷ []))
-    pub told : (g : Place) → given ≡ Some g → status ≡ OK → IsAmid words old g
+    pub links_back : (g : Place) → given ≡ Some g → status ≡ OK → IsAmid words old g
     pub linked : (h : Place) → at ≡ Some h → status ≡ OK → IsLinked words.is_linked (table_of words old) h
     pub other : (h g : Place) → at ≡ Some h → given ≡ Some g → status ≡ OK → h ≢ g
     pub null : (status ≡ NULL) ↔ ((at ≡ None) ⊎ (given ≡ None))

@@ -1,7 +1,6 @@
 -- WHAT THE CALLS OF RED-BLACK TREES BY KEYS DO, which stand in an array, one for each place: each record is the whole contract of a call.
 use Rattle.std.specs.Prelude.{◌≡◌, ◌≢◌, ◌≤◌, ◌⊎◌, ◌∷◌, ℕ, List, [], Option, Some, None, length}
-use Rattle.ic_unsafe_ref.specs.declared.place.Place.{Place}
-use Rattle.ic_link_ops.specs.Tables.{LinksAlso}
+use Rattle.ic_link_ops.specs.Prelude.{Place, LinksAlso}
 use Rattle.ic_raw.specs.declared.search.Target.{Target}
 use Rattle.ic_raw.specs.declared.status.TheConstants.{OK, NULL}
 use Rattle.ic_raw.specs.declared.words.RawRoot.{RawRoot}
@@ -10,7 +9,7 @@ use Rattle.ic_raw.specs.Answers.{IsStatus, HandsOut, refusal}
 use Rattle.ic_raw.specs.Keys.{against, keys_fault, IsTarget, InsertedInOrder, NamesTarget, SearchEnds}
 use Rattle.ic_raw.specs.Seen.{StaysWithin, HandsOutReached}
 use Rattle.ic_raw.specs.Words.{is_linked_three}
-use Rattle.ic_raw.specs.Tree.{ShowsTree, FreeIn, StandsIn, IsWritten, root_in, fault_of, table_of}
+use Rattle.ic_raw.specs.Tree.{RepresentsTree, FreeIn, IsNoneOrLinkedIn, IsWritten, root_in, fault_of, table_of}
 
 -- the words of the table before the call and after it
 module _ (keys : List ℕ) (old new : List RawThree) (status : ℕ) where
@@ -20,7 +19,7 @@ module _ (keys : List ℕ) (old new : List RawThree) (status : ℕ) where
     pub free : (p : Place) → place ≡ Some p → status ≡ OK → FreeIn old p
     pub no_place : place ≡ None → status ≢ OK
     pub enough : status ≡ OK → length old ≤ length keys
-    pub root : status ≡ OK → StandsIn old (root_in tree)
+    pub root : status ≡ OK → IsNoneOrLinkedIn old (root_in tree)
     pub linked : (p : Place) → place ≡ Some p → status ≡ OK → LinksAlso is_linked_three (table_of old) (table_of new) p
     pub within : status ≡ OK → StaysWithin (table_of old) (table_of new) (root_in tree) (root_in tree') place None []
     pub words : status ≡ OK → IsWritten tree'
@@ -30,12 +29,12 @@ module _ (keys : List ℕ) (old new : List RawThree) (status : ℕ) where
 
   -- THE MEMBER THAT IS SEARCHED FOR A KEY IS HANDED OUT, in words that said `was`
   pub record FindCall (tree : RawRoot) (key : ℕ) (target : Target) (was number : ℕ) : Type 0 where
-    pub found : (s : List Place) → length old ≤ length keys → ShowsTree old tree s → HandsOut (IsTarget target (against key keys) s) status number
+    pub found : (s : List Place) → length old ≤ length keys → RepresentsTree old tree s → HandsOut (IsTarget target (against key keys) s) status number
     pub reached : status ≡ OK → HandsOutReached (table_of old) (root_in tree) [] number
     pub bounded : status ≡ OK → NamesTarget target keys key (table_of old) number
     pub ended : status ≡ NULL → SearchEnds target keys key (table_of old) (root_in tree)
     pub refused : status ≢ OK → number ≡ was
     pub same : new ≡ old
-    pub looked : (status ≡ OK) ⊎ (status ≡ NULL) → (length old ≤ length keys) × StandsIn old (root_in tree)
+    pub looked : (status ≡ OK) ⊎ (status ≡ NULL) → (length old ≤ length keys) × IsNoneOrLinkedIn old (root_in tree)
     pub why : status ≢ OK → status ≢ NULL → status ≡ refusal (keys_fault keys (length old) ∷ [])
     pub is_status : IsStatus status

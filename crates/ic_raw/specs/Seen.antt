@@ -1,8 +1,6 @@
 -- What the surgery of a tree sees of a caller's words: every place that the table has, and no other.
 use Rattle.std.specs.Prelude.{◌≡◌, ◌≢◌, ◌⊎◌, ℕ, Bool, true, cond, nat_lt, Option, Some, None, List}
-use Rattle.ic_unsafe_ref.specs.declared.place.Place.{Place}
-use Rattle.ic_unsafe_ref.specs.Places.{index_of}
-use Rattle.ic_link_ops.specs.Tables.{Table, IsLinked, KeepsLinked}
+use Rattle.ic_link_ops.specs.Prelude.{Place, index_of, Table, IsLinked, KeepsLinked}
 use Rattle.ic_link_ops.specs.RedBlackTree.{Node}
 use Rattle.ic_link_ops.specs.declared.side.Side.{Side}
 use Rattle.ic_link_ops.specs.Walk.{is_end}
@@ -71,9 +69,9 @@ StepEndsIn t = StepEnds seen_node (seen t)
 abbrev pub also : Option Place → (Place → Bool) → Place → Bool
 also came S q = cond (is_end came q) true (S q)
 
--- WHAT AN EDIT LEAVES, WHATEVER THE WORDS SAY. `came`: the place that was put in. `left`: the one that was taken off, whose words may then say anything.
--- The root is none or a place of the table. Words that named within the table still do, and those of `came` do. Each set of places that has the root and
--- these ends, and out of which no link led as the words are read, is such a set once `came` is added to it
+-- WHAT AN EDIT LEAVES, WHATEVER THE WORDS SAY. `came`: the place that was put in. `left`: the one that was taken off, whose words may then say
+-- anything. The root is none or a place of the table. Words that named within the table still do, and those of `came` do. Each set of places that has
+-- the root and these ends, and out of which no link led as the words are read, is such a set once `came` is added to it
 pub record StaysWithin (old new : Table RawThree) (root root' came left : Option Place) (ends : List (Option Place)) : Type 0 where
   pub extent : new.extent ≡ old.extent
   pub starts : IsIn (has_place new) root'

@@ -1,10 +1,6 @@
 -- Singly linked lists over a caller's words.
 use Rattle.std.specs.Prelude.{◌≡◌, ◌≢◌, ◌∷◌, ℕ, List, [], Option, Some, None}
-use Rattle.ic_unsafe_ref.specs.declared.place.Place.{Place}
-use Rattle.ic_unsafe_ref.specs.Places.{word_of}
-use Rattle.ic_link_ops.specs.Sequences.{Cut, first_or}
-use Rattle.ic_link_ops.specs.LinkSteps.{LinkStep, releases}
-use Rattle.ic_link_ops.specs.Tables.{Table}
+use Rattle.ic_link_ops.specs.Prelude.{Place, word_of, Cut, first_or, Table, LinkStep, releases}
 use Rattle.ic_link_ops.specs.SinglyLinkedList as singly
 use Rattle.ic_link_ops.specs.Chains.{IsChain}
 use Rattle.ic_link_ops.specs.SinglyLinkedList.{Front, IsFollowed, list_from, Successor, successor_at}
@@ -16,7 +12,7 @@ use Rattle.ic_raw.specs.Words.{place_in, no_word, is_linked_one, next_of_one}
 use Rattle.ic_raw.specs.Tables.{raw_table, successor_of}
 use Rattle.ic_raw.specs.Calls as calls
 use Rattle.ic_raw.specs.Fills as fills
-use Rattle.ic_raw.specs.Gaps.{Stands}
+use Rattle.ic_raw.specs.Gaps.{IsNoneOrLinked}
 use Rattle.ic_raw.specs.Touches.{Touches}
 
 -- the words of a table, and those that are lent, as clauses see them
@@ -26,17 +22,17 @@ table_of = plain.table_of no_word
 abbrev pub lent_table : RawTable RawOne → Table RawOne
 lent_table = raw_table no_word
 
--- what stands behind an entry's place
+-- what stands after an entry's place
 abbrev pub successor : RawOne → Successor
 successor = successor_of next_of_one is_linked_one
 
 -- THE TABLE SHOWS s for the list with this front
-abbrev pub Shows : Table RawOne → Front → List Place → Type 0
-Shows = singly.Shows successor
+abbrev pub Represents : Table RawOne → Front → List Place → Type 0
+Represents = singly.Represents successor
 
 -- THE TABLE SHOWS A SEQUENCE for the list: its places lead to an end
-abbrev pub ShowsSome : Table RawOne → Front → Type 0
-ShowsSome = singly.ShowsSome successor
+abbrev pub RepresentsSome : Table RawOne → Front → Type 0
+RepresentsSome = singly.RepresentsSome successor
 
 -- the front of a list by its word
 abbrev pub front_of : RawFront → Option Place
@@ -54,20 +50,20 @@ IsWritten l = l ≡ word_of_front (front_of l)
 abbrev pub list_of : RawFront → Front
 list_of l = list_from (front_of l)
 
--- what stands behind a place, the first of the list at none
+-- what stands after a place, the first of the list at none
 abbrev pub next_from : Table RawOne → Front → Option Place → Option Place
 next_from t list None = list.head
 next_from t list (Some p) = (successor_at successor t p).next
 
 -- THE WORDS TELL OF A GAP after a place, at none before all members: what stands on both sides of it is none or linked
 abbrev pub TellsGap : Table RawOne → Front → (at : Option Place) → Type 0
-TellsGap t list at = Stands is_linked_one t at × Stands is_linked_one t (next_from t list at)
+TellsGap t list at = IsNoneOrLinked is_linked_one t at × IsNoneOrLinked is_linked_one t (next_from t list at)
 
 -- and of a member there
 abbrev pub TellsMember : Table RawOne → Front → (at : Option Place) → Type 0
 TellsMember t list at = TellsGap t list at × (next_from t list at ≢ None)
 
--- THE PLACES FROM `front` ON LEAD TO `at`: each of `walked` is linked, with the next one behind it, and `at` stands behind the last
+-- THE PLACES FROM `front` ON LEAD TO `at`: each of `walked` is linked, with the next one after it, and `at` stands after the last
 pub record LeadsTo (t : Table RawOne) (front at : Place) : Type 0 where
   pub walked : List Place
   pub chain : IsChain (IsFollowed successor) t.entry None walked (Some at)
@@ -79,60 +75,60 @@ pub record LeadsFrom (t : Table RawOne) (front : Option Place) (at : Place) : Ty
   pub is : front ≡ Some begin
   pub leads : LeadsTo t begin at
 
--- a list's own front after the member `at` left: what stood behind that one where it was the first, and else the first that there was
+-- a list's own front after the member `at` left: what stood after that one where it was the first, and else the first that there was
 pub record LosesFront (t : Table RawOne) (at : Option Place) (old new : Front) : Type 0 where
   pub first : old.head ≡ at → new.head ≡ next_from t old at
   pub other : old.head ≢ at → new.head ≡ old.head
 
 -- what a call does to such words
-abbrev pub ShowsList : List RawOne → RawFront → List Place → Type 0
-ShowsList = calls.ShowsList Shows is_linked_one no_word list_of
+abbrev pub RepresentsList : List RawOne → RawFront → List Place → Type 0
+RepresentsList = calls.RepresentsList Represents is_linked_one no_word list_of
 
 abbrev pub FreeIn : List RawOne → Place → Type 0
-FreeIn = calls.FreeIn Shows is_linked_one no_word list_of
+FreeIn = calls.FreeIn Represents is_linked_one no_word list_of
 
-abbrev pub StandsIn : List RawOne → Option Place → Type 0
-StandsIn = calls.StandsIn Shows is_linked_one no_word list_of
+abbrev pub IsNoneOrLinkedIn : List RawOne → Option Place → Type 0
+IsNoneOrLinkedIn = calls.IsNoneOrLinkedIn Represents is_linked_one no_word list_of
 
 abbrev pub fault_at : List RawOne → Option Place → ℕ
-fault_at = calls.fault_at Shows is_linked_one no_word list_of
+fault_at = calls.fault_at Represents is_linked_one no_word list_of
 
 abbrev pub fault_of : List RawOne → Option Place → ℕ
-fault_of = calls.fault_of Shows is_linked_one no_word list_of
+fault_of = calls.fault_of Represents is_linked_one no_word list_of
 
 abbrev pub Inserted : (old new : List RawOne) (list list' : RawFront) (status : ℕ) → Cut → Place → Type 0
-Inserted = calls.Inserted Shows is_linked_one no_word list_of
+Inserted = calls.Inserted Represents is_linked_one no_word list_of
 
 abbrev pub Removed : (old new : List RawOne) (list list' : RawFront) (status : ℕ) → Place → (front back : List Place) → Type 0
-Removed = calls.Removed Shows is_linked_one no_word list_of
+Removed = calls.Removed Represents is_linked_one no_word list_of
 
 abbrev pub Popped : (old new : List RawOne) (list list' : RawFront) (status number : ℕ) → Place → (front back : List Place) → Type 0
-Popped = calls.Popped Shows is_linked_one no_word list_of
+Popped = calls.Popped Represents is_linked_one no_word list_of
 
 abbrev pub Exchanged : (old new : List RawOne) (list list' : RawFront) (status number : ℕ) → Place → (front back : List Place) → Place → Type 0
-Exchanged = calls.Exchanged Shows is_linked_one no_word list_of
+Exchanged = calls.Exchanged Represents is_linked_one no_word list_of
 
 abbrev pub Spliced : (old new : List RawOne) (list list' : RawFront) (status : ℕ) → RawFront → Cut → List Place → Type 0
-Spliced = calls.Spliced Shows is_linked_one no_word list_of
+Spliced = calls.Spliced Represents is_linked_one no_word list_of
 
 abbrev pub Split : (old new : List RawOne) (list list' : RawFront) (status : ℕ) → RawFront → Cut → Type 0
-Split old new list list' status rest cut = calls.Split Shows is_linked_one no_word list_of old new list list' status rest cut cut.front cut.back
+Split old new list list' status rest cut = calls.Split Represents is_linked_one no_word list_of old new list list' status rest cut cut.front cut.back
 
 abbrev pub Cleared : (old new : List RawOne) (list list' : RawFront) (status : ℕ) → List Place → Type 0
-Cleared = calls.Cleared Shows is_linked_one no_word list_of
+Cleared = calls.Cleared Represents is_linked_one no_word list_of
 
 abbrev pub Filled : (old new : List RawOne) (list list' : RawFront) (status : ℕ) → Cut → (first count : ℕ) → Type 0
-Filled = fills.Filled Shows is_linked_one no_word list_of
+Filled = fills.Filled Represents is_linked_one no_word list_of
 
 -- the words are linked and unlinked in these steps alone, and none changes but those of these places
 abbrev pub Touched : (old new : List RawOne) → List LinkStep → (places : List (Option Place)) → Type 0
 Touched old new = Touches is_linked_one (table_of old) (table_of new)
 
--- A PLACE IS TAKEN OUT OF A LIST to which its words lead: what stands in front of it is linked, or none at the front. It alone is unlinked, and
--- no words change but its own and those of the place in front
+-- A PLACE IS TAKEN OUT OF A LIST to which its words lead: what stands before it is linked, or none at the front. It alone is unlinked, and
+-- no words change but its own and those of the place before
 pub record LeavesChain (old new : List RawOne) (list : RawFront) (p : Place) : Type 0 where
   pub before : Option Place
-  pub stands : StandsIn old before
+  pub stands : IsNoneOrLinkedIn old before
   pub leads : next_from (table_of old) (list_of list) before ≡ Some p
   pub touched : Touched old new (releases p ∷ []) (Some p ∷ before ∷ [])
 

@@ -1,9 +1,7 @@
 -- A table over words that a caller lends.
 use Rattle.std.specs.Prelude.{◌≡◌, ◌∷◌, [], List, ℕ, Bool, cond, nat_lt, Option, Some, None}
 use Rattle.std.specs.Borrow.{MutBor}
-use Rattle.ic_unsafe_ref.specs.declared.place.Place.{Place}
-use Rattle.ic_unsafe_ref.specs.Places.{index_of}
-use Rattle.ic_link_ops.specs.Tables.{Table, IsCovered, IsUnlinked}
+use Rattle.ic_link_ops.specs.Prelude.{Place, index_of, Table, IsCovered, IsUnlinked}
 use Rattle.ic_link_ops.specs.PlainTables.{table_with}
 use Rattle.ic_link_ops.specs.Widths.{Width, wide, nameable}
 use Rattle.ic_link_ops.specs.Links.{link_of}

@@ -1,8 +1,6 @@
--- What an edit touches, whatever the words of a table say: they may show no sequence.
+-- What an edit touches, whatever the words of a table say: they may represent no sequence.
 use Rattle.std.specs.Prelude.{◌≡◌, ◌≢◌, ◌∷◌, List, [], Bool, Option, Some}
-use Rattle.ic_unsafe_ref.specs.declared.place.Place.{Place}
-use Rattle.ic_link_ops.specs.Tables.{Table}
-use Rattle.ic_link_ops.specs.LinkSteps.{LinkStep, Replays}
+use Rattle.ic_link_ops.specs.Prelude.{Place, Table, LinkStep, TraceIs}
 use Rattle.ic_raw.specs.declared.gap.Gap.{Gap}
 
 -- a place is none of these ends
@@ -16,5 +14,5 @@ sides gap = gap.before ∷ gap.behind ∷ []
 
 -- AN EDIT TOUCHES NO MORE: it links and unlinks the places of these steps alone, and changes no entry but those of these places
 pub record Touches {E : Type 0} (linked : E → Bool) (old new : Table E) (steps : List LinkStep) (places : List (Option Place)) : Type 0 where
-  pub steps_are : Replays linked old new steps
+  pub steps_are : TraceIs linked old new steps
   pub others : (q : Place) → IsNoneOf places q → new.entry q ≡ old.entry q

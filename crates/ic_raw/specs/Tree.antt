@@ -1,10 +1,7 @@
 -- Red-black trees over a caller's words.
 use Rattle.std.specs.Prelude.{◌≡◌, ℕ, List, Option, Some, None}
-use Rattle.ic_unsafe_ref.specs.declared.place.Place.{Place}
-use Rattle.ic_unsafe_ref.specs.Places.{word_of}
+use Rattle.ic_link_ops.specs.Prelude.{Place, word_of, Cut, Table}
 use Rattle.ic_link_ops.specs.declared.side.Side.{Side}
-use Rattle.ic_link_ops.specs.Sequences.{Cut}
-use Rattle.ic_link_ops.specs.Tables.{Table}
 use Rattle.ic_link_ops.specs.Frames.{child_on}
 use Rattle.ic_link_ops.specs.RedBlackTree as trees
 use Rattle.ic_link_ops.specs.RedBlackTree.{Node}
@@ -29,8 +26,8 @@ abbrev pub node : RawThree → Node
 node w = record { linked = is_linked_three w; left = place_in w.left; right = place_in w.right; parent = place_in w.parent; color = color_of w }
 
 -- THE TABLE SHOWS s for the tree with this root
-abbrev pub Shows : Table RawThree → Option Place → List Place → Type 0
-Shows = trees.Shows node
+abbrev pub Represents : Table RawThree → Option Place → List Place → Type 0
+Represents = trees.Represents node
 
 -- the root of a tree by its word
 abbrev pub root_in : RawRoot → Option Place
@@ -44,36 +41,36 @@ word_of_root root = record { root = word_of root }
 abbrev pub IsWritten : RawRoot → Type 0
 IsWritten t = t ≡ word_of_root (root_in t)
 
--- THE HOLE on a side of a member, where it has no child: the gap before it on the left, behind it on the right. At none the tree is empty
-abbrev pub IsHole : Side → Table RawThree → Option Place → Cut → Type 0
-IsHole side t at cut = holes.IsHole node t at side cut
+-- THE HOLE on a side of a member, where it has no child: the gap before it on the left, after it on the right. At none the tree is empty
+abbrev pub IsInsertPos : Side → Table RawThree → Option Place → Cut → Type 0
+IsInsertPos side t at cut = holes.IsInsertPos node t at side cut
 
 -- THE WORDS TELL OF A HOLE there: the place has no child on this side; at none the tree has no root
-abbrev pub TellsHole : Side → Table RawThree → (root : Option Place) → Option Place → Type 0
-TellsHole side t root None = root ≡ None
-TellsHole side t root (Some p) = child_on side (node (t.entry p)) ≡ None
+abbrev pub TellsInsertPos : Side → Table RawThree → (root : Option Place) → Option Place → Type 0
+TellsInsertPos side t root None = root ≡ None
+TellsInsertPos side t root (Some p) = child_on side (node (t.entry p)) ≡ None
 
 -- what a call does to such words
-abbrev pub ShowsTree : List RawThree → RawRoot → List Place → Type 0
-ShowsTree = calls.ShowsList Shows is_linked_three no_tree_words root_in
+abbrev pub RepresentsTree : List RawThree → RawRoot → List Place → Type 0
+RepresentsTree = calls.RepresentsList Represents is_linked_three no_tree_words root_in
 
 abbrev pub FreeIn : List RawThree → Place → Type 0
-FreeIn = calls.FreeIn Shows is_linked_three no_tree_words root_in
+FreeIn = calls.FreeIn Represents is_linked_three no_tree_words root_in
 
-abbrev pub StandsIn : List RawThree → Option Place → Type 0
-StandsIn = calls.StandsIn Shows is_linked_three no_tree_words root_in
+abbrev pub IsNoneOrLinkedIn : List RawThree → Option Place → Type 0
+IsNoneOrLinkedIn = calls.IsNoneOrLinkedIn Represents is_linked_three no_tree_words root_in
 
 abbrev pub fault_at : List RawThree → Option Place → ℕ
-fault_at = calls.fault_at Shows is_linked_three no_tree_words root_in
+fault_at = calls.fault_at Represents is_linked_three no_tree_words root_in
 
 abbrev pub fault_of : List RawThree → Option Place → ℕ
-fault_of = calls.fault_of Shows is_linked_three no_tree_words root_in
+fault_of = calls.fault_of Represents is_linked_three no_tree_words root_in
 
 abbrev pub Inserted : (old new : List RawThree) (tree tree' : RawRoot) (status : ℕ) → Cut → Place → Type 0
-Inserted = calls.Inserted Shows is_linked_three no_tree_words root_in
+Inserted = calls.Inserted Represents is_linked_three no_tree_words root_in
 
 abbrev pub Removed : (old new : List RawThree) (tree tree' : RawRoot) (status : ℕ) → Place → (front back : List Place) → Type 0
-Removed = calls.Removed Shows is_linked_three no_tree_words root_in
+Removed = calls.Removed Represents is_linked_three no_tree_words root_in
 
 abbrev pub Replaced : (old new : List RawThree) (tree tree' : RawRoot) (status : ℕ) → Place → (front back : List Place) → Place → Type 0
-Replaced = calls.Replaced Shows is_linked_three no_tree_words root_in
+Replaced = calls.Replaced Represents is_linked_three no_tree_words root_in

@@ -1,18 +1,16 @@
 -- WHAT THE CALLS OF RED-BLACK TREES DO: each record is the whole contract of a call. It says first what the call does to a tree that the table
--- shows, and then what holds whatever the words say: what an accepted call has found before it edits, and what a refused one leaves, and why.
+-- represents, and then what holds whatever the words say: what an accepted call has found before it edits, and what a refused one leaves, and why.
 use Rattle.std.specs.Prelude.{◌≡◌, ◌≢◌, ◌↔◌, ◌⊎◌, ◌∷◌, ℕ, List, [], Option, Some, None}
-use Rattle.ic_unsafe_ref.specs.declared.place.Place.{Place}
+use Rattle.ic_link_ops.specs.Prelude.{Place, Cut, join, LinksAlso, Unlinks, Exchanges}
 use Rattle.ic_link_ops.specs.declared.side.Side.{Side}
 use Rattle.ic_link_ops.specs.Frames.{across}
 use Rattle.ic_link_ops.specs.RedBlackTree.{node_at}
-use Rattle.ic_link_ops.specs.Sequences.{Cut, join}
-use Rattle.ic_link_ops.specs.Tables.{LinksAlso, Unlinks, Exchanges}
 use Rattle.ic_rbtree.specs.Sides.{IsBeside}
 use Rattle.ic_raw.specs.declared.status.TheConstants.{OK, NULL, BROKEN}
 use Rattle.ic_raw.specs.declared.words.RawRoot.{RawRoot}
 use Rattle.ic_raw.specs.declared.words.RawThree.{RawThree}
 use Rattle.ic_raw.specs.Answers.{IsStatus, IsFound, refusal}
-use Rattle.ic_raw.specs.Tree.{node, ShowsTree, IsHole, TellsHole, FreeIn, StandsIn, IsWritten, root_in, word_of_root, table_of, fault_at, fault_of}
+use Rattle.ic_raw.specs.Tree.{node, RepresentsTree, IsInsertPos, TellsInsertPos, FreeIn, IsNoneOrLinkedIn, IsWritten, root_in, word_of_root, table_of, fault_at, fault_of}
 use Rattle.ic_raw.specs.Tree.{Inserted, Removed, Replaced}
 use Rattle.ic_raw.specs.Seen.{StaysWithin, HandsOutStep, StepEndsIn}
 use Rattle.ic_raw.specs.WholeTree.{Cleared, LeadsToEnd, OnlyUnmarks}
@@ -26,12 +24,12 @@ module _ (old new : List RawThree) (tree tree' : RawRoot) (status : ℕ) where
 
   -- A PLACE GOES IN AS THE CHILD on this side of the member `at`, at none as the only member
   pub record InsertCall (side : Side) (at place : Option Place) : Type 0 where
-    pub inserted : (cut : Cut) (p : Place) → IsHole side (table_of old) at cut → place ≡ Some p → Inserted old new tree tree' status cut p
+    pub inserted : (cut : Cut) (p : Place) → IsInsertPos side (table_of old) at cut → place ≡ Some p → Inserted old new tree tree' status cut p
     pub free : (p : Place) → place ≡ Some p → status ≡ OK → FreeIn old p
     pub no_place : place ≡ None → status ≢ OK
-    pub stands : status ≡ OK → StandsIn old at
-    pub root : status ≡ OK → StandsIn old (root_in tree)
-    pub told : status ≡ OK → TellsHole side (table_of old) (root_in tree) at
+    pub stands : status ≡ OK → IsNoneOrLinkedIn old at
+    pub root : status ≡ OK → IsNoneOrLinkedIn old (root_in tree)
+    pub links_back : status ≡ OK → TellsInsertPos side (table_of old) (root_in tree) at
     pub linked : (p : Place) → place ≡ Some p → status ≡ OK → LinksAlso is_linked_three (table_of old) (table_of new) p
     pub within : status ≡ OK → StaysWithin (table_of old) (table_of new) (root_in tree) (root_in tree') place None (at ∷ [])
     pub words : status ≡ OK → IsWritten tree'
@@ -43,8 +41,8 @@ module _ (old new : List RawThree) (tree tree' : RawRoot) (status : ℕ) where
   pub record RemoveCall (at : Option Place) : Type 0 where
     pub removed : (front back : List Place) (p : Place) → at ≡ Some p → Removed old new tree tree' status p front back
     pub null : (status ≡ NULL) ↔ (at ≡ None)
-    pub stands : status ≡ OK → StandsIn old at
-    pub root : status ≡ OK → StandsIn old (root_in tree)
+    pub stands : status ≡ OK → IsNoneOrLinkedIn old at
+    pub root : status ≡ OK → IsNoneOrLinkedIn old (root_in tree)
     pub own : (p : Place) → at ≡ Some p → status ≡ OK → IsOwn p
     pub unlinked : (p : Place) → at ≡ Some p → status ≡ OK → Unlinks is_linked_three (table_of old) (table_of new) p
     pub within : status ≡ OK → StaysWithin (table_of old) (table_of new) (root_in tree) (root_in tree') None at (at ∷ [])
@@ -59,8 +57,8 @@ module _ (old new : List RawThree) (tree tree' : RawRoot) (status : ℕ) where
     pub free : (p : Place) → place ≡ Some p → status ≡ OK → FreeIn old p
     pub no_place : place ≡ None → status ≢ OK
     pub null : (status ≡ NULL) ↔ (at ≡ None)
-    pub stands : status ≡ OK → StandsIn old at
-    pub root : status ≡ OK → StandsIn old (root_in tree)
+    pub stands : status ≡ OK → IsNoneOrLinkedIn old at
+    pub root : status ≡ OK → IsNoneOrLinkedIn old (root_in tree)
     pub own : (p : Place) → at ≡ Some p → status ≡ OK → IsOwn p
     pub exchanged : (out p : Place) → at ≡ Some out → place ≡ Some p → status ≡ OK
         → Exchanges is_linked_three (table_of old) (table_of new) p out
@@ -73,7 +71,7 @@ module _ (old new : List RawThree) (tree tree' : RawRoot) (status : ℕ) where
   -- ALL MEMBERS LEAVE
   pub record ClearCall : Type 0 where
     pub cleared : (s : List Place) → Cleared old new tree tree' status s
-    pub root : status ≡ OK → StandsIn old (root_in tree)
+    pub root : status ≡ OK → IsNoneOrLinkedIn old (root_in tree)
     pub ended : status ≡ OK → LeadsToEnd (table_of old) (root_in tree) None
     pub emptied : status ≡ OK → tree' ≡ word_of_root None
     pub marks : OnlyUnmarks (table_of old) (table_of new)
@@ -85,13 +83,13 @@ module _ (old new : List RawThree) (tree tree' : RawRoot) (status : ℕ) where
 module _ (old new : List RawThree) (tree : RawRoot) (status : ℕ) where
   -- THE MEMBER BESIDE `at` IS HANDED OUT, on this side, from none the outermost one on the other side, in words that said `was`
   pub record StepCall (side : Side) (at : Option Place) (was number : ℕ) : Type 0 where
-    pub found : (cut : Cut) (member : Option Place) → IsBeside side cut at → IsBeside (across side) cut member → ShowsTree old tree (join cut)
+    pub found : (cut : Cut) (member : Option Place) → IsBeside side cut at → IsBeside (across side) cut member → RepresentsTree old tree (join cut)
         → IsFound member status number
     pub stepped : status ≡ OK → HandsOutStep (table_of old) (root_in tree) side at number
     pub ended : status ≡ NULL → StepEndsIn (table_of old) (root_in tree) side at
     pub refused : status ≢ OK → number ≡ was
     pub same : new ≡ old
-    pub looked : (status ≡ OK) ⊎ (status ≡ NULL) → StandsIn old at × StandsIn old (root_in tree)
-    pub stands : status ≡ OK → StandsIn old at
+    pub looked : (status ≡ OK) ⊎ (status ≡ NULL) → IsNoneOrLinkedIn old at × IsNoneOrLinkedIn old (root_in tree)
+    pub stands : status ≡ OK → IsNoneOrLinkedIn old at
     pub why : status ≢ OK → status ≢ NULL → status ≡ refusal (fault_at old at ∷ [])
     pub is_status : IsStatus status

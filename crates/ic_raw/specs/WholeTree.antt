@@ -1,7 +1,6 @@
 -- Trees over a caller's words, as a whole.
 use Rattle.std.specs.Prelude.{◌≡◌, ◌⊎◌, ◌∷◌, ◌*◌, ◌/◌, ℕ, List, [], Option, Some}
-use Rattle.ic_unsafe_ref.specs.declared.place.Place.{Place}
-use Rattle.ic_link_ops.specs.Tables.{Table, IsLinked}
+use Rattle.ic_link_ops.specs.Prelude.{Place, Table, IsLinked}
 use Rattle.ic_link_ops.specs.RedBlackTree as trees
 use Rattle.ic_link_ops.specs.declared.side.Side.TheVariants.{Right}
 use Rattle.ic_rbtree.specs.StepsTo.{StepsTo}
@@ -9,16 +8,16 @@ use Rattle.ic_raw.specs.declared.words.RawThree.{RawThree}
 use Rattle.ic_raw.specs.declared.words.RawRoot.{RawRoot}
 use Rattle.ic_raw.specs.Words.{no_tree_words, is_linked_three}
 use Rattle.ic_raw.specs.Seen.{seen, seen_node, StepEndsIn}
-use Rattle.ic_raw.specs.Tree.{Shows, root_in}
+use Rattle.ic_raw.specs.Tree.{Represents, root_in}
 use Rattle.ic_raw.specs.Calls as calls
 
 -- s is seen in the table for the tree with this root, whichever of its members have the mark of a linked place
 abbrev pub IsSeen : Table RawThree → Option Place → List Place → Type 0
-IsSeen t = trees.Shows seen_node (seen t)
+IsSeen t = trees.Represents seen_node (seen t)
 
 -- all members are unlinked
 abbrev pub Cleared : (old new : List RawThree) (tree tree' : RawRoot) (status : ℕ) → List Place → Type 0
-Cleared = calls.Cleared Shows is_linked_three no_tree_words root_in
+Cleared = calls.Cleared Represents is_linked_three no_tree_words root_in
 
 -- an entry without the mark of a linked place: it names what it named
 abbrev pub unmarked : RawThree → RawThree

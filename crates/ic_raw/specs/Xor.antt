@@ -1,8 +1,6 @@
 -- XOR linked lists over a caller's words.
 use Rattle.std.specs.Prelude.{◌≡◌, true, ℕ, List, [], ◌∷◌, Option, Some, None}
-use Rattle.ic_unsafe_ref.specs.declared.place.Place.{Place}
-use Rattle.ic_link_ops.specs.Sequences.{Cut}
-use Rattle.ic_link_ops.specs.Tables.{Table}
+use Rattle.ic_link_ops.specs.Prelude.{Place, Cut, Table}
 use Rattle.ic_link_ops.specs.Chains.{Ends}
 use Rattle.ic_link_ops.specs.XorLinkedList as xor
 use Rattle.ic_raw.specs.declared.words.RawOne.{RawOne}
@@ -22,8 +20,8 @@ abbrev pub other : RawOne → Option Place → Option Place
 other = other_of next_of_one
 
 -- THE TABLE SHOWS s for the list with these ends
-abbrev pub Shows : Table RawOne → Ends → List Place → Type 0
-Shows = xor.Shows is_linked_one Joins
+abbrev pub Represents : Table RawOne → Ends → List Place → Type 0
+Represents = xor.Represents is_linked_one Joins
 
 -- what stands on the other side of a place, by its word: nothing beyond none
 abbrev pub beyond : Table RawOne → (at neighbor : Option Place) → Option Place
@@ -49,14 +47,14 @@ TellsGap t list before behind = Faces t.entry list.head before behind × Faces t
 abbrev pub TellsMember : Table RawOne → Ends → (before : Option Place) → Place → (behind : Option Place) → Type 0
 TellsMember t list before p behind = Faces t.entry list.head before (Some p) × Faces t.entry list.tail behind (Some p)
 
--- of the member behind a place, none in front of the first; and of that in front of a place, none behind the last
-abbrev pub TellsMemberBehind : Table RawOne → Ends → (before at : Option Place) → Type 0
-TellsMemberBehind t list before at = (p : Place) → at ≡ Some p → TellsMember t list before p (other (t.entry p) before)
+-- of the member after a place, none before the first; and of that before a place, none after the last
+abbrev pub TellsMemberAfter : Table RawOne → Ends → (before at : Option Place) → Type 0
+TellsMemberAfter t list before at = (p : Place) → at ≡ Some p → TellsMember t list before p (other (t.entry p) before)
 
 abbrev pub TellsMemberBefore : Table RawOne → Ends → (behind at : Option Place) → Type 0
 TellsMemberBefore t list behind at = (p : Place) → at ≡ Some p → TellsMember t list (other (t.entry p) behind) p behind
 
--- THE WORDS TELL OF A LIST by its ends: with nothing before the first member and nothing behind the last, both face it
+-- THE WORDS TELL OF A LIST by its ends: with nothing before the first member and nothing after the last, both face it
 abbrev pub TellsEnds : Table RawOne → Ends → Type 0
 TellsEnds t list = Faces t.entry list.tail list.head None × Faces t.entry list.head list.tail None
 
@@ -70,41 +68,41 @@ abbrev pub LeadsThrough : Table RawOne → Ends → List Place → Type 0
 LeadsThrough t list s = LeadsOn t.entry list.tail None list.head s
 
 -- what a call does to such words
-abbrev pub ShowsList : List RawOne → RawEnds → List Place → Type 0
-ShowsList = calls.ShowsList Shows is_linked_one no_word ends_of
+abbrev pub RepresentsList : List RawOne → RawEnds → List Place → Type 0
+RepresentsList = calls.RepresentsList Represents is_linked_one no_word ends_of
 
 abbrev pub FreeIn : List RawOne → Place → Type 0
-FreeIn = calls.FreeIn Shows is_linked_one no_word ends_of
+FreeIn = calls.FreeIn Represents is_linked_one no_word ends_of
 
-abbrev pub StandsIn : List RawOne → Option Place → Type 0
-StandsIn = calls.StandsIn Shows is_linked_one no_word ends_of
+abbrev pub IsNoneOrLinkedIn : List RawOne → Option Place → Type 0
+IsNoneOrLinkedIn = calls.IsNoneOrLinkedIn Represents is_linked_one no_word ends_of
 
 abbrev pub fault_at : List RawOne → Option Place → ℕ
-fault_at = calls.fault_at Shows is_linked_one no_word ends_of
+fault_at = calls.fault_at Represents is_linked_one no_word ends_of
 
 abbrev pub fault_of : List RawOne → Option Place → ℕ
-fault_of = calls.fault_of Shows is_linked_one no_word ends_of
+fault_of = calls.fault_of Represents is_linked_one no_word ends_of
 
 abbrev pub Inserted : (old new : List RawOne) (list list' : RawEnds) (status : ℕ) → Cut → Place → Type 0
-Inserted = calls.Inserted Shows is_linked_one no_word ends_of
+Inserted = calls.Inserted Represents is_linked_one no_word ends_of
 
 abbrev pub Removed : (old new : List RawOne) (list list' : RawEnds) (status : ℕ) → Place → (front back : List Place) → Type 0
-Removed = calls.Removed Shows is_linked_one no_word ends_of
+Removed = calls.Removed Represents is_linked_one no_word ends_of
 
 abbrev pub Popped : (old new : List RawOne) (list list' : RawEnds) (status number : ℕ) → Place → (front back : List Place) → Type 0
-Popped = calls.Popped Shows is_linked_one no_word ends_of
+Popped = calls.Popped Represents is_linked_one no_word ends_of
 
 abbrev pub Replaced : (old new : List RawOne) (list list' : RawEnds) (status : ℕ) → Place → (front back : List Place) → Place → Type 0
-Replaced = calls.Replaced Shows is_linked_one no_word ends_of
+Replaced = calls.Replaced Represents is_linked_one no_word ends_of
 
 abbrev pub Spliced : (old new : List RawOne) (list list' : RawEnds) (status : ℕ) → RawEnds → Cut → List Place → Type 0
-Spliced = calls.Spliced Shows is_linked_one no_word ends_of
+Spliced = calls.Spliced Represents is_linked_one no_word ends_of
 
 abbrev pub Split : (old new : List RawOne) (list list' : RawEnds) (status : ℕ) → RawEnds → Cut → Type 0
-Split old new list list' status rest cut = calls.Split Shows is_linked_one no_word ends_of old new list list' status rest cut cut.front cut.back
+Split old new list list' status rest cut = calls.Split Represents is_linked_one no_word ends_of old new list list' status rest cut cut.front cut.back
 
 abbrev pub Cleared : (old new : List RawOne) (list list' : RawEnds) (status : ℕ) → List Place → Type 0
-Cleared = calls.Cleared Shows is_linked_one no_word ends_of
+Cleared = calls.Cleared Represents is_linked_one no_word ends_of
 
 abbrev pub Filled : (old new : List RawOne) (list list' : RawEnds) (status : ℕ) → Cut → (first count : ℕ) → Type 0
-Filled = fills.Filled Shows is_linked_one no_word ends_of
+Filled = fills.Filled Represents is_linked_one no_word ends_of

@@ -1,10 +1,8 @@
 -- WHAT THE CALLS OF XOR LINKED LISTS DO: each record is the whole contract of a call. It says first what the call does to a list that the table
--- shows, and then what holds whatever the words say: what an accepted call has found before it edits, and what a refused one leaves, and why.
+-- represents, and then what holds whatever the words say: what an accepted call has found before it edits, and what a refused one leaves, and why.
 use Rattle.std.specs.Prelude.{◌≡◌, ◌≢◌, ◌↔◌, ◌∷◌, ℕ, List, [], Option, Some, None}
-use Rattle.ic_unsafe_ref.specs.declared.place.Place.{Place}
-use Rattle.ic_link_ops.specs.Sequences.{Cut, at_back, last, IsAfter, IsBefore}
+use Rattle.ic_link_ops.specs.Prelude.{Place, Cut, at_back, last, IsAfter, IsBefore, acquires, releases}
 use Rattle.ic_link_ops.specs.Chains.{no_members}
-use Rattle.ic_link_ops.specs.LinkSteps.{acquires, releases}
 use Rattle.ic_raw.specs.declared.gap.Gap.{Gap}
 use Rattle.ic_raw.specs.declared.gap.Side.{Side}
 use Rattle.ic_raw.specs.declared.gap.Side.TheVariants.{After, Before}
@@ -18,7 +16,7 @@ use Rattle.ic_raw.specs.Gaps.{IsCutAt, PutIn, TakenOut, Turns, gap_between}
 use Rattle.ic_raw.specs.Singly.{IsFreeRunIn, TouchedRun, table_of}
 use Rattle.ic_raw.specs.Touches.{Touches, sides}
 use Rattle.ic_raw.specs.Words.{HasNumber, is_linked_one, place_of}
-use Rattle.ic_raw.specs.Xor.{FreeIn, StandsIn, beyond, TellsGap, TellsMemberBehind, TellsMemberBefore, TellsEnds, LeadsThrough, fault_at, fault_of}
+use Rattle.ic_raw.specs.Xor.{FreeIn, IsNoneOrLinkedIn, beyond, TellsGap, TellsMemberAfter, TellsMemberBefore, TellsEnds, LeadsThrough, fault_at, fault_of}
 use Rattle.ic_raw.specs.Xor.{Inserted, Removed, Popped, Replaced, Spliced, Split, Cleared, Filled}
 
 -- `old`, `new`: the words of the table before the call and after it. `list`, `list'`: those of the list. `status`: what the call returns
@@ -28,9 +26,9 @@ module _ (old new : List RawOne) (list list' : RawEnds) (status : ℕ) where
     pub inserted : (cut : Cut) (p : Place) → IsAfter cut before → IsBefore cut behind → place ≡ Some p → Inserted old new list list' status cut p
     pub free : (p : Place) → place ≡ Some p → status ≡ OK → FreeIn old p
     pub no_place : place ≡ None → status ≢ OK
-    pub stands_before : status ≡ OK → StandsIn old before
-    pub stands_behind : status ≡ OK → StandsIn old behind
-    pub told : status ≡ OK → TellsGap (table_of old) (ends_of list) before behind
+    pub stands_before : status ≡ OK → IsNoneOrLinkedIn old before
+    pub stands_behind : status ≡ OK → IsNoneOrLinkedIn old behind
+    pub links_back : status ≡ OK → TellsGap (table_of old) (ends_of list) before behind
     pub touched : (p : Place) → place ≡ Some p → status ≡ OK → Touches is_linked_one (table_of old) (table_of new) (acquires p ∷ []) (Some p ∷ before ∷ behind ∷ [])
     pub own : status ≡ OK → PutIn (gap_between before behind) place (ends_of list) (ends_of list')
     pub words : status ≡ OK → IsWritten list'
@@ -43,7 +41,7 @@ module _ (old new : List RawOne) (list list' : RawEnds) (status : ℕ) where
     pub inserted : (cut : Cut) (p : Place) → IsAfter cut before → IsBefore cut behind → place ≡ Some p → Inserted old new list list' status cut p
     pub free : (p : Place) → place ≡ Some p → status ≡ OK → FreeIn old p
     pub no_place : place ≡ None → status ≢ OK
-    pub told : status ≡ OK → TellsGap (table_of old) (ends_of list) before behind
+    pub links_back : status ≡ OK → TellsGap (table_of old) (ends_of list) before behind
     pub touched : (p : Place) → place ≡ Some p → status ≡ OK → Touches is_linked_one (table_of old) (table_of new) (acquires p ∷ []) (Some p ∷ before ∷ behind ∷ [])
     pub own : status ≡ OK → PutIn (gap_between before behind) place (ends_of list) (ends_of list')
     pub words : status ≡ OK → IsWritten list'
@@ -53,7 +51,7 @@ module _ (old new : List RawOne) (list list' : RawEnds) (status : ℕ) where
 
   -- the words tell of the member at an end: the first one, or on the side Before the last one
   abbrev pub TellsEndOn : Side → Type 0
-  TellsEndOn After = TellsMemberBehind (table_of old) (ends_of list) None (ends_of list).head
+  TellsEndOn After = TellsMemberAfter (table_of old) (ends_of list) None (ends_of list).head
   TellsEndOn Before = TellsMemberBefore (table_of old) (ends_of list) None (ends_of list).tail
 
   -- between which places that member stands: none, and what its word tells
@@ -66,8 +64,8 @@ module _ (old new : List RawOne) (list list' : RawEnds) (status : ℕ) where
     pub taken : (front back : List Place) (p : Place) → IsEnd side front back → Popped old new list list' status popped p front back
     pub handed : (p : Place) → end_on side (ends_of list) ≡ Some p → status ≡ OK → HasNumber p popped
     pub null : (status ≡ NULL) ↔ (end_on side (ends_of list) ≡ None)
-    pub stands : status ≡ OK → StandsIn old (end_on side (ends_of list))
-    pub told : status ≡ OK → TellsEndOn side
+    pub stands : status ≡ OK → IsNoneOrLinkedIn old (end_on side (ends_of list))
+    pub links_back : status ≡ OK → TellsEndOn side
     pub touched : (p : Place) → end_on side (ends_of list) ≡ Some p → status ≡ OK
         → Touches is_linked_one (table_of old) (table_of new) (releases p ∷ []) (Some p ∷ sides (around_end side))
     pub own : status ≡ OK → TakenOut (around_end side) (ends_of list) (ends_of list')
@@ -76,13 +74,13 @@ module _ (old new : List RawOne) (list list' : RawEnds) (status : ℕ) where
     pub why : status ≢ OK → status ≢ NULL → status ≡ BROKEN
     pub is_status : IsStatus status
 
-  -- THE MEMBER `at` LEAVES, in front of which `before` stands
+  -- THE MEMBER `at` LEAVES, before which `before` stands
   pub record RemoveCall (before at : Option Place) : Type 0 where
     pub removed : (front back : List Place) (p : Place) → before ≡ last front → at ≡ Some p → Removed old new list list' status p front back
     pub null : (status ≡ NULL) ↔ (at ≡ None)
-    pub stands : status ≡ OK → StandsIn old at
-    pub stands_before : status ≡ OK → StandsIn old before
-    pub told : status ≡ OK → TellsMemberBehind (table_of old) (ends_of list) before at
+    pub stands : status ≡ OK → IsNoneOrLinkedIn old at
+    pub stands_before : status ≡ OK → IsNoneOrLinkedIn old before
+    pub links_back : status ≡ OK → TellsMemberAfter (table_of old) (ends_of list) before at
     pub touched : (p : Place) → at ≡ Some p → status ≡ OK
         → Touches is_linked_one (table_of old) (table_of new) (releases p ∷ []) (Some p ∷ before ∷ beyond (table_of old) at before ∷ [])
     pub own : status ≡ OK → TakenOut (gap_between before (beyond (table_of old) at before)) (ends_of list) (ends_of list')
@@ -91,16 +89,16 @@ module _ (old new : List RawOne) (list list' : RawEnds) (status : ℕ) where
     pub why : status ≢ OK → status ≢ NULL → status ≡ refusal (fault_at old at ∷ fault_at old before ∷ [])
     pub is_status : IsStatus status
 
-  -- A PLACE STANDS WHERE THE MEMBER `at` DID, which leaves, and in front of which `before` stands
+  -- A PLACE STANDS WHERE THE MEMBER `at` DID, which leaves, and before which `before` stands
   pub record ReplaceCall (before at place : Option Place) : Type 0 where
     pub replaced : (front back : List Place) (out p : Place) → before ≡ last front → at ≡ Some out → place ≡ Some p
         → Replaced old new list list' status out front back p
     pub free : (p : Place) → place ≡ Some p → status ≡ OK → FreeIn old p
     pub no_place : place ≡ None → status ≢ OK
     pub null : (status ≡ NULL) ↔ (at ≡ None)
-    pub stands : status ≡ OK → StandsIn old at
-    pub stands_before : status ≡ OK → StandsIn old before
-    pub told : status ≡ OK → TellsMemberBehind (table_of old) (ends_of list) before at
+    pub stands : status ≡ OK → IsNoneOrLinkedIn old at
+    pub stands_before : status ≡ OK → IsNoneOrLinkedIn old before
+    pub links_back : status ≡ OK → TellsMemberAfter (table_of old) (ends_of list) before at
     pub touched : (out p : Place) → at ≡ Some out → place ≡ Some p → status ≡ OK
         → Touches is_linked_one (table_of old) (table_of new) (acquires p ∷ releases out ∷ [])
         (Some p ∷ Some out ∷ before ∷ beyond (table_of old) at before ∷ [])
@@ -114,9 +112,9 @@ module _ (old new : List RawOne) (list list' : RawEnds) (status : ℕ) where
   pub record SpliceCall (before behind : Option Place) (given given' : RawEnds) : Type 0 where
     pub spliced : (cut : Cut) (t : List Place) → IsAfter cut before → IsBefore cut behind → Spliced old new list list' status given cut t
     pub emptied : status ≡ OK → given' ≡ words_of no_members
-    pub stands_before : status ≡ OK → StandsIn old before
-    pub stands_behind : status ≡ OK → StandsIn old behind
-    pub told : status ≡ OK → TellsGap (table_of old) (ends_of list) before behind
+    pub stands_before : status ≡ OK → IsNoneOrLinkedIn old before
+    pub stands_behind : status ≡ OK → IsNoneOrLinkedIn old behind
+    pub links_back : status ≡ OK → TellsGap (table_of old) (ends_of list) before behind
     pub ends : status ≡ OK → TellsEnds (table_of old) (ends_of given)
     pub apart : status ≡ OK → (p : Place) → (ends_of given).head ≡ Some p → (ends_of list).head ≢ Some p
     pub touched : status ≡ OK → Touches is_linked_one (table_of old) (table_of new) [] (before ∷ behind ∷ (ends_of given).head ∷ (ends_of given).tail ∷ [])
@@ -132,8 +130,8 @@ module _ (old new : List RawOne) (list list' : RawEnds) (status : ℕ) where
   pub record AppendCall (given given' : RawEnds) : Type 0 where
     pub spliced : (s t : List Place) → Spliced old new list list' status given (at_back s) t
     pub emptied : status ≡ OK → given' ≡ words_of no_members
-    pub stands : status ≡ OK → StandsIn old (ends_of list).tail
-    pub told : status ≡ OK → TellsGap (table_of old) (ends_of list) (ends_of list).tail None
+    pub stands : status ≡ OK → IsNoneOrLinkedIn old (ends_of list).tail
+    pub links_back : status ≡ OK → TellsGap (table_of old) (ends_of list) (ends_of list).tail None
     pub ends : status ≡ OK → TellsEnds (table_of old) (ends_of given)
     pub apart : status ≡ OK → (p : Place) → (ends_of given).head ≡ Some p → (ends_of list).head ≢ Some p
     pub touched : status ≡ OK → Touches is_linked_one (table_of old) (table_of new) [] ((ends_of list).tail ∷ (ends_of given).head ∷ (ends_of given).tail ∷ [])
@@ -145,14 +143,14 @@ module _ (old new : List RawOne) (list list' : RawEnds) (status : ℕ) where
     pub why : status ≢ OK → status ≡ BROKEN
     pub is_status : IsStatus status
 
-  -- THE LIST IS CUT BETWEEN two neighbors, none beyond an end, and what stands behind the cut handed out, in words that say no member. `rest`,
+  -- THE LIST IS CUT BETWEEN two neighbors, none beyond an end, and what stands after the cut handed out, in words that say no member. `rest`,
   -- `rest'`: these words
   pub record SplitCall (before behind : Option Place) (rest rest' : RawEnds) : Type 0 where
     pub split : (cut : Cut) → IsAfter cut before → IsBefore cut behind → ends_of rest ≡ no_members → Split old new list list' status rest' cut
     pub empty : status ≡ OK → ends_of rest ≡ no_members
-    pub stands_before : status ≡ OK → StandsIn old before
-    pub stands_behind : status ≡ OK → StandsIn old behind
-    pub told : status ≡ OK → TellsGap (table_of old) (ends_of list) before behind
+    pub stands_before : status ≡ OK → IsNoneOrLinkedIn old before
+    pub stands_behind : status ≡ OK → IsNoneOrLinkedIn old behind
+    pub links_back : status ≡ OK → TellsGap (table_of old) (ends_of list) before behind
     pub touched : status ≡ OK → Touches is_linked_one (table_of old) (table_of new) [] (before ∷ behind ∷ [])
     pub own : status ≡ OK → IsCutAt (gap_between before behind) (ends_of list) (ends_of list') (ends_of rest')
     pub words : status ≡ OK → IsWritten list'
@@ -166,7 +164,7 @@ module _ (old new : List RawOne) (list list' : RawEnds) (status : ℕ) where
     pub filled : (s : List Place) → Filled old new list list' status (at_back s) first count
     pub free : status ≡ OK → IsFreeRunIn old first count
     pub nothing : count ≡ 0 → (status ≡ OK) × (new ≡ old) × (list' ≡ list)
-    pub told : status ≡ OK → count ≢ 0 → TellsGap (table_of old) (ends_of list) (ends_of list).tail None
+    pub links_back : status ≡ OK → count ≢ 0 → TellsGap (table_of old) (ends_of list) (ends_of list).tail None
     pub own : status ≡ OK → count ≢ 0 → Turns (gap_between (ends_of list).tail None) (place_of first) (last_of_run first count) (ends_of list) (ends_of list')
     pub touched : status ≡ OK → (free : IsFreeRunIn old first count) → TouchedRun old new free.run (ends_of list).tail
     pub words : status ≡ OK → count ≢ 0 → IsWritten list'

@@ -1,20 +1,18 @@
 //! Walks along one chain of a hash table, over a view of the table. Each ends within as many steps as the table has places.
 //!
 //! ```text
-//! let before = place_before(&links, list.first(), member); // the place in front of the member, if the chain has it
+//! let before = place_before(&links, list.first(), member); // the place before the member, if the chain has it
 //! ```
 
 ghost use Rattle.std.specs.Prelude.{◌≡◌, ◌≢◌, ◌≤◌, ◌↔◌, ◌++◌, ◌∷◌, List, Option, Some, None, length, true};
-ghost use Rattle.ic_unsafe_ref.specs.declared.place.Place.{Place};
-ghost use Rattle.ic_link_ops.specs.Sequences.{last, IsMember};
+ghost use Rattle.ic_link_ops.specs.Prelude.{Place, last, IsMember, IsLinked};
 ghost use Rattle.ic_link_ops.specs.SinglyLinkedList.{list_from};
-ghost use Rattle.ic_link_ops.specs.Tables.{IsLinked};
 ghost use Rattle.ic_hash_table.specs.Searches.{Finds};
 ghost use Rattle.ic_raw.specs.declared.status.TheConstants.{OK, NULL, BROKEN};
 ghost use Rattle.ic_raw.specs.Answers.{HandsOut};
-ghost use Rattle.ic_raw.specs.Gaps.{Stands};
+ghost use Rattle.ic_raw.specs.Gaps.{IsNoneOrLinked};
 ghost use Rattle.ic_raw.specs.Hash.{has_key};
-ghost use Rattle.ic_raw.specs.Singly.{LeadsFrom, Shows, lent_table, next_from};
+ghost use Rattle.ic_raw.specs.Singly.{LeadsFrom, Represents, lent_table, next_from};
 ghost use Rattle.ic_raw.specs.Words.{is_linked_one, HasNumber};
 
 use crate::number::number_of;
@@ -24,19 +22,19 @@ use crate::words::RawOne;
 use ic_link_ops::singly_linked_list::SinglyLinkedListOps;
 use ic_unsafe_ref::Place;
 
-// What stands in front of this member in the chain from `front` on, if a walk comes to it.
+// What stands before this member in the chain from `front` on, if a walk comes to it.
 pub(crate) fn place_before(
     links: &RawTable<'_, RawOne>,
     front: Option<Place>,
     member: Place,
 ) -> Option<Option<Place>>
     ensures linked { (b : Option Place) → result ≡ Some b → IsLinked is_linked_one (lent_table links.now) member }
-    ensures stands { (b : Option Place) → result ≡ Some b → Stands is_linked_one (lent_table links.now) b }
+    ensures stands { (b : Option Place) → result ≡ Some b → IsNoneOrLinked is_linked_one (lent_table links.now) b }
     ensures first { (b : Option Place) → result ≡ Some b → (b ≡ None) ↔ (front ≡ Some member) }
     ensures leads { (b : Option Place) → result ≡ Some b → next_from (lent_table links.now) (list_from front) b ≡ Some member }
-    ensures found { (ahead back : List Place) → Shows (lent_table links.now) (list_from front) (ahead ++ member ∷ back)
+    ensures found { (ahead back : List Place) → Represents (lent_table links.now) (list_from front) (ahead ++ member ∷ back)
         → result ≡ Some (last ahead) }
-    ensures member { (s : List Place) (b : Option Place) → Shows (lent_table links.now) (list_from front) s → result ≡ Some b
+    ensures member { (s : List Place) (b : Option Place) → Represents (lent_table links.now) (list_from front) s → result ≡ Some b
         → IsMember member s }
 {
     let mut before = None;
@@ -68,11 +66,11 @@ pub(crate) fn look_from(
     found: &mut u32,
 ) -> u32
     requires keys { (lent_table links.now).extent.places ≤ length keys.now }
-    ensures found { (s : List Place) → Shows (lent_table links.now) (list_from from) s
+    ensures found { (s : List Place) → Represents (lent_table links.now) (list_from from) s
         → HandsOut (Finds (has_key keys.now key) s) result found.new }
     ensures linked { result ≡ OK → (q : Place) × IsLinked is_linked_one (lent_table links.now) q × (has_key keys.now key q ≡ true)
         × HasNumber q found.new × LeadsFrom (lent_table links.now) from q }
-    ensures ended { result ≡ NULL → (s : List Place) × Shows (lent_table links.now) (list_from from) s }
+    ensures ended { result ≡ NULL → (s : List Place) × Represents (lent_table links.now) (list_from from) s }
     ensures refused { result ≢ OK → found.new ≡ found.old }
     ensures why { result ≢ OK → result ≢ NULL → result ≡ BROKEN }
 {

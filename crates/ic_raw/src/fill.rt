@@ -5,9 +5,8 @@
 //! ```
 
 ghost use Rattle.std.specs.Prelude.{◌≡◌, ◌≢◌, Option, Some, None, List, true};
-ghost use Rattle.ic_unsafe_ref.specs.declared.place.Place.{Place};
-ghost use Rattle.ic_link_ops.specs.Sequences.{Cut, join, at_back};
-ghost use Rattle.ic_link_ops.specs.Chains.{ShowsChain, TurnsEnds};
+ghost use Rattle.ic_link_ops.specs.Prelude.{Place, Cut, join, at_back};
+ghost use Rattle.ic_link_ops.specs.Chains.{RepresentsChain, TurnsEnds};
 ghost use Rattle.ic_link_ops.specs.Edits.{Splices};
 ghost use Rattle.ic_raw.specs.declared.gap.Gap.{Gap};
 ghost use Rattle.ic_raw.specs.declared.status.TheConstants.{OK};
@@ -47,7 +46,7 @@ fn run_fault<W: Words>(links: &RawTable<'_, W>, first: u32, count: u32) -> u32
     OK
 }
 
-// Links each place of a run that is free, behind the one before, between two neighbors.
+// Links each place of a run that is free, after the one before, between two neighbors.
 //
 // Who calls it hands `filled` the law of the kind, that what stands between two others is linked.
 fn link_run<'a, W: Words, K: ForwardLinks<RawTable<'a, W>>>(
@@ -60,8 +59,8 @@ fn link_run<'a, W: Words, K: ForwardLinks<RawTable<'a, W>>>(
     requires stand { StandBeside W.is_linked (nameable_table W.width W.unlinked links.old) gap }
     ensures filled { ((e : W) (b a : Option Place) → K.Between e b a → W.is_linked e ≡ true)
         → (cut : Cut) (free : IsFreeRun W.is_linked (nameable_table W.width W.unlinked links.old) first count)
-        → ShowsChain K.Between K.kept (nameable_table W.width W.unlinked links.old) list.old (join cut) → gap ≡ gap_of cut
-        → Splices (ShowsChain K.Between K.kept) (nameable_table W.width W.unlinked links.old) (nameable_table W.width W.unlinked links.new) list.new cut free.run }
+        → RepresentsChain K.Between K.kept (nameable_table W.width W.unlinked links.old) list.old (join cut) → gap ≡ gap_of cut
+        → Splices (RepresentsChain K.Between K.kept) (nameable_table W.width W.unlinked links.old) (nameable_table W.width W.unlinked links.new) list.new cut free.run }
     ensures ends { IsFreeRun W.is_linked (nameable_table W.width W.unlinked links.old) first count → count ≢ 0
         → TurnsEnds K.kept list.old list.new gap.before gap.behind (place_of first) (last_of_run first count) }
     ensures touched { (K.NamesPrev → gap.behind ≡ None) → (free : IsFreeRun W.is_linked (nameable_table W.width W.unlinked links.old) first count)
@@ -93,8 +92,8 @@ pub(crate) fn fill<'a, W: Words, K: ForwardLinks<RawTable<'a, W>>>(
     requires stand { (g : Gap) → gap ≡ Some g → StandBeside W.is_linked (nameable_table W.width W.unlinked links.old) g }
     ensures filled { ((e : W) (b a : Option Place) → K.Between e b a → W.is_linked e ≡ true)
         → (cut : Cut) (free : IsFreeRun W.is_linked (nameable_table W.width W.unlinked links.old) first count)
-        → ShowsChain K.Between K.kept (nameable_table W.width W.unlinked links.old) list.old (join cut) → gap ≡ Some (gap_of cut)
-        → (result ≡ OK) × Splices (ShowsChain K.Between K.kept) (nameable_table W.width W.unlinked links.old) (nameable_table W.width W.unlinked links.new) list.new cut free.run }
+        → RepresentsChain K.Between K.kept (nameable_table W.width W.unlinked links.old) list.old (join cut) → gap ≡ Some (gap_of cut)
+        → (result ≡ OK) × Splices (RepresentsChain K.Between K.kept) (nameable_table W.width W.unlinked links.old) (nameable_table W.width W.unlinked links.new) list.new cut free.run }
     ensures accepted { IsFreeRun W.is_linked (nameable_table W.width W.unlinked links.old) first count → gap ≢ None → result ≡ OK }
     ensures free { result ≡ OK → IsFreeRun W.is_linked (nameable_table W.width W.unlinked links.old) first count }
     ensures gap { result ≡ OK → (g : Gap) × (gap ≡ Some g) }
@@ -120,15 +119,15 @@ pub(crate) fn fill<'a, W: Words, K: ForwardLinks<RawTable<'a, W>>>(
     OK
 }
 
-/// The gap behind the last member of an XOR list. None where the words tell of none.
-pub(crate) fn gap_behind_last_of_xor(
+/// The gap after the last member of an XOR list. None where the words tell of none.
+pub(crate) fn gap_after_last_of_xor(
     links: &RawTable<'_, RawOne>,
     list: &xor_list::List,
 ) -> Option<Gap>
-    ensures told { (gap : Gap) → result ≡ Some gap → xor.TellsGap (singly.lent_table links.now) list.now list.now.tail None }
+    ensures links_back { (gap : Gap) → result ≡ Some gap → xor.TellsGap (singly.lent_table links.now) list.now list.now.tail None }
     ensures stand { (gap : Gap) → result ≡ Some gap → StandBeside is_linked_one (singly.lent_table links.now) gap }
     ensures is { (gap : Gap) → result ≡ Some gap → gap ≡ gap_between list.now.tail None }
-    ensures shown { (s : List Place) → xor.Shows (singly.lent_table links.now) list.now (join (at_back s)) → result ≡ Some (gap_of (at_back s)) }
+    ensures shown { (s : List Place) → xor.Represents (singly.lent_table links.now) list.now (join (at_back s)) → result ≡ Some (gap_of (at_back s)) }
 {
     let before = list.last();
     if !xor_list::is_gap(links, list, before, None) {

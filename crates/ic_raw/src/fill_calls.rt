@@ -4,11 +4,12 @@
 //! fill_list(table, &mut vacant, 0, 64) // OK: 0, 1, .., 63
 //! ```
 
+ghost use Rattle.ic_raw.specs.LinkWords.{wide_words};
 ghost use Rattle.ic_raw.specs.ListCalls as lists;
 ghost use Rattle.ic_raw.specs.StackCalls as stacks;
 ghost use Rattle.ic_raw.specs.XorCalls as xor_lists;
 
-use crate::fill::{fill, gap_behind_last_of_xor};
+use crate::fill::{fill, gap_after_last_of_xor};
 use crate::gap::Side;
 use crate::list::gap_at;
 use crate::list_calls::{list_of, write_back};
@@ -19,13 +20,13 @@ use crate::table::RawTable;
 use crate::words::{RawEnds, RawFront, RawOne, RawTwo};
 use crate::xor_calls;
 
-/// Puts `count` places behind all members, in the order of their numbers: `first`, `first + 1` and so on. O(count).
+/// Puts `count` places after all members, in the order of their numbers: `first`, `first + 1` and so on. O(count).
 ///
 /// Each has to be one of the table, and not linked. Where the last member is none of the table, it returns
 /// [`BROKEN`](crate::BROKEN). No place at all changes nothing.
 #[inline]
 pub fn fill_list(table: &mut [RawTwo], list: &mut RawEnds, first: u32, count: u32) -> u32
-    ensures { lists.FillCall table.old table.new list.old list.new result first count }
+    ensures { lists.FillCall wide_words table.old table.new list.old list.new result first count }
 {
     if count == 0 {
         return OK;
@@ -41,7 +42,7 @@ pub fn fill_list(table: &mut [RawTwo], list: &mut RawEnds, first: u32, count: u3
     OK
 }
 
-/// Puts `count` places in front of all members, in the order of their numbers: `first`, `first + 1` and so on. O(count).
+/// Puts `count` places before all members, in the order of their numbers: `first`, `first + 1` and so on. O(count).
 ///
 /// Each has to be one of the table, and not linked. Where the first member is not linked, it returns
 /// [`BROKEN`](crate::BROKEN). No place at all changes nothing.
@@ -63,7 +64,7 @@ pub fn fill_stack(table: &mut [RawOne], list: &mut RawFront, first: u32, count: 
     OK
 }
 
-/// Puts `count` places behind all members, in the order of their numbers: `first`, `first + 1` and so on. O(count).
+/// Puts `count` places after all members, in the order of their numbers: `first`, `first + 1` and so on. O(count).
 ///
 /// Each has to be one of the table, and not linked. Where the last member is none of the table, it returns
 /// [`BROKEN`](crate::BROKEN). No place at all changes nothing.
@@ -76,7 +77,7 @@ pub fn fill_xor_list(table: &mut [RawOne], list: &mut RawEnds, first: u32, count
     }
     let mut links = RawTable::new(table);
     let mut edited = xor_calls::list_of(&*list);
-    let gap = gap_behind_last_of_xor(&links, &edited);
+    let gap = gap_after_last_of_xor(&links, &edited);
     let status = fill(&mut links, &mut edited, gap, first, count);
     if status != OK {
         return status;

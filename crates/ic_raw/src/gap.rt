@@ -1,7 +1,7 @@
 //! The gaps at which calls edit.
 //!
 //! ```text
-//! Side::After  // behind a place, in front of all at none
+//! Side::After  // after a place, before all at none
 //! ```
 
 ghost use Rattle.std.specs.Prelude.{◌≡◌, ◌≢◌, ◌↔◌, Some, true, false};
@@ -14,18 +14,18 @@ use ic_unsafe_ref::Place;
 /// On which side of a place a call edits.
 #[derive(Clone, Copy)]
 pub enum Side {
-    /// Behind it; at none in front of all.
+    /// After it; at none before all.
     After,
-    /// In front of it; at none behind all.
+    /// Before it; at none after all.
     Before,
 }
 
 /// The places on both sides of a gap, or of a member.
 #[derive(Clone, Copy)]
 pub struct Gap {
-    /// In front of the gap.
+    /// Before the gap.
     pub before: Option<Place>,
-    /// Behind it.
+    /// After it.
     pub behind: Option<Place>,
 }
 

@@ -6,12 +6,11 @@
 //! ```
 
 ghost use Rattle.std.specs.Prelude.{◌≡◌, ◌≢◌, ◌<◌, ◌↔◌, ◌∷◌, [], ℕ, List, Some, length, None};
-ghost use Rattle.ic_unsafe_ref.specs.declared.place.Place.{Place};
-ghost use Rattle.ic_link_ops.specs.Sequences.{IsMember};
+ghost use Rattle.ic_link_ops.specs.Prelude.{Place, IsMember};
 ghost use Rattle.ic_raw.specs.declared.status.TheConstants.{OK, NULL};
 ghost use Rattle.ic_raw.specs.Answers.{IsStatus, refusal};
 ghost use Rattle.ic_raw.specs.Hash.{slot_of};
-ghost use Rattle.ic_raw.specs.Singly.{ShowsList, StandsIn, LosesFront, front_of, list_of, table_of, word_of_front, fault_at, Removed, LeavesChain};
+ghost use Rattle.ic_raw.specs.Singly.{RepresentsList, IsNoneOrLinkedIn, LosesFront, front_of, list_of, table_of, word_of_front, fault_at, Removed, LeavesChain};
 ghost use Rattle.ic_raw.specs.Words.{place_of};
 ghost use Rattle.ic_raw.specs.HashCalls.{FindCall, InsertCall, NextEqualCall, RemoveCall};
 
@@ -37,7 +36,7 @@ fn slot(buckets: &[RawFront], hash: u64) -> Option<usize>
     Some((hash % buckets.len() as u64) as usize)
 }
 
-/// Puts a place in front of the members of its chain, which is that in bucket `hash % buckets`. O(1).
+/// Puts a place before the members of its chain, which is that in bucket `hash % buckets`. O(1).
 ///
 /// The place has to be one of the table, and not linked, and there has to be a bucket. Where the first member of the chain is not linked, it
 /// returns [`BROKEN`](crate::BROKEN).
@@ -55,8 +54,8 @@ pub fn insert(table: &mut [RawOne], buckets: &mut [RawFront], hash: u64, place: 
 #[inline]
 fn remove_from(table: &mut [RawOne], list: &mut RawFront, member: Place) -> u32
     ensures removed { (front back : List Place) → Removed table.old table.new list.old list.new result member front back }
-    ensures member { (s : List Place) → ShowsList table.old list.old s → result ≡ OK → IsMember member s }
-    ensures stands { result ≡ OK → StandsIn table.old (Some member) }
+    ensures member { (s : List Place) → RepresentsList table.old list.old s → result ≡ OK → IsMember member s }
+    ensures stands { result ≡ OK → IsNoneOrLinkedIn table.old (Some member) }
     ensures own { result ≡ OK → LosesFront (table_of table.old) (Some member) (list_of list.old) (list_of list.new) }
     ensures touched { result ≡ OK → LeavesChain table.old table.new list.old member }
     ensures words { result ≡ OK → list.new ≡ word_of_front (front_of list.new) }
@@ -118,7 +117,7 @@ pub fn find(
     look_from(&links, keys, key, place_in(buckets[at].head), found)
 }
 
-/// Hands out the next member behind the member `at` with the key of that one, or returns [`NULL`](crate::NULL) where there is none, or at
+/// Hands out the next member after the member `at` with the key of that one, or returns [`NULL`](crate::NULL) where there is none, or at
 /// [`NONE`](crate::NONE). It writes nothing else. One reading for each member up to it.
 ///
 /// There has to be a key for each place of the table. Where the words lead to no end, or out of the table, it returns

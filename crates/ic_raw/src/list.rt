@@ -5,24 +5,21 @@
 //! ```
 
 ghost use Rattle.std.specs.Prelude.{◌≡◌, ◌≢◌, ◌++◌, ◌∷◌, [], List, Option, Some, None, true, false};
-ghost use Rattle.ic_unsafe_ref.specs.declared.place.Place.{Place};
-ghost use Rattle.ic_link_ops.specs.Sequences.{Cut, join, first, last, at_back, IsDisjoint};
-ghost use Rattle.ic_link_ops.specs.Tables.{IsUnlinked};
-ghost use Rattle.ic_link_ops.specs.LinkSteps.{acquires, releases};
+ghost use Rattle.ic_link_ops.specs.Prelude.{Place, Cut, join, first, last, at_back, IsDisjoint, IsUnlinked, acquires, releases};
 ghost use Rattle.ic_link_ops.specs.Chains.{Ends};
 ghost use Rattle.ic_link_ops.specs.Edits.{Inserts, Removes, Replaces, Splices};
 ghost use Rattle.ic_raw.specs.declared.gap.Gap.{Gap};
 ghost use Rattle.ic_raw.specs.declared.gap.Side.TheVariants.{After, Before};
-ghost use Rattle.ic_raw.specs.Gaps.{AllPutIn, IsBeside, IsCutBeside, PutIn, Stands, StandBeside, TakenOut, before, gap_of, outermost};
+ghost use Rattle.ic_raw.specs.Gaps.{AllPutIn, IsBeside, IsCutBeside, PutIn, IsNoneOrLinked, StandBeside, TakenOut, before, gap_of, outermost};
 ghost use Rattle.ic_raw.specs.Tables.{IsFree};
 ghost use Rattle.ic_raw.specs.Touches.{Touches, sides};
-ghost use Rattle.ic_raw.specs.Words.{is_linked_two};
 ghost use Rattle.ic_link_ops.specs.LinkedList.{neighbors_at};
-ghost use Rattle.ic_raw.specs.Doubly.{Shows, SplitsBeside, TellsGap, around, gap_from, IsEnd, end_on, lent_table, neighbors, next_from, prev_from};
+ghost use Rattle.ic_raw.specs.Doubly.{Represents, SplitsBeside, TellsGap, around, gap_from, IsEnd, end_on, next_from, prev_from};
+ghost use Rattle.ic_raw.specs.LinkWords.{lent_table, neighbors};
 
 use crate::gap::{Gap, Side, begin_alike};
 use crate::table::RawTable;
-use crate::words::RawTwo;
+use crate::words::ListWords;
 use ic_link_ops::LinkOps;
 use ic_link_ops::linked_list::LinkedListOps;
 use ic_linked_list::LinkedList;
@@ -32,11 +29,15 @@ use std::mem;
 /// A list of the caller's.
 pub type List = LinkedList<()>;
 
-// What stands behind a place, the first of the list at none.
+// What stands after a place, the first of the list at none.
 #[inline]
-fn next_of(links: &RawTable<'_, RawTwo>, list: &List, place: Option<Place>) -> Option<Place>
-    requires { Stands is_linked_two (lent_table links.now) place }
-    ensures { result ≡ next_from (lent_table links.now) list.now place }
+fn next_of<W: ListWords>(
+    links: &RawTable<'_, W>,
+    list: &List,
+    place: Option<Place>,
+) -> Option<Place>
+    requires { IsNoneOrLinked W.is_linked (lent_table W.PrevPlace links.now) place }
+    ensures { result ≡ next_from W.PrevPlace (lent_table W.PrevPlace links.now) list.now place }
 {
     match place {
         None => list.first(),
@@ -46,9 +47,13 @@ fn next_of(links: &RawTable<'_, RawTwo>, list: &List, place: Option<Place>) -> O
 
 // What stands before a place, the last of the list at none.
 #[inline]
-fn prev_of(links: &RawTable<'_, RawTwo>, list: &List, place: Option<Place>) -> Option<Place>
-    requires { Stands is_linked_two (lent_table links.now) place }
-    ensures { result ≡ prev_from (lent_table links.now) list.now place }
+fn prev_of<W: ListWords>(
+    links: &RawTable<'_, W>,
+    list: &List,
+    place: Option<Place>,
+) -> Option<Place>
+    requires { IsNoneOrLinked W.is_linked (lent_table W.PrevPlace links.now) place }
+    ensures { result ≡ prev_from W.PrevPlace (lent_table W.PrevPlace links.now) list.now place }
 {
     match place {
         None => list.last(),
@@ -56,17 +61,17 @@ fn prev_of(links: &RawTable<'_, RawTwo>, list: &List, place: Option<Place>) -> O
     }
 }
 
-// Whether `place` is linked, or none, and `next` stands behind it.
+// Whether `place` is linked, or none, and `next` stands after it.
 #[inline]
-pub(crate) fn leads(
-    links: &RawTable<'_, RawTwo>,
+pub(crate) fn leads<W: ListWords>(
+    links: &RawTable<'_, W>,
     list: &List,
     place: Option<Place>,
     next: Option<Place>,
 ) -> bool
-    ensures stands { result ≡ true → Stands is_linked_two (lent_table links.now) place }
-    ensures next { result ≡ true → next_from (lent_table links.now) list.now place ≡ next }
-    ensures leads { Stands is_linked_two (lent_table links.now) place → next ≡ next_from (lent_table links.now) list.now place
+    ensures stands { result ≡ true → IsNoneOrLinked W.is_linked (lent_table W.PrevPlace links.now) place }
+    ensures next { result ≡ true → next_from W.PrevPlace (lent_table W.PrevPlace links.now) list.now place ≡ next }
+    ensures leads { IsNoneOrLinked W.is_linked (lent_table W.PrevPlace links.now) place → next ≡ next_from W.PrevPlace (lent_table W.PrevPlace links.now) list.now place
         → result ≡ true }
 {
     match place {
@@ -82,15 +87,15 @@ pub(crate) fn leads(
 
 // Whether `place` is linked, or none, and `prev` stands before it.
 #[inline]
-pub(crate) fn follows(
-    links: &RawTable<'_, RawTwo>,
+pub(crate) fn follows<W: ListWords>(
+    links: &RawTable<'_, W>,
     list: &List,
     place: Option<Place>,
     prev: Option<Place>,
 ) -> bool
-    ensures stands { result ≡ true → Stands is_linked_two (lent_table links.now) place }
-    ensures prev { result ≡ true → prev_from (lent_table links.now) list.now place ≡ prev }
-    ensures follows { Stands is_linked_two (lent_table links.now) place → prev ≡ prev_from (lent_table links.now) list.now place
+    ensures stands { result ≡ true → IsNoneOrLinked W.is_linked (lent_table W.PrevPlace links.now) place }
+    ensures prev { result ≡ true → prev_from W.PrevPlace (lent_table W.PrevPlace links.now) list.now place ≡ prev }
+    ensures follows { IsNoneOrLinked W.is_linked (lent_table W.PrevPlace links.now) place → prev ≡ prev_from W.PrevPlace (lent_table W.PrevPlace links.now) list.now place
         → result ≡ true }
 {
     if !links.stands(place) {
@@ -101,17 +106,17 @@ pub(crate) fn follows(
 
 /// The gap beside a place, at none the outermost one. None where the words tell of no gap.
 #[inline]
-pub fn gap_at(
-    links: &RawTable<'_, RawTwo>,
+pub fn gap_at<W: ListWords>(
+    links: &RawTable<'_, W>,
     list: &List,
     side: Side,
     at: Option<Place>,
 ) -> Option<Gap>
-    ensures at { (gap : Gap) → result ≡ Some gap → Stands is_linked_two (lent_table links.now) at }
-    ensures stands { (gap : Gap) → result ≡ Some gap → StandBeside is_linked_two (lent_table links.now) gap }
-    ensures told { (gap : Gap) → result ≡ Some gap → TellsGap side (lent_table links.now) list.now at }
-    ensures sides { (gap : Gap) → result ≡ Some gap → gap ≡ gap_from side (lent_table links.now) list.now at }
-    ensures shown { (cut : Cut) → Shows (lent_table links.now) list.now (join cut) → IsBeside side cut at → result ≡ Some (gap_of cut) }
+    ensures at { (gap : Gap) → result ≡ Some gap → IsNoneOrLinked W.is_linked (lent_table W.PrevPlace links.now) at }
+    ensures stands { (gap : Gap) → result ≡ Some gap → StandBeside W.is_linked (lent_table W.PrevPlace links.now) gap }
+    ensures links_back { (gap : Gap) → result ≡ Some gap → TellsGap W.PrevPlace side (lent_table W.PrevPlace links.now) list.now at }
+    ensures sides { (gap : Gap) → result ≡ Some gap → gap ≡ gap_from W.PrevPlace side (lent_table W.PrevPlace links.now) list.now at }
+    ensures shown { (cut : Cut) → Represents W.PrevPlace (lent_table W.PrevPlace links.now) list.now (join cut) → IsBeside side cut at → result ≡ Some (gap_of cut) }
 {
     if !links.stands(at) {
         return None;
@@ -136,15 +141,15 @@ pub fn gap_at(
 
 /// The places on both sides of a member, at none the last one and the first. None where the words tell of no such places.
 #[inline]
-pub fn beside(links: &RawTable<'_, RawTwo>, list: &List, at: Option<Place>) -> Option<Gap>
-    ensures at { (gap : Gap) → result ≡ Some gap → Stands is_linked_two (lent_table links.now) at }
-    ensures stands { (gap : Gap) → result ≡ Some gap → StandBeside is_linked_two (lent_table links.now) gap }
-    ensures before { (gap : Gap) → result ≡ Some gap → TellsGap Before (lent_table links.now) list.now at }
-    ensures behind { (gap : Gap) → result ≡ Some gap → TellsGap After (lent_table links.now) list.now at }
-    ensures sides { (gap : Gap) → result ≡ Some gap → gap ≡ around (lent_table links.now) list.now at }
-    ensures member { (front back : List Place) (p : Place) → Shows (lent_table links.now) list.now (front ++ p ∷ back) → at ≡ Some p
+pub fn beside<W: ListWords>(links: &RawTable<'_, W>, list: &List, at: Option<Place>) -> Option<Gap>
+    ensures at { (gap : Gap) → result ≡ Some gap → IsNoneOrLinked W.is_linked (lent_table W.PrevPlace links.now) at }
+    ensures stands { (gap : Gap) → result ≡ Some gap → StandBeside W.is_linked (lent_table W.PrevPlace links.now) gap }
+    ensures before { (gap : Gap) → result ≡ Some gap → TellsGap W.PrevPlace Before (lent_table W.PrevPlace links.now) list.now at }
+    ensures behind { (gap : Gap) → result ≡ Some gap → TellsGap W.PrevPlace After (lent_table W.PrevPlace links.now) list.now at }
+    ensures sides { (gap : Gap) → result ≡ Some gap → gap ≡ around W.PrevPlace (lent_table W.PrevPlace links.now) list.now at }
+    ensures member { (front back : List Place) (p : Place) → Represents W.PrevPlace (lent_table W.PrevPlace links.now) list.now (front ++ p ∷ back) → at ≡ Some p
         → result ≡ Some (gap_of (record { front = front; back = back })) }
-    ensures ends { (s : List Place) → Shows (lent_table links.now) list.now s → at ≡ None
+    ensures ends { (s : List Place) → Represents W.PrevPlace (lent_table W.PrevPlace links.now) list.now s → at ≡ None
         → result ≡ Some (gap_of (record { front = s; back = s })) }
 {
     if !links.stands(at) {
@@ -161,35 +166,43 @@ pub fn beside(links: &RawTable<'_, RawTwo>, list: &List, at: Option<Place>) -> O
     Some(Gap { before, behind })
 }
 
-// Whether the place is one of the table and linked, with `next` behind it, by words such as a call writes.
+// Whether the place is one of the table and linked, with `next` after it, by words such as a call writes.
 #[inline]
-pub(crate) fn is_before(links: &RawTable<'_, RawTwo>, place: Place, next: Option<Place>) -> bool
-    ensures stands { result ≡ true → Stands is_linked_two (lent_table links.now) (Some place) }
-    ensures next { result ≡ true → (neighbors_at neighbors (lent_table links.now) place).next ≡ next }
+pub(crate) fn is_before<W: ListWords>(
+    links: &RawTable<'_, W>,
+    place: Place,
+    next: Option<Place>,
+) -> bool
+    ensures stands { result ≡ true → IsNoneOrLinked W.is_linked (lent_table W.PrevPlace links.now) (Some place) }
+    ensures next { result ≡ true → (neighbors_at (neighbors W.PrevPlace) (lent_table W.PrevPlace links.now) place).next ≡ next }
 {
     links.covers(place) && links.at(place).is_before(next)
 }
 
 // Whether the place is one of the table and linked, with `prev` before it, by words such as a call writes.
 #[inline]
-pub(crate) fn is_behind(links: &RawTable<'_, RawTwo>, place: Place, prev: Option<Place>) -> bool
-    ensures stands { result ≡ true → Stands is_linked_two (lent_table links.now) (Some place) }
-    ensures prev { result ≡ true → (neighbors_at neighbors (lent_table links.now) place).prev ≡ prev }
+pub(crate) fn is_after<W: ListWords>(
+    links: &RawTable<'_, W>,
+    place: Place,
+    prev: Option<Place>,
+) -> bool
+    ensures stands { result ≡ true → IsNoneOrLinked W.is_linked (lent_table W.PrevPlace links.now) (Some place) }
+    ensures prev { result ≡ true → (neighbors_at (neighbors W.PrevPlace) (lent_table W.PrevPlace links.now) place).prev ≡ prev }
 {
-    links.covers(place) && links.at(place).is_behind(prev)
+    links.covers(place) && links.at(place).is_after(prev)
 }
 
 // The places on both sides of a member that has one on either, where their words are such as a call writes. Else none.
 #[inline]
-pub(crate) fn between(links: &RawTable<'_, RawTwo>, member: Place) -> Option<Gap>
-    ensures member { (gap : Gap) → result ≡ Some gap → Stands is_linked_two (lent_table links.now) (Some member) }
-    ensures stands { (gap : Gap) → result ≡ Some gap → StandBeside is_linked_two (lent_table links.now) gap }
-    ensures before { (gap : Gap) (list : Ends) → result ≡ Some gap → TellsGap Before (lent_table links.now) list (Some member) }
-    ensures behind { (gap : Gap) (list : Ends) → result ≡ Some gap → TellsGap After (lent_table links.now) list (Some member) }
-    ensures sides { (gap : Gap) (list : Ends) → result ≡ Some gap → gap ≡ around (lent_table links.now) list (Some member) }
+pub(crate) fn between<W: ListWords>(links: &RawTable<'_, W>, member: Place) -> Option<Gap>
+    ensures member { (gap : Gap) → result ≡ Some gap → IsNoneOrLinked W.is_linked (lent_table W.PrevPlace links.now) (Some member) }
+    ensures stands { (gap : Gap) → result ≡ Some gap → StandBeside W.is_linked (lent_table W.PrevPlace links.now) gap }
+    ensures before { (gap : Gap) (list : Ends) → result ≡ Some gap → TellsGap W.PrevPlace Before (lent_table W.PrevPlace links.now) list (Some member) }
+    ensures behind { (gap : Gap) (list : Ends) → result ≡ Some gap → TellsGap W.PrevPlace After (lent_table W.PrevPlace links.now) list (Some member) }
+    ensures sides { (gap : Gap) (list : Ends) → result ≡ Some gap → gap ≡ around W.PrevPlace (lent_table W.PrevPlace links.now) list (Some member) }
     ensures prev { (gap : Gap) → result ≡ Some gap → (q : Place) × (gap.before ≡ Some q) }
     ensures next { (gap : Gap) → result ≡ Some gap → (q : Place) × (gap.behind ≡ Some q) }
-    ensures shown { (gap : Gap) (list : Ends) (front back : List Place) → result ≡ Some gap → Shows (lent_table links.now) list (front ++ member ∷ back)
+    ensures shown { (gap : Gap) (list : Ends) (front back : List Place) → result ≡ Some gap → Represents W.PrevPlace (lent_table W.PrevPlace links.now) list (front ++ member ∷ back)
         → gap ≡ gap_of (record { front = front; back = back }) }
 {
     if !links.is_linked(member) {
@@ -201,7 +214,7 @@ pub(crate) fn between(links: &RawTable<'_, RawTwo>, member: Place) -> Option<Gap
     let Some(behind) = links.next(member) else {
         return None;
     };
-    if !is_before(links, before, Some(member)) || !is_behind(links, behind, Some(member)) {
+    if !is_before(links, before, Some(member)) || !is_after(links, behind, Some(member)) {
         return None;
     }
     Some(Gap {
@@ -212,19 +225,23 @@ pub(crate) fn between(links: &RawTable<'_, RawTwo>, member: Place) -> Option<Gap
 
 // The outermost gap on a side of none, beyond a member whose words are such as a call writes. Else none.
 #[inline]
-pub(crate) fn gap_at_end(links: &RawTable<'_, RawTwo>, list: &List, side: Side) -> Option<Gap>
-    ensures told { (gap : Gap) → result ≡ Some gap → TellsGap side (lent_table links.now) list.now None }
-    ensures stands { (gap : Gap) → result ≡ Some gap → StandBeside is_linked_two (lent_table links.now) gap }
+pub(crate) fn gap_at_end<W: ListWords>(
+    links: &RawTable<'_, W>,
+    list: &List,
+    side: Side,
+) -> Option<Gap>
+    ensures links_back { (gap : Gap) → result ≡ Some gap → TellsGap W.PrevPlace side (lent_table W.PrevPlace links.now) list.now None }
+    ensures stands { (gap : Gap) → result ≡ Some gap → StandBeside W.is_linked (lent_table W.PrevPlace links.now) gap }
     ensures end { (gap : Gap) → result ≡ Some gap → (q : Place) × (end_on side list.now ≡ Some q) }
-    ensures sides { (gap : Gap) → result ≡ Some gap → gap ≡ gap_from side (lent_table links.now) list.now None }
-    ensures shown { (gap : Gap) (s : List Place) → result ≡ Some gap → Shows (lent_table links.now) list.now s → gap ≡ gap_of (outermost side s) }
+    ensures sides { (gap : Gap) → result ≡ Some gap → gap ≡ gap_from W.PrevPlace side (lent_table W.PrevPlace links.now) list.now None }
+    ensures shown { (gap : Gap) (s : List Place) → result ≡ Some gap → Represents W.PrevPlace (lent_table W.PrevPlace links.now) list.now s → gap ≡ gap_of (outermost side s) }
 {
     match side {
         Side::After => {
             let Some(first) = list.first() else {
                 return None;
             };
-            if !is_behind(links, first, None) {
+            if !is_after(links, first, None) {
                 return None;
             }
             Some(Gap {
@@ -247,23 +264,23 @@ pub(crate) fn gap_at_end(links: &RawTable<'_, RawTwo>, list: &List, side: Side) 
     }
 }
 
-// Puts a place behind the last member, where its words are such as a call writes. Else it changes nothing, and says so.
+// Puts a place after the last member, where its words are such as a call writes. Else it changes nothing, and says so.
 #[inline]
-pub(crate) fn push_behind_last(
-    links: &mut RawTable<'_, RawTwo>,
+pub(crate) fn push_after_last<W: ListWords>(
+    links: &mut RawTable<'_, W>,
     list: &mut List,
     place: Option<Place>,
 ) -> bool
-    ensures inserted { (s : List Place) (p : Place) → result ≡ true → Shows (lent_table links.old) list.old (join (at_back s)) → place ≡ Some p
-        → Inserts Shows (lent_table links.old) (lent_table links.new) list.new (at_back s) p }
+    ensures inserted { (s : List Place) (p : Place) → result ≡ true → Represents W.PrevPlace (lent_table W.PrevPlace links.old) list.old (join (at_back s)) → place ≡ Some p
+        → Inserts (Represents W.PrevPlace) (lent_table W.PrevPlace links.old) (lent_table W.PrevPlace links.new) list.new (at_back s) p }
     ensures head { result ≡ true → list.new.head ≡ list.old.head }
-    ensures free { result ≡ true → (p : Place) × (place ≡ Some p) × IsFree is_linked_two (lent_table links.old) p }
-    ensures told { result ≡ true → TellsGap Before (lent_table links.old) list.old None }
-    ensures own { result ≡ true → PutIn (gap_from Before (lent_table links.old) list.old None) place list.old list.new }
-    ensures touched { (p : Place) → result ≡ true → place ≡ Some p → Touches is_linked_two (lent_table links.old) (lent_table links.new)
-        (acquires p ∷ []) (Some p ∷ sides (gap_from Before (lent_table links.old) list.old None)) }
+    ensures free { result ≡ true → (p : Place) × (place ≡ Some p) × IsFree W.is_linked (lent_table W.PrevPlace links.old) p }
+    ensures links_back { result ≡ true → TellsGap W.PrevPlace Before (lent_table W.PrevPlace links.old) list.old None }
+    ensures own { result ≡ true → PutIn (gap_from W.PrevPlace Before (lent_table W.PrevPlace links.old) list.old None) place list.old list.new }
+    ensures touched { (p : Place) → result ≡ true → place ≡ Some p → Touches W.is_linked (lent_table W.PrevPlace links.old) (lent_table W.PrevPlace links.new)
+        (acquires p ∷ []) (Some p ∷ sides (gap_from W.PrevPlace Before (lent_table W.PrevPlace links.old) list.old None)) }
     ensures refused { result ≡ false → (links.new ≡ links.old) × (list.new ≡ list.old) }
-    ensures extent { (lent_table links.new).extent ≡ (lent_table links.old).extent }
+    ensures extent { (lent_table W.PrevPlace links.new).extent ≡ (lent_table W.PrevPlace links.old).extent }
 {
     let Some(gap) = gap_at_end(&*links, &*list, Side::Before) else {
         return false;
@@ -275,33 +292,36 @@ pub(crate) fn push_behind_last(
     true
 }
 
-// Takes the first member off, where its words are such as a call writes, and a second is behind it. Else it changes nothing.
+// Takes the first member off, where its words are such as a call writes, and a second is after it. Else it changes nothing.
 #[inline]
-pub(crate) fn pop_before_second(links: &mut RawTable<'_, RawTwo>, list: &mut List) -> Option<Place>
-    ensures removed { (p q : Place) (s : List Place) → result ≡ Some q → Shows (lent_table links.old) list.old (p ∷ s)
-        → (q ≡ p) × Removes Shows (lent_table links.old) (lent_table links.new) list.new (before p [] s)
-        × IsUnlinked is_linked_two (lent_table links.new) p }
+pub(crate) fn pop_before_second<W: ListWords>(
+    links: &mut RawTable<'_, W>,
+    list: &mut List,
+) -> Option<Place>
+    ensures removed { (p q : Place) (s : List Place) → result ≡ Some q → Represents W.PrevPlace (lent_table W.PrevPlace links.old) list.old (p ∷ s)
+        → (q ≡ p) × Removes (Represents W.PrevPlace) (lent_table W.PrevPlace links.old) (lent_table W.PrevPlace links.new) list.new (before p [] s)
+        × IsUnlinked W.is_linked (lent_table W.PrevPlace links.new) p }
     ensures tail { (q : Place) → result ≡ Some q → list.new.tail ≡ list.old.tail }
     ensures first { (q : Place) → result ≡ Some q → list.old.head ≡ Some q }
-    ensures stands { (q : Place) → result ≡ Some q → Stands is_linked_two (lent_table links.old) (Some q) }
-    ensures outer { (q : Place) → result ≡ Some q → TellsGap After (lent_table links.old) list.old None }
-    ensures inner { (q : Place) → result ≡ Some q → TellsGap After (lent_table links.old) list.old (Some q) }
-    ensures own { (q : Place) → result ≡ Some q → TakenOut (around (lent_table links.old) list.old (Some q)) list.old list.new }
-    ensures touched { (q : Place) → result ≡ Some q → Touches is_linked_two (lent_table links.old) (lent_table links.new)
-        (releases q ∷ []) (Some q ∷ sides (around (lent_table links.old) list.old (Some q))) }
+    ensures stands { (q : Place) → result ≡ Some q → IsNoneOrLinked W.is_linked (lent_table W.PrevPlace links.old) (Some q) }
+    ensures outer { (q : Place) → result ≡ Some q → TellsGap W.PrevPlace After (lent_table W.PrevPlace links.old) list.old None }
+    ensures inner { (q : Place) → result ≡ Some q → TellsGap W.PrevPlace After (lent_table W.PrevPlace links.old) list.old (Some q) }
+    ensures own { (q : Place) → result ≡ Some q → TakenOut (around W.PrevPlace (lent_table W.PrevPlace links.old) list.old (Some q)) list.old list.new }
+    ensures touched { (q : Place) → result ≡ Some q → Touches W.is_linked (lent_table W.PrevPlace links.old) (lent_table W.PrevPlace links.new)
+        (releases q ∷ []) (Some q ∷ sides (around W.PrevPlace (lent_table W.PrevPlace links.old) list.old (Some q))) }
     ensures refused { result ≡ None → (links.new ≡ links.old) × (list.new ≡ list.old) }
-    ensures extent { (lent_table links.new).extent ≡ (lent_table links.old).extent }
+    ensures extent { (lent_table W.PrevPlace links.new).extent ≡ (lent_table W.PrevPlace links.old).extent }
 {
     let Some(first) = list.first() else {
         return None;
     };
-    if !is_behind(&*links, first, None) {
+    if !is_after(&*links, first, None) {
         return None;
     }
     let Some(second) = links.next(first) else {
         return None;
     };
-    if !is_behind(&*links, second, Some(first)) {
+    if !is_after(&*links, second, Some(first)) {
         return None;
     }
     list.bypass(links, None, first, Some(second));
@@ -311,22 +331,22 @@ pub(crate) fn pop_before_second(links: &mut RawTable<'_, RawTwo>, list: &mut Lis
 
 // Takes a member off that has one on both sides, where their words are such as a call writes. Else it changes nothing, and says so.
 #[inline]
-pub(crate) fn remove_between(
-    links: &mut RawTable<'_, RawTwo>,
+pub(crate) fn remove_between<W: ListWords>(
+    links: &mut RawTable<'_, W>,
     list: &mut List,
     member: Place,
 ) -> bool
-    ensures removed { (front back : List Place) → result ≡ true → Shows (lent_table links.old) list.old (front ++ member ∷ back)
-        → Removes Shows (lent_table links.old) (lent_table links.new) list.old (before member front back)
-        × IsUnlinked is_linked_two (lent_table links.new) member }
-    ensures stands { result ≡ true → Stands is_linked_two (lent_table links.old) (Some member) }
-    ensures before { result ≡ true → TellsGap Before (lent_table links.old) list.old (Some member) }
-    ensures behind { result ≡ true → TellsGap After (lent_table links.old) list.old (Some member) }
-    ensures own { result ≡ true → TakenOut (around (lent_table links.old) list.old (Some member)) list.old list.old }
-    ensures touched { result ≡ true → Touches is_linked_two (lent_table links.old) (lent_table links.new)
-        (releases member ∷ []) (Some member ∷ sides (around (lent_table links.old) list.old (Some member))) }
+    ensures removed { (front back : List Place) → result ≡ true → Represents W.PrevPlace (lent_table W.PrevPlace links.old) list.old (front ++ member ∷ back)
+        → Removes (Represents W.PrevPlace) (lent_table W.PrevPlace links.old) (lent_table W.PrevPlace links.new) list.old (before member front back)
+        × IsUnlinked W.is_linked (lent_table W.PrevPlace links.new) member }
+    ensures stands { result ≡ true → IsNoneOrLinked W.is_linked (lent_table W.PrevPlace links.old) (Some member) }
+    ensures before { result ≡ true → TellsGap W.PrevPlace Before (lent_table W.PrevPlace links.old) list.old (Some member) }
+    ensures behind { result ≡ true → TellsGap W.PrevPlace After (lent_table W.PrevPlace links.old) list.old (Some member) }
+    ensures own { result ≡ true → TakenOut (around W.PrevPlace (lent_table W.PrevPlace links.old) list.old (Some member)) list.old list.old }
+    ensures touched { result ≡ true → Touches W.is_linked (lent_table W.PrevPlace links.old) (lent_table W.PrevPlace links.new)
+        (releases member ∷ []) (Some member ∷ sides (around W.PrevPlace (lent_table W.PrevPlace links.old) list.old (Some member))) }
     ensures refused { result ≡ false → links.new ≡ links.old }
-    ensures extent { (lent_table links.new).extent ≡ (lent_table links.old).extent }
+    ensures extent { (lent_table W.PrevPlace links.new).extent ≡ (lent_table W.PrevPlace links.old).extent }
 {
     let Some(gap) = between(&*links, member) else {
         return false;
@@ -338,24 +358,24 @@ pub(crate) fn remove_between(
 
 // Puts the place into the gap beside another one, and says whether it could.
 #[inline]
-pub(crate) fn insert(
-    links: &mut RawTable<'_, RawTwo>,
+pub(crate) fn insert<W: ListWords>(
+    links: &mut RawTable<'_, W>,
     list: &mut List,
     side: Side,
     at: Option<Place>,
     place: Option<Place>,
 ) -> bool
-    ensures inserted { (cut : Cut) (p : Place) → Shows (lent_table links.old) list.old (join cut) → IsBeside side cut at → place ≡ Some p
-        → IsFree is_linked_two (lent_table links.old) p
-        → (result ≡ true) × Inserts Shows (lent_table links.old) (lent_table links.new) list.new cut p }
-    ensures free { result ≡ true → (p : Place) × (place ≡ Some p) × IsFree is_linked_two (lent_table links.old) p }
-    ensures stands { result ≡ true → Stands is_linked_two (lent_table links.old) at }
-    ensures told { result ≡ true → TellsGap side (lent_table links.old) list.old at }
-    ensures own { result ≡ true → PutIn (gap_from side (lent_table links.old) list.old at) place list.old list.new }
-    ensures touched { (p : Place) → result ≡ true → place ≡ Some p → Touches is_linked_two (lent_table links.old) (lent_table links.new)
-        (acquires p ∷ []) (Some p ∷ sides (gap_from side (lent_table links.old) list.old at)) }
+    ensures inserted { (cut : Cut) (p : Place) → Represents W.PrevPlace (lent_table W.PrevPlace links.old) list.old (join cut) → IsBeside side cut at → place ≡ Some p
+        → IsFree W.is_linked (lent_table W.PrevPlace links.old) p
+        → (result ≡ true) × Inserts (Represents W.PrevPlace) (lent_table W.PrevPlace links.old) (lent_table W.PrevPlace links.new) list.new cut p }
+    ensures free { result ≡ true → (p : Place) × (place ≡ Some p) × IsFree W.is_linked (lent_table W.PrevPlace links.old) p }
+    ensures stands { result ≡ true → IsNoneOrLinked W.is_linked (lent_table W.PrevPlace links.old) at }
+    ensures links_back { result ≡ true → TellsGap W.PrevPlace side (lent_table W.PrevPlace links.old) list.old at }
+    ensures own { result ≡ true → PutIn (gap_from W.PrevPlace side (lent_table W.PrevPlace links.old) list.old at) place list.old list.new }
+    ensures touched { (p : Place) → result ≡ true → place ≡ Some p → Touches W.is_linked (lent_table W.PrevPlace links.old) (lent_table W.PrevPlace links.new)
+        (acquires p ∷ []) (Some p ∷ sides (gap_from W.PrevPlace side (lent_table W.PrevPlace links.old) list.old at)) }
     ensures refused { result ≡ false → (links.new ≡ links.old) × (list.new ≡ list.old) }
-    ensures extent { (lent_table links.new).extent ≡ (lent_table links.old).extent }
+    ensures extent { (lent_table W.PrevPlace links.new).extent ≡ (lent_table W.PrevPlace links.old).extent }
 {
     let Some(gap) = gap_at(&*links, &*list, side, at) else {
         return false;
@@ -369,18 +389,22 @@ pub(crate) fn insert(
 
 // Takes the member off, and says whether it could.
 #[inline]
-pub(crate) fn remove(links: &mut RawTable<'_, RawTwo>, list: &mut List, member: Place) -> bool
-    ensures removed { (front back : List Place) → Shows (lent_table links.old) list.old (front ++ member ∷ back)
-        → (result ≡ true) × Removes Shows (lent_table links.old) (lent_table links.new) list.new (before member front back)
-        × IsUnlinked is_linked_two (lent_table links.new) member }
-    ensures stands { result ≡ true → Stands is_linked_two (lent_table links.old) (Some member) }
-    ensures before { result ≡ true → TellsGap Before (lent_table links.old) list.old (Some member) }
-    ensures behind { result ≡ true → TellsGap After (lent_table links.old) list.old (Some member) }
-    ensures own { result ≡ true → TakenOut (around (lent_table links.old) list.old (Some member)) list.old list.new }
-    ensures touched { result ≡ true → Touches is_linked_two (lent_table links.old) (lent_table links.new)
-        (releases member ∷ []) (Some member ∷ sides (around (lent_table links.old) list.old (Some member))) }
+pub(crate) fn remove<W: ListWords>(
+    links: &mut RawTable<'_, W>,
+    list: &mut List,
+    member: Place,
+) -> bool
+    ensures removed { (front back : List Place) → Represents W.PrevPlace (lent_table W.PrevPlace links.old) list.old (front ++ member ∷ back)
+        → (result ≡ true) × Removes (Represents W.PrevPlace) (lent_table W.PrevPlace links.old) (lent_table W.PrevPlace links.new) list.new (before member front back)
+        × IsUnlinked W.is_linked (lent_table W.PrevPlace links.new) member }
+    ensures stands { result ≡ true → IsNoneOrLinked W.is_linked (lent_table W.PrevPlace links.old) (Some member) }
+    ensures before { result ≡ true → TellsGap W.PrevPlace Before (lent_table W.PrevPlace links.old) list.old (Some member) }
+    ensures behind { result ≡ true → TellsGap W.PrevPlace After (lent_table W.PrevPlace links.old) list.old (Some member) }
+    ensures own { result ≡ true → TakenOut (around W.PrevPlace (lent_table W.PrevPlace links.old) list.old (Some member)) list.old list.new }
+    ensures touched { result ≡ true → Touches W.is_linked (lent_table W.PrevPlace links.old) (lent_table W.PrevPlace links.new)
+        (releases member ∷ []) (Some member ∷ sides (around W.PrevPlace (lent_table W.PrevPlace links.old) list.old (Some member))) }
     ensures refused { result ≡ false → (links.new ≡ links.old) × (list.new ≡ list.old) }
-    ensures extent { (lent_table links.new).extent ≡ (lent_table links.old).extent }
+    ensures extent { (lent_table W.PrevPlace links.new).extent ≡ (lent_table W.PrevPlace links.old).extent }
 {
     let Some(gap) = beside(&*links, &*list, Some(member)) else {
         return false;
@@ -392,12 +416,16 @@ pub(crate) fn remove(links: &mut RawTable<'_, RawTwo>, list: &mut List, member: 
 
 // The gap beside a member that has another one on its other side, where their words are such as a call writes. Else none.
 #[inline(always)]
-pub(crate) fn gap_inside(links: &RawTable<'_, RawTwo>, side: Side, at: Option<Place>) -> Option<Gap>
-    ensures at { (gap : Gap) → result ≡ Some gap → Stands is_linked_two (lent_table links.now) at }
-    ensures stands { (gap : Gap) → result ≡ Some gap → StandBeside is_linked_two (lent_table links.now) gap }
-    ensures told { (gap : Gap) (list : Ends) → result ≡ Some gap → TellsGap side (lent_table links.now) list at }
-    ensures sides { (gap : Gap) (list : Ends) → result ≡ Some gap → gap ≡ gap_from side (lent_table links.now) list at }
-    ensures shown { (gap : Gap) (list : Ends) (cut : Cut) → result ≡ Some gap → Shows (lent_table links.now) list (join cut)
+pub(crate) fn gap_inside<W: ListWords>(
+    links: &RawTable<'_, W>,
+    side: Side,
+    at: Option<Place>,
+) -> Option<Gap>
+    ensures at { (gap : Gap) → result ≡ Some gap → IsNoneOrLinked W.is_linked (lent_table W.PrevPlace links.now) at }
+    ensures stands { (gap : Gap) → result ≡ Some gap → StandBeside W.is_linked (lent_table W.PrevPlace links.now) gap }
+    ensures links_back { (gap : Gap) (list : Ends) → result ≡ Some gap → TellsGap W.PrevPlace side (lent_table W.PrevPlace links.now) list at }
+    ensures sides { (gap : Gap) (list : Ends) → result ≡ Some gap → gap ≡ gap_from W.PrevPlace side (lent_table W.PrevPlace links.now) list at }
+    ensures shown { (gap : Gap) (list : Ends) (cut : Cut) → result ≡ Some gap → Represents W.PrevPlace (lent_table W.PrevPlace links.now) list (join cut)
         → IsBeside side cut at → gap ≡ gap_of cut }
 {
     let Some(at) = at else {
@@ -411,7 +439,7 @@ pub(crate) fn gap_inside(links: &RawTable<'_, RawTwo>, side: Side, at: Option<Pl
             let Some(behind) = links.next(at) else {
                 return None;
             };
-            if !is_behind(links, behind, Some(at)) {
+            if !is_after(links, behind, Some(at)) {
                 return None;
             }
             Some(Gap {
@@ -434,18 +462,18 @@ pub(crate) fn gap_inside(links: &RawTable<'_, RawTwo>, side: Side, at: Option<Pl
     }
 }
 
-// The member at an end, which the outermost gap on this side of none is in front of, and the places on both sides of it. None where
+// The member at an end, which the outermost gap on this side of none is before, and the places on both sides of it. None where
 // the words tell of none.
 #[inline]
-fn end_at(links: &RawTable<'_, RawTwo>, list: &List, side: Side) -> Option<(Place, Gap)>
-    ensures shown { (front back : List Place) (p : Place) → Shows (lent_table links.now) list.now (front ++ p ∷ back)
+fn end_at<W: ListWords>(links: &RawTable<'_, W>, list: &List, side: Side) -> Option<(Place, Gap)>
+    ensures shown { (front back : List Place) (p : Place) → Represents W.PrevPlace (lent_table W.PrevPlace links.now) list.now (front ++ p ∷ back)
         → IsEnd side front back → result ≡ Some (p, gap_of (record { front = front; back = back })) }
     ensures end { (p : Place) (gap : Gap) → result ≡ Some (p, gap) → end_on side list.now ≡ Some p }
-    ensures stands { (p : Place) (gap : Gap) → result ≡ Some (p, gap) → Stands is_linked_two (lent_table links.now) (Some p) }
-    ensures beside { (p : Place) (gap : Gap) → result ≡ Some (p, gap) → StandBeside is_linked_two (lent_table links.now) gap }
-    ensures outer { (p : Place) (gap : Gap) → result ≡ Some (p, gap) → TellsGap side (lent_table links.now) list.now None }
-    ensures inner { (p : Place) (gap : Gap) → result ≡ Some (p, gap) → TellsGap side (lent_table links.now) list.now (Some p) }
-    ensures sides { (p : Place) (gap : Gap) → result ≡ Some (p, gap) → gap ≡ around (lent_table links.now) list.now (Some p) }
+    ensures stands { (p : Place) (gap : Gap) → result ≡ Some (p, gap) → IsNoneOrLinked W.is_linked (lent_table W.PrevPlace links.now) (Some p) }
+    ensures beside { (p : Place) (gap : Gap) → result ≡ Some (p, gap) → StandBeside W.is_linked (lent_table W.PrevPlace links.now) gap }
+    ensures outer { (p : Place) (gap : Gap) → result ≡ Some (p, gap) → TellsGap W.PrevPlace side (lent_table W.PrevPlace links.now) list.now None }
+    ensures inner { (p : Place) (gap : Gap) → result ≡ Some (p, gap) → TellsGap W.PrevPlace side (lent_table W.PrevPlace links.now) list.now (Some p) }
+    ensures sides { (p : Place) (gap : Gap) → result ≡ Some (p, gap) → gap ≡ around W.PrevPlace (lent_table W.PrevPlace links.now) list.now (Some p) }
 {
     match side {
         Side::After => {
@@ -489,20 +517,24 @@ fn end_at(links: &RawTable<'_, RawTwo>, list: &List, side: Side) -> Option<(Plac
 
 // Takes the member at an end off, and gives it.
 #[inline]
-pub(crate) fn pop(links: &mut RawTable<'_, RawTwo>, list: &mut List, side: Side) -> Option<Place>
-    ensures popped { (front back : List Place) (p : Place) → Shows (lent_table links.old) list.old (front ++ p ∷ back)
+pub(crate) fn pop<W: ListWords>(
+    links: &mut RawTable<'_, W>,
+    list: &mut List,
+    side: Side,
+) -> Option<Place>
+    ensures popped { (front back : List Place) (p : Place) → Represents W.PrevPlace (lent_table W.PrevPlace links.old) list.old (front ++ p ∷ back)
         → IsEnd side front back → (result ≡ Some p)
-        × Removes Shows (lent_table links.old) (lent_table links.new) list.new (before p front back)
-        × IsUnlinked is_linked_two (lent_table links.new) p }
+        × Removes (Represents W.PrevPlace) (lent_table W.PrevPlace links.old) (lent_table W.PrevPlace links.new) list.new (before p front back)
+        × IsUnlinked W.is_linked (lent_table W.PrevPlace links.new) p }
     ensures end { (p : Place) → result ≡ Some p → end_on side list.old ≡ Some p }
-    ensures stands { (p : Place) → result ≡ Some p → Stands is_linked_two (lent_table links.old) (Some p) }
-    ensures outer { (p : Place) → result ≡ Some p → TellsGap side (lent_table links.old) list.old None }
-    ensures inner { (p : Place) → result ≡ Some p → TellsGap side (lent_table links.old) list.old (Some p) }
-    ensures own { (p : Place) → result ≡ Some p → TakenOut (around (lent_table links.old) list.old (Some p)) list.old list.new }
-    ensures touched { (p : Place) → result ≡ Some p → Touches is_linked_two (lent_table links.old) (lent_table links.new)
-        (releases p ∷ []) (Some p ∷ sides (around (lent_table links.old) list.old (Some p))) }
+    ensures stands { (p : Place) → result ≡ Some p → IsNoneOrLinked W.is_linked (lent_table W.PrevPlace links.old) (Some p) }
+    ensures outer { (p : Place) → result ≡ Some p → TellsGap W.PrevPlace side (lent_table W.PrevPlace links.old) list.old None }
+    ensures inner { (p : Place) → result ≡ Some p → TellsGap W.PrevPlace side (lent_table W.PrevPlace links.old) list.old (Some p) }
+    ensures own { (p : Place) → result ≡ Some p → TakenOut (around W.PrevPlace (lent_table W.PrevPlace links.old) list.old (Some p)) list.old list.new }
+    ensures touched { (p : Place) → result ≡ Some p → Touches W.is_linked (lent_table W.PrevPlace links.old) (lent_table W.PrevPlace links.new)
+        (releases p ∷ []) (Some p ∷ sides (around W.PrevPlace (lent_table W.PrevPlace links.old) list.old (Some p))) }
     ensures refused { result ≡ None → (links.new ≡ links.old) × (list.new ≡ list.old) }
-    ensures extent { (lent_table links.new).extent ≡ (lent_table links.old).extent }
+    ensures extent { (lent_table W.PrevPlace links.new).extent ≡ (lent_table W.PrevPlace links.old).extent }
 {
     let Some((member, gap)) = end_at(&*links, &*list, side) else {
         return None;
@@ -514,25 +546,25 @@ pub(crate) fn pop(links: &mut RawTable<'_, RawTwo>, list: &mut List, side: Side)
 
 // Puts the place where the member is, which is unlinked then, and says whether it could.
 #[inline]
-pub(crate) fn replace(
-    links: &mut RawTable<'_, RawTwo>,
+pub(crate) fn replace<W: ListWords>(
+    links: &mut RawTable<'_, W>,
     list: &mut List,
     member: Place,
     place: Option<Place>,
 ) -> bool
-    ensures replaced { (front back : List Place) (p : Place) → Shows (lent_table links.old) list.old (front ++ member ∷ back)
-        → place ≡ Some p → IsFree is_linked_two (lent_table links.old) p
-        → (result ≡ true) × Replaces Shows (lent_table links.old) (lent_table links.new) list.new (before member front back) p
-        × IsUnlinked is_linked_two (lent_table links.new) member }
-    ensures free { result ≡ true → (p : Place) × (place ≡ Some p) × IsFree is_linked_two (lent_table links.old) p }
-    ensures stands { result ≡ true → Stands is_linked_two (lent_table links.old) (Some member) }
-    ensures before { result ≡ true → TellsGap Before (lent_table links.old) list.old (Some member) }
-    ensures behind { result ≡ true → TellsGap After (lent_table links.old) list.old (Some member) }
-    ensures own { result ≡ true → PutIn (around (lent_table links.old) list.old (Some member)) place list.old list.new }
-    ensures touched { (p : Place) → result ≡ true → place ≡ Some p → Touches is_linked_two (lent_table links.old) (lent_table links.new)
-        (acquires p ∷ releases member ∷ []) (Some p ∷ Some member ∷ sides (around (lent_table links.old) list.old (Some member))) }
+    ensures replaced { (front back : List Place) (p : Place) → Represents W.PrevPlace (lent_table W.PrevPlace links.old) list.old (front ++ member ∷ back)
+        → place ≡ Some p → IsFree W.is_linked (lent_table W.PrevPlace links.old) p
+        → (result ≡ true) × Replaces (Represents W.PrevPlace) (lent_table W.PrevPlace links.old) (lent_table W.PrevPlace links.new) list.new (before member front back) p
+        × IsUnlinked W.is_linked (lent_table W.PrevPlace links.new) member }
+    ensures free { result ≡ true → (p : Place) × (place ≡ Some p) × IsFree W.is_linked (lent_table W.PrevPlace links.old) p }
+    ensures stands { result ≡ true → IsNoneOrLinked W.is_linked (lent_table W.PrevPlace links.old) (Some member) }
+    ensures before { result ≡ true → TellsGap W.PrevPlace Before (lent_table W.PrevPlace links.old) list.old (Some member) }
+    ensures behind { result ≡ true → TellsGap W.PrevPlace After (lent_table W.PrevPlace links.old) list.old (Some member) }
+    ensures own { result ≡ true → PutIn (around W.PrevPlace (lent_table W.PrevPlace links.old) list.old (Some member)) place list.old list.new }
+    ensures touched { (p : Place) → result ≡ true → place ≡ Some p → Touches W.is_linked (lent_table W.PrevPlace links.old) (lent_table W.PrevPlace links.new)
+        (acquires p ∷ releases member ∷ []) (Some p ∷ Some member ∷ sides (around W.PrevPlace (lent_table W.PrevPlace links.old) list.old (Some member))) }
     ensures refused { result ≡ false → (links.new ≡ links.old) × (list.new ≡ list.old) }
-    ensures extent { (lent_table links.new).extent ≡ (lent_table links.old).extent }
+    ensures extent { (lent_table W.PrevPlace links.new).extent ≡ (lent_table W.PrevPlace links.old).extent }
 {
     let Some(gap) = beside(&*links, &*list, Some(member)) else {
         return false;
@@ -547,26 +579,26 @@ pub(crate) fn replace(
 
 // Puts all of the given list into the gap beside a place, and says whether it could.
 #[inline]
-pub(crate) fn splice(
-    links: &mut RawTable<'_, RawTwo>,
+pub(crate) fn splice<W: ListWords>(
+    links: &mut RawTable<'_, W>,
     list: &mut List,
     side: Side,
     at: Option<Place>,
     given: List,
 ) -> bool
-    ensures spliced { (cut : Cut) (t : List Place) → Shows (lent_table links.old) list.old (join cut) → IsBeside side cut at
-        → Shows (lent_table links.old) given t → IsDisjoint t (join cut)
-        → (result ≡ true) × Splices Shows (lent_table links.old) (lent_table links.new) list.new cut t }
-    ensures stands { result ≡ true → Stands is_linked_two (lent_table links.old) at }
-    ensures told { result ≡ true → TellsGap side (lent_table links.old) list.old at }
-    ensures front { result ≡ true → TellsGap After (lent_table links.old) given None }
-    ensures back { result ≡ true → TellsGap Before (lent_table links.old) given None }
+    ensures spliced { (cut : Cut) (t : List Place) → Represents W.PrevPlace (lent_table W.PrevPlace links.old) list.old (join cut) → IsBeside side cut at
+        → Represents W.PrevPlace (lent_table W.PrevPlace links.old) given t → IsDisjoint t (join cut)
+        → (result ≡ true) × Splices (Represents W.PrevPlace) (lent_table W.PrevPlace links.old) (lent_table W.PrevPlace links.new) list.new cut t }
+    ensures stands { result ≡ true → IsNoneOrLinked W.is_linked (lent_table W.PrevPlace links.old) at }
+    ensures links_back { result ≡ true → TellsGap W.PrevPlace side (lent_table W.PrevPlace links.old) list.old at }
+    ensures front { result ≡ true → TellsGap W.PrevPlace After (lent_table W.PrevPlace links.old) given None }
+    ensures back { result ≡ true → TellsGap W.PrevPlace Before (lent_table W.PrevPlace links.old) given None }
     ensures apart { result ≡ true → (p : Place) → given.head ≡ Some p → list.old.head ≢ Some p }
-    ensures touched { result ≡ true → Touches is_linked_two (lent_table links.old) (lent_table links.new) []
-        (sides (gap_from side (lent_table links.old) list.old at) ++ given.head ∷ given.tail ∷ []) }
-    ensures own { result ≡ true → AllPutIn (gap_from side (lent_table links.old) list.old at) given list.old list.new }
+    ensures touched { result ≡ true → Touches W.is_linked (lent_table W.PrevPlace links.old) (lent_table W.PrevPlace links.new) []
+        (sides (gap_from W.PrevPlace side (lent_table W.PrevPlace links.old) list.old at) ++ given.head ∷ given.tail ∷ []) }
+    ensures own { result ≡ true → AllPutIn (gap_from W.PrevPlace side (lent_table W.PrevPlace links.old) list.old at) given list.old list.new }
     ensures refused { result ≡ false → (links.new ≡ links.old) × (list.new ≡ list.old) }
-    ensures extent { (lent_table links.new).extent ≡ (lent_table links.old).extent }
+    ensures extent { (lent_table W.PrevPlace links.new).extent ≡ (lent_table W.PrevPlace links.old).extent }
 {
     let Some(gap) = gap_at(&*links, &*list, side, at) else {
         return false;
@@ -584,26 +616,26 @@ pub(crate) fn splice(
 // Puts all of the given list at none into the outermost gap on this side of it, where both lists have members, and the words of their ends
 // are such as a call writes. Else it changes nothing, and says so.
 #[inline(always)]
-pub(crate) fn splice_at_end(
-    links: &mut RawTable<'_, RawTwo>,
+pub(crate) fn splice_at_end<W: ListWords>(
+    links: &mut RawTable<'_, W>,
     list: &mut List,
     side: Side,
     at: Option<Place>,
     given: List,
 ) -> bool
-    ensures spliced { (cut : Cut) (t : List Place) → result ≡ true → Shows (lent_table links.old) list.old (join cut) → IsBeside side cut at
-        → Shows (lent_table links.old) given t → IsDisjoint t (join cut)
-        → Splices Shows (lent_table links.old) (lent_table links.new) list.new cut t }
+    ensures spliced { (cut : Cut) (t : List Place) → result ≡ true → Represents W.PrevPlace (lent_table W.PrevPlace links.old) list.old (join cut) → IsBeside side cut at
+        → Represents W.PrevPlace (lent_table W.PrevPlace links.old) given t → IsDisjoint t (join cut)
+        → Splices (Represents W.PrevPlace) (lent_table W.PrevPlace links.old) (lent_table W.PrevPlace links.new) list.new cut t }
     ensures none { result ≡ true → at ≡ None }
-    ensures told { result ≡ true → TellsGap side (lent_table links.old) list.old None }
-    ensures front { result ≡ true → TellsGap After (lent_table links.old) given None }
-    ensures back { result ≡ true → TellsGap Before (lent_table links.old) given None }
+    ensures links_back { result ≡ true → TellsGap W.PrevPlace side (lent_table W.PrevPlace links.old) list.old None }
+    ensures front { result ≡ true → TellsGap W.PrevPlace After (lent_table W.PrevPlace links.old) given None }
+    ensures back { result ≡ true → TellsGap W.PrevPlace Before (lent_table W.PrevPlace links.old) given None }
     ensures apart { result ≡ true → (p : Place) → given.head ≡ Some p → list.old.head ≢ Some p }
-    ensures touched { result ≡ true → Touches is_linked_two (lent_table links.old) (lent_table links.new) []
-        (sides (gap_from side (lent_table links.old) list.old None) ++ given.head ∷ given.tail ∷ []) }
-    ensures own { result ≡ true → AllPutIn (gap_from side (lent_table links.old) list.old None) given list.old list.new }
+    ensures touched { result ≡ true → Touches W.is_linked (lent_table W.PrevPlace links.old) (lent_table W.PrevPlace links.new) []
+        (sides (gap_from W.PrevPlace side (lent_table W.PrevPlace links.old) list.old None) ++ given.head ∷ given.tail ∷ []) }
+    ensures own { result ≡ true → AllPutIn (gap_from W.PrevPlace side (lent_table W.PrevPlace links.old) list.old None) given list.old list.new }
     ensures refused { result ≡ false → (links.new ≡ links.old) × (list.new ≡ list.old) }
-    ensures extent { (lent_table links.new).extent ≡ (lent_table links.old).extent }
+    ensures extent { (lent_table W.PrevPlace links.new).extent ≡ (lent_table W.PrevPlace links.old).extent }
 {
     if at.is_some() {
         return false;
@@ -626,13 +658,18 @@ pub(crate) fn splice_at_end(
 
 // Cuts the list at a gap, and gives the part that is on this side of it. The list keeps the other.
 #[inline]
-pub(crate) fn split(links: &mut RawTable<'_, RawTwo>, list: &mut List, side: Side, gap: Gap) -> List
-    requires gap { StandBeside is_linked_two (lent_table links.old) gap }
-    ensures split { (cut : Cut) → Shows (lent_table links.old) list.old (join cut) → gap ≡ gap_of cut
-        → SplitsBeside side (lent_table links.old) (lent_table links.new) list.new result cut }
-    ensures touched { Touches is_linked_two (lent_table links.old) (lent_table links.new) [] (sides gap) }
+pub(crate) fn split<W: ListWords>(
+    links: &mut RawTable<'_, W>,
+    list: &mut List,
+    side: Side,
+    gap: Gap,
+) -> List
+    requires gap { StandBeside W.is_linked (lent_table W.PrevPlace links.old) gap }
+    ensures split { (cut : Cut) → Represents W.PrevPlace (lent_table W.PrevPlace links.old) list.old (join cut) → gap ≡ gap_of cut
+        → SplitsBeside W.PrevPlace side (lent_table W.PrevPlace links.old) (lent_table W.PrevPlace links.new) list.new result cut }
+    ensures touched { Touches W.is_linked (lent_table W.PrevPlace links.old) (lent_table W.PrevPlace links.new) [] (sides gap) }
     ensures own { IsCutBeside side gap list.old list.new result }
-    ensures extent { (lent_table links.new).extent ≡ (lent_table links.old).extent }
+    ensures extent { (lent_table W.PrevPlace links.new).extent ≡ (lent_table W.PrevPlace links.old).extent }
 {
     let back = list.split_between(links, gap.before, gap.behind);
     match side {

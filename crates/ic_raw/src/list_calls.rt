@@ -16,7 +16,7 @@ use crate::gap::Side;
 use crate::number::{number_of, place_in, place_of};
 use crate::status::{BROKEN, NONE, NULL, OK};
 use crate::table::RawTable;
-use crate::words::{RawEnds, RawTwo};
+use crate::words::{ListWords, RawEnds};
 use crate::{list, whole};
 use ic_linked_list::LinkedList;
 use ic_unsafe_ref::Place;
@@ -43,8 +43,14 @@ pub fn write_back(words: &mut RawEnds, list: list::List)
 /// The place has to be one of the table, and not linked. A refused edit leaves the words as they are, and returns the first fault of the two
 /// places, or else [`BROKEN`].
 #[inline]
-pub fn insert_at(table: &mut [RawTwo], list: &mut RawEnds, side: Side, at: u32, place: u32) -> u32
-    ensures { InsertCall table.old table.new list.old list.new result side (place_of at) (place_of place) }
+pub fn insert_at<W: ListWords>(
+    table: &mut [W],
+    list: &mut RawEnds,
+    side: Side,
+    at: u32,
+    place: u32,
+) -> u32
+    ensures { InsertCall W.PrevPlace table.old table.new list.old list.new result side (place_of at) (place_of place) }
 {
     let mut links = RawTable::new(table);
     let mut edited = list_of(&*list);
@@ -59,8 +65,8 @@ pub fn insert_at(table: &mut [RawTwo], list: &mut RawEnds, side: Side, at: u32, 
 ///
 /// Where there is none, it returns [`NULL`], and where the words tell of none, [`BROKEN`]. Then nothing is changed.
 #[inline]
-pub fn pop(table: &mut [RawTwo], list: &mut RawEnds, side: Side, popped: &mut u32) -> u32
-    ensures { PopCall table.old table.new list.old list.new result side popped.old popped.new }
+pub fn pop<W: ListWords>(table: &mut [W], list: &mut RawEnds, side: Side, popped: &mut u32) -> u32
+    ensures { PopCall W.PrevPlace table.old table.new list.old list.new result side popped.old popped.new }
 {
     let mut links = RawTable::new(table);
     let mut edited = list_of(&*list);
@@ -93,14 +99,14 @@ fn refusal_to_pop(list: &RawEnds, side: Side) -> u32
 // Puts all of the given list into the gap beside a place of any list, or says why not.
 #[cold]
 #[inline(never)]
-fn splice_any(
-    table: &mut [RawTwo],
+fn splice_slow<W: ListWords>(
+    table: &mut [W],
     list: &mut RawEnds,
     at: u32,
     given: &mut RawEnds,
     side: Side,
 ) -> u32
-    ensures { SpliceCall table.old table.new list.old list.new result side (place_of at) given.old given.new }
+    ensures { SpliceCall W.PrevPlace table.old table.new list.old list.new result side (place_of at) given.old given.new }
 {
     let mut links = RawTable::new(table);
     let mut edited = list_of(&*list);
@@ -119,14 +125,14 @@ fn splice_any(
 /// A refused edit leaves all as it is, and returns the fault of the member, or else [`BROKEN`], as for a list that begins with the same
 /// member.
 #[inline(always)]
-pub fn splice_at(
-    table: &mut [RawTwo],
+pub fn splice_at<W: ListWords>(
+    table: &mut [W],
     list: &mut RawEnds,
     at: u32,
     given: &mut RawEnds,
     side: Side,
 ) -> u32
-    ensures { SpliceCall table.old table.new list.old list.new result side (place_of at) given.old given.new }
+    ensures { SpliceCall W.PrevPlace table.old table.new list.old list.new result side (place_of at) given.old given.new }
 {
     let mut links = RawTable::new(table);
     let mut edited = list_of(&*list);
@@ -136,20 +142,20 @@ pub fn splice_at(
         given.set(None, None);
         return OK;
     }
-    splice_any(links.entries, list, at, given, side)
+    splice_slow(links.entries, list, at, given, side)
 }
 
 // Cuts any list at the gap beside a place, and hands out the part on that side of it, or says why not.
 #[cold]
 #[inline(never)]
-fn split_any(
-    table: &mut [RawTwo],
+fn split_slow<W: ListWords>(
+    table: &mut [W],
     list: &mut RawEnds,
     at: u32,
     rest: &mut RawEnds,
     side: Side,
 ) -> u32
-    ensures { SplitCall table.old table.new list.old list.new result side (place_of at) rest.old rest.new }
+    ensures { SplitCall W.PrevPlace table.old table.new list.old list.new result side (place_of at) rest.old rest.new }
 {
     let mut links = RawTable::new(table);
     let mut edited = list_of(&*list);
@@ -169,14 +175,14 @@ fn split_any(
 ///
 /// A refused edit leaves all as it is, and returns the fault of the member, or else [`BROKEN`], as where `rest` is not empty.
 #[inline(always)]
-pub fn split_at(
-    table: &mut [RawTwo],
+pub fn split_at<W: ListWords>(
+    table: &mut [W],
     list: &mut RawEnds,
     at: u32,
     rest: &mut RawEnds,
     side: Side,
 ) -> u32
-    ensures { SplitCall table.old table.new list.old list.new result side (place_of at) rest.old rest.new }
+    ensures { SplitCall W.PrevPlace table.old table.new list.old list.new result side (place_of at) rest.old rest.new }
 {
     let mut links = RawTable::new(table);
     let mut edited = list_of(&*list);
@@ -188,47 +194,47 @@ pub fn split_at(
             return OK;
         }
     }
-    split_any(links.entries, list, at, rest, side)
+    split_slow(links.entries, list, at, rest, side)
 }
 
-// Puts a place behind all members of any list, or says why not.
+// Puts a place after all members of any list, or says why not.
 #[cold]
 #[inline(never)]
-fn push_back_any(table: &mut [RawTwo], list: &mut RawEnds, place: u32) -> u32
-    ensures { InsertCall table.old table.new list.old list.new result Before None (place_of place) }
+fn push_back_slow<W: ListWords>(table: &mut [W], list: &mut RawEnds, place: u32) -> u32
+    ensures { InsertCall W.PrevPlace table.old table.new list.old list.new result Before None (place_of place) }
 {
     insert_at(table, list, Side::Before, NONE, place)
 }
 
-/// Puts a place behind all members. O(1).
+/// Puts a place after all members. O(1).
 ///
 /// The place has to be one of the table, and not linked.
 #[inline]
-pub fn push_back(table: &mut [RawTwo], list: &mut RawEnds, place: u32) -> u32
-    ensures { InsertCall table.old table.new list.old list.new result Before None (place_of place) }
+pub fn push_back<W: ListWords>(table: &mut [W], list: &mut RawEnds, place: u32) -> u32
+    ensures { InsertCall W.PrevPlace table.old table.new list.old list.new result Before None (place_of place) }
 {
     let mut links = RawTable::new(table);
     let mut edited = list_of(&*list);
-    if list::push_behind_last(&mut links, &mut edited, place_of(place)) {
+    if list::push_after_last(&mut links, &mut edited, place_of(place)) {
         list.set_last(edited.last());
         return OK;
     }
-    push_back_any(links.entries, list, place)
+    push_back_slow(links.entries, list, place)
 }
 
 // Takes the first member off any list, or says why not.
 #[cold]
 #[inline(never)]
-fn pop_front_any(table: &mut [RawTwo], list: &mut RawEnds, popped: &mut u32) -> u32
-    ensures { PopCall table.old table.new list.old list.new result After popped.old popped.new }
+fn pop_front_slow<W: ListWords>(table: &mut [W], list: &mut RawEnds, popped: &mut u32) -> u32
+    ensures { PopCall W.PrevPlace table.old table.new list.old list.new result After popped.old popped.new }
 {
     pop(table, list, Side::After, popped)
 }
 
 /// Takes the first member off and hands it out, or returns [`NULL`] where there is none. O(1).
 #[inline]
-pub fn pop_front(table: &mut [RawTwo], list: &mut RawEnds, popped: &mut u32) -> u32
-    ensures { PopCall table.old table.new list.old list.new result After popped.old popped.new }
+pub fn pop_front<W: ListWords>(table: &mut [W], list: &mut RawEnds, popped: &mut u32) -> u32
+    ensures { PopCall W.PrevPlace table.old table.new list.old list.new result After popped.old popped.new }
 {
     let mut links = RawTable::new(table);
     let mut edited = list_of(&*list);
@@ -237,14 +243,14 @@ pub fn pop_front(table: &mut [RawTwo], list: &mut RawEnds, popped: &mut u32) -> 
         *popped = number_of(first);
         return OK;
     }
-    pop_front_any(links.entries, list, popped)
+    pop_front_slow(links.entries, list, popped)
 }
 
 // Takes any member off, or says why not.
 #[cold]
 #[inline(never)]
-fn remove_any(table: &mut [RawTwo], list: &mut RawEnds, at: u32) -> u32
-    ensures { RemoveCall table.old table.new list.old list.new result (place_of at) }
+fn remove_slow<W: ListWords>(table: &mut [W], list: &mut RawEnds, at: u32) -> u32
+    ensures { RemoveCall W.PrevPlace table.old table.new list.old list.new result (place_of at) }
 {
     let Some(member) = place_of(at) else {
         return NULL;
@@ -260,8 +266,8 @@ fn remove_any(table: &mut [RawTwo], list: &mut RawEnds, at: u32) -> u32
 
 /// Takes the member `at` off, or returns [`NULL`] at [`NONE`]. O(1).
 #[inline]
-pub fn remove(table: &mut [RawTwo], list: &mut RawEnds, at: u32) -> u32
-    ensures { RemoveCall table.old table.new list.old list.new result (place_of at) }
+pub fn remove<W: ListWords>(table: &mut [W], list: &mut RawEnds, at: u32) -> u32
+    ensures { RemoveCall W.PrevPlace table.old table.new list.old list.new result (place_of at) }
 {
     let Some(member) = place_of(at) else {
         return NULL;
@@ -270,15 +276,15 @@ pub fn remove(table: &mut [RawTwo], list: &mut RawEnds, at: u32) -> u32
     if list::remove_between(&mut links, &mut list_of(&*list), member) {
         return OK;
     }
-    remove_any(links.entries, list, at)
+    remove_slow(links.entries, list, at)
 }
 
 /// Puts a place where the member `at` is, which is unlinked then, or returns [`NULL`] at [`NONE`]. O(1).
 ///
 /// The place has to be one of the table, and not linked.
 #[inline]
-pub fn replace(table: &mut [RawTwo], list: &mut RawEnds, at: u32, place: u32) -> u32
-    ensures { ReplaceCall table.old table.new list.old list.new result (place_of at) (place_of place) }
+pub fn replace<W: ListWords>(table: &mut [W], list: &mut RawEnds, at: u32, place: u32) -> u32
+    ensures { ReplaceCall W.PrevPlace table.old table.new list.old list.new result (place_of at) (place_of place) }
 {
     let Some(member) = place_of(at) else {
         return NULL;
@@ -296,8 +302,8 @@ pub fn replace(table: &mut [RawTwo], list: &mut RawEnds, at: u32, place: u32) ->
 ///
 /// It returns [`BROKEN`] if the links do not lead from the first member to the last one, and back.
 #[inline]
-pub fn clear(table: &mut [RawTwo], list: &mut RawEnds) -> u32
-    ensures { ClearCall table.old table.new list.old list.new result }
+pub fn clear<W: ListWords>(table: &mut [W], list: &mut RawEnds) -> u32
+    ensures { ClearCall W.PrevPlace table.old table.new list.old list.new result }
 {
     let mut links = RawTable::new(table);
     if !whole::clear_list(&mut links, &mut list_of(&*list)) {

@@ -18,7 +18,7 @@ use ic_link_ops::{Color, LinkOps, Words};
 use ic_unsafe_ref::Place;
 
 /// A view of a tree's words as they are. [`RawTable`](crate::RawTable) sees every place of the table as linked, for edits and searches of words
-/// that may show no tree.
+/// that may represent no tree.
 ///
 /// It is for checks, and for edits of a tree that a check has found.
 pub struct MarkedTree<'a> {
@@ -66,11 +66,9 @@ impl MarkedTree<'_> {
 
 impl LinkOps for MarkedTree<'_> {
     ghost use Rattle.std.proofs.Common.{ap, refl};
-    ghost use Rattle.ic_unsafe_ref.specs.Places.{index_of};
+    ghost use Rattle.ic_link_ops.specs.Prelude.{index_of, IsLinked, TraceIs};
     ghost use Rattle.ic_link_ops.specs.EntryLaws.{linked_in_range};
-    ghost use Rattle.ic_link_ops.specs.LinkSteps.{Replays};
     ghost use Rattle.ic_link_ops.specs.StepLaws.{replays_on};
-    ghost use Rattle.ic_link_ops.specs.Tables.{IsLinked};
     ghost use Rattle.ic_raw.specs.MarkedTree.{marked_entries};
     ghost use Rattle.ic_raw.specs.Words.{no_tree_words, is_linked_three};
     ghost use Rattle.std.specs.Prelude.{⊤};
@@ -83,7 +81,7 @@ impl LinkOps for MarkedTree<'_> {
 
     ghost CanName = { λ p. ⊤ };
 
-    ghost Does = { λ old new s. Replays is_linked_three (marked_table old) (marked_table new) s };
+    ghost Trace = { λ old new s. TraceIs is_linked_three (marked_table old) (marked_table new) s };
 
     ghost Refused = { λ old new p. IsLinked is_linked_three (marked_table old) p × (new ≡ old) };
 

@@ -2,7 +2,7 @@
 //!
 //! ```text
 //! move_to_end(table, list, Side::After, 7) // OK: 7 is the first member, whichever it was
-//! move_at(table, list, Side::After, 9, 7)  // OK: and now it is behind 9
+//! move_at(table, list, Side::After, 9, 7)  // OK: and now it is after 9
 //! ```
 
 ghost use Rattle.ic_raw.specs.Words.{place_of};
@@ -15,14 +15,20 @@ use crate::moving;
 use crate::number::place_of;
 use crate::status::{NONE, NULL, OK};
 use crate::table::RawTable;
-use crate::words::{RawEnds, RawTwo};
+use crate::words::{ListWords, RawEnds};
 
 // Moves any member into the gap beside another one, or says why not. A gap beside the member itself is where it stands: then nothing is
 // changed.
 #[cold]
 #[inline(never)]
-fn move_any(table: &mut [RawTwo], list: &mut RawEnds, side: Side, at: u32, place: u32) -> u32
-    ensures { MoveCall table.old table.new list.old list.new result side (place_of at) (place_of place) }
+fn move_slow<W: ListWords>(
+    table: &mut [W],
+    list: &mut RawEnds,
+    side: Side,
+    at: u32,
+    place: u32,
+) -> u32
+    ensures { MoveCall W.PrevPlace table.old table.new list.old list.new result side (place_of at) (place_of place) }
 {
     let Some(member) = place_of(place) else {
         return NULL;
@@ -45,8 +51,14 @@ fn move_any(table: &mut [RawTwo], list: &mut RawEnds, side: Side, at: u32, place
 /// Where it stands there already, nothing is changed. It returns [`NULL`] where `place` is [`NONE`], and else the first fault of the two, or
 /// [`BROKEN`](crate::BROKEN). A refused edit leaves the words as they are.
 #[inline(always)]
-pub fn move_at(table: &mut [RawTwo], list: &mut RawEnds, side: Side, at: u32, place: u32) -> u32
-    ensures { MoveCall table.old table.new list.old list.new result side (place_of at) (place_of place) }
+pub fn move_at<W: ListWords>(
+    table: &mut [W],
+    list: &mut RawEnds,
+    side: Side,
+    at: u32,
+    place: u32,
+) -> u32
+    ensures { MoveCall W.PrevPlace table.old table.new list.old list.new result side (place_of at) (place_of place) }
 {
     let Some(member) = place_of(place) else {
         return NULL;
@@ -54,7 +66,7 @@ pub fn move_at(table: &mut [RawTwo], list: &mut RawEnds, side: Side, at: u32, pl
     let mut links = RawTable::new(table);
     let mut edited = list_of(&*list);
     let Some((from, to)) = moving::gaps_inside(&links, side, place_of(at), member) else {
-        return move_any(links.entries, list, side, at, place);
+        return move_slow(links.entries, list, side, at, place);
     };
     if !to.is_apart(member) {
         return OK;
@@ -67,8 +79,13 @@ pub fn move_at(table: &mut [RawTwo], list: &mut RawEnds, side: Side, at: u32, pl
 // Moves a member to an end of any list, or says why not.
 #[cold]
 #[inline(never)]
-fn move_to_end_any(table: &mut [RawTwo], list: &mut RawEnds, side: Side, place: u32) -> u32
-    ensures { MoveToEndCall table.old table.new list.old list.new result side (place_of place) }
+fn move_to_end_slow<W: ListWords>(
+    table: &mut [W],
+    list: &mut RawEnds,
+    side: Side,
+    place: u32,
+) -> u32
+    ensures { MoveToEndCall W.PrevPlace table.old table.new list.old list.new result side (place_of place) }
 {
     let Some(member) = place_of(place) else {
         return NULL;
@@ -82,7 +99,7 @@ fn move_to_end_any(table: &mut [RawTwo], list: &mut RawEnds, side: Side, place: 
             return OK;
         }
     }
-    move_any(links.entries, list, side, NONE, place)
+    move_slow(links.entries, list, side, NONE, place)
 }
 
 /// Moves a member to the front, on the side [`Side::Before`] to the back. It stays linked. O(1).
@@ -90,8 +107,8 @@ fn move_to_end_any(table: &mut [RawTwo], list: &mut RawEnds, side: Side, place: 
 /// Where it stands there already, nothing is changed. It returns [`NULL`] at [`NONE`], and else the fault of the member, or
 /// [`BROKEN`](crate::BROKEN). A refused edit leaves the words as they are.
 #[inline(always)]
-pub fn move_to_end(table: &mut [RawTwo], list: &mut RawEnds, side: Side, place: u32) -> u32
-    ensures { MoveToEndCall table.old table.new list.old list.new result side (place_of place) }
+pub fn move_to_end<W: ListWords>(table: &mut [W], list: &mut RawEnds, side: Side, place: u32) -> u32
+    ensures { MoveToEndCall W.PrevPlace table.old table.new list.old list.new result side (place_of place) }
 {
     let Some(member) = place_of(place) else {
         return NULL;
@@ -108,5 +125,5 @@ pub fn move_to_end(table: &mut [RawTwo], list: &mut RawEnds, side: Side, place: 
     if moving::is_at_end(&links, &edited, side, member) {
         return OK;
     }
-    move_to_end_any(links.entries, list, side, place)
+    move_to_end_slow(links.entries, list, side, place)
 }

@@ -6,52 +6,48 @@
 //! ```
 
 ghost use Rattle.std.specs.Prelude.{◌≡◌, ◌++◌, ◌∷◌, [], List, Option, Some, None, true};
-ghost use Rattle.ic_unsafe_ref.specs.declared.place.Place.{Place};
-ghost use Rattle.ic_link_ops.specs.Sequences.{Cut, join};
-ghost use Rattle.ic_link_ops.specs.Tables.{KeepsLinked};
+ghost use Rattle.ic_link_ops.specs.Prelude.{Place, Cut, join, KeepsLinked};
 ghost use Rattle.ic_link_ops.specs.Chains.{Ends};
 ghost use Rattle.ic_link_ops.specs.Edits.{Inserts};
 ghost use Rattle.ic_raw.specs.declared.gap.Gap.{Gap};
 ghost use Rattle.ic_raw.specs.declared.gap.Side.TheVariants.{After, Before};
-ghost use Rattle.ic_raw.specs.Gaps.{IsBeside, IsMoved, Stands, StandBeside, gap_of, toward};
+ghost use Rattle.ic_raw.specs.Gaps.{IsBeside, IsMoved, IsNoneOrLinked, StandBeside, gap_of, toward};
 ghost use Rattle.ic_raw.specs.Touches.{Touches, sides};
-ghost use Rattle.ic_raw.specs.Words.{is_linked_two};
-ghost use Rattle.ic_raw.specs.Doubly.{Shows, TellsGap, around, end_on, gap_from, lent_table};
+ghost use Rattle.ic_raw.specs.Doubly.{Represents, TellsGap, around, end_on, gap_from};
+ghost use Rattle.ic_raw.specs.LinkWords.{lent_table};
 
 use crate::gap::{Gap, Side};
-use crate::list::{
-    List, beside, between, follows, gap_at, gap_inside, is_before, is_behind, leads,
-};
+use crate::list::{List, beside, between, follows, gap_at, gap_inside, is_after, is_before, leads};
 use crate::table::RawTable;
-use crate::words::RawTwo;
+use crate::words::ListWords;
 use ic_link_ops::linked_list::LinkedListOps;
 use ic_unsafe_ref::Place;
 
 // Whether the member is at the end beside the outermost gap on this side of none, with another one beyond it, and their words are such as a
 // call writes.
 #[inline]
-pub(crate) fn is_at_end(
-    links: &RawTable<'_, RawTwo>,
+pub(crate) fn is_at_end<W: ListWords>(
+    links: &RawTable<'_, W>,
     list: &List,
     side: Side,
     member: Place,
 ) -> bool
     ensures end { result ≡ true → end_on side list.now ≡ Some member }
-    ensures told { result ≡ true → TellsGap side (lent_table links.now) list.now None }
-    ensures member { result ≡ true → Stands is_linked_two (lent_table links.now) (Some member) }
-    ensures before { result ≡ true → TellsGap Before (lent_table links.now) list.now (Some member) }
-    ensures behind { result ≡ true → TellsGap After (lent_table links.now) list.now (Some member) }
+    ensures links_back { result ≡ true → TellsGap W.PrevPlace side (lent_table W.PrevPlace links.now) list.now None }
+    ensures member { result ≡ true → IsNoneOrLinked W.is_linked (lent_table W.PrevPlace links.now) (Some member) }
+    ensures before { result ≡ true → TellsGap W.PrevPlace Before (lent_table W.PrevPlace links.now) list.now (Some member) }
+    ensures behind { result ≡ true → TellsGap W.PrevPlace After (lent_table W.PrevPlace links.now) list.now (Some member) }
 {
     let at = Some(member);
     match side {
         Side::After => {
-            if !leads(links, list, None, at) || !is_behind(links, member, None) {
+            if !leads(links, list, None, at) || !is_after(links, member, None) {
                 return false;
             }
             let Some(second) = links.next(member) else {
                 return false;
             };
-            is_behind(links, second, at)
+            is_after(links, second, at)
         }
         Side::Before => {
             if !follows(links, list, None, at) || !is_before(links, member, None) {
@@ -68,19 +64,19 @@ pub(crate) fn is_at_end(
 // The places on both sides of the last member where the side is that of the first, and of the first one where it is that of the last, if
 // there is another one, and their words are such as a call writes. Else none.
 #[inline]
-pub(crate) fn beside_other_end(
-    links: &RawTable<'_, RawTwo>,
+pub(crate) fn beside_other_end<W: ListWords>(
+    links: &RawTable<'_, W>,
     list: &List,
     side: Side,
     member: Place,
 ) -> Option<Gap>
-    ensures member { (gap : Gap) → result ≡ Some gap → Stands is_linked_two (lent_table links.now) (Some member) }
-    ensures stands { (gap : Gap) → result ≡ Some gap → StandBeside is_linked_two (lent_table links.now) gap }
-    ensures before { (gap : Gap) → result ≡ Some gap → TellsGap Before (lent_table links.now) list.now (Some member) }
-    ensures behind { (gap : Gap) → result ≡ Some gap → TellsGap After (lent_table links.now) list.now (Some member) }
-    ensures sides { (gap : Gap) → result ≡ Some gap → gap ≡ around (lent_table links.now) list.now (Some member) }
+    ensures member { (gap : Gap) → result ≡ Some gap → IsNoneOrLinked W.is_linked (lent_table W.PrevPlace links.now) (Some member) }
+    ensures stands { (gap : Gap) → result ≡ Some gap → StandBeside W.is_linked (lent_table W.PrevPlace links.now) gap }
+    ensures before { (gap : Gap) → result ≡ Some gap → TellsGap W.PrevPlace Before (lent_table W.PrevPlace links.now) list.now (Some member) }
+    ensures behind { (gap : Gap) → result ≡ Some gap → TellsGap W.PrevPlace After (lent_table W.PrevPlace links.now) list.now (Some member) }
+    ensures sides { (gap : Gap) → result ≡ Some gap → gap ≡ around W.PrevPlace (lent_table W.PrevPlace links.now) list.now (Some member) }
     ensures toward { (gap : Gap) → result ≡ Some gap → (q : Place) × (toward side gap ≡ Some q) }
-    ensures shown { (gap : Gap) (front back : List Place) → result ≡ Some gap → Shows (lent_table links.now) list.now (front ++ member ∷ back)
+    ensures shown { (gap : Gap) (front back : List Place) → result ≡ Some gap → Represents W.PrevPlace (lent_table W.PrevPlace links.now) list.now (front ++ member ∷ back)
         → gap ≡ gap_of (record { front = front; back = back }) }
 {
     match side {
@@ -114,24 +110,24 @@ pub(crate) fn beside_other_end(
 // What `gaps_to_move` gives of a member that has one on both sides and goes between two others, where all these words are such as a call
 // writes. Else none.
 #[inline(always)]
-pub(crate) fn gaps_inside(
-    links: &RawTable<'_, RawTwo>,
+pub(crate) fn gaps_inside<W: ListWords>(
+    links: &RawTable<'_, W>,
     side: Side,
     at: Option<Place>,
     member: Place,
 ) -> Option<(Gap, Gap)>
     ensures shown { (from to : Gap) (list : Ends) (front back : List Place) (cut : Cut) → result ≡ Some (from, to)
-        → Shows (lent_table links.now) list (front ++ member ∷ back) → join cut ≡ front ++ member ∷ back → IsBeside side cut at
+        → Represents W.PrevPlace (lent_table W.PrevPlace links.now) list (front ++ member ∷ back) → join cut ≡ front ++ member ∷ back → IsBeside side cut at
         → (from ≡ gap_of (record { front = front; back = back })) × (to ≡ gap_of cut) }
-    ensures at { (from to : Gap) → result ≡ Some (from, to) → Stands is_linked_two (lent_table links.now) at }
-    ensures told { (from to : Gap) (list : Ends) → result ≡ Some (from, to) → TellsGap side (lent_table links.now) list at }
-    ensures to { (from to : Gap) → result ≡ Some (from, to) → StandBeside is_linked_two (lent_table links.now) to }
-    ensures member { (from to : Gap) → result ≡ Some (from, to) → Stands is_linked_two (lent_table links.now) (Some member) }
-    ensures before { (from to : Gap) (list : Ends) → result ≡ Some (from, to) → TellsGap Before (lent_table links.now) list (Some member) }
-    ensures behind { (from to : Gap) (list : Ends) → result ≡ Some (from, to) → TellsGap After (lent_table links.now) list (Some member) }
-    ensures from { (from to : Gap) → result ≡ Some (from, to) → StandBeside is_linked_two (lent_table links.now) from }
+    ensures at { (from to : Gap) → result ≡ Some (from, to) → IsNoneOrLinked W.is_linked (lent_table W.PrevPlace links.now) at }
+    ensures links_back { (from to : Gap) (list : Ends) → result ≡ Some (from, to) → TellsGap W.PrevPlace side (lent_table W.PrevPlace links.now) list at }
+    ensures to { (from to : Gap) → result ≡ Some (from, to) → StandBeside W.is_linked (lent_table W.PrevPlace links.now) to }
+    ensures member { (from to : Gap) → result ≡ Some (from, to) → IsNoneOrLinked W.is_linked (lent_table W.PrevPlace links.now) (Some member) }
+    ensures before { (from to : Gap) (list : Ends) → result ≡ Some (from, to) → TellsGap W.PrevPlace Before (lent_table W.PrevPlace links.now) list (Some member) }
+    ensures behind { (from to : Gap) (list : Ends) → result ≡ Some (from, to) → TellsGap W.PrevPlace After (lent_table W.PrevPlace links.now) list (Some member) }
+    ensures from { (from to : Gap) → result ≡ Some (from, to) → StandBeside W.is_linked (lent_table W.PrevPlace links.now) from }
     ensures sides { (from to : Gap) (list : Ends) → result ≡ Some (from, to)
-        → (from ≡ around (lent_table links.now) list (Some member)) × (to ≡ gap_from side (lent_table links.now) list at) }
+        → (from ≡ around W.PrevPlace (lent_table W.PrevPlace links.now) list (Some member)) × (to ≡ gap_from W.PrevPlace side (lent_table W.PrevPlace links.now) list at) }
 {
     let Some(from) = between(links, member) else {
         return None;
@@ -145,25 +141,25 @@ pub(crate) fn gaps_inside(
 // The places on both sides of a member, and the gap beside another one, where the member is to go. None where the words tell of no such
 // member, or of no such gap.
 #[inline]
-pub(crate) fn gaps_to_move(
-    links: &RawTable<'_, RawTwo>,
+pub(crate) fn gaps_to_move<W: ListWords>(
+    links: &RawTable<'_, W>,
     list: &List,
     side: Side,
     at: Option<Place>,
     member: Place,
 ) -> Option<(Gap, Gap)>
-    ensures shown { (front back : List Place) (cut : Cut) → Shows (lent_table links.now) list.now (front ++ member ∷ back)
+    ensures shown { (front back : List Place) (cut : Cut) → Represents W.PrevPlace (lent_table W.PrevPlace links.now) list.now (front ++ member ∷ back)
         → join cut ≡ front ++ member ∷ back → IsBeside side cut at
         → result ≡ Some (gap_of (record { front = front; back = back }), gap_of cut) }
-    ensures at { (from to : Gap) → result ≡ Some (from, to) → Stands is_linked_two (lent_table links.now) at }
-    ensures told { (from to : Gap) → result ≡ Some (from, to) → TellsGap side (lent_table links.now) list.now at }
-    ensures to { (from to : Gap) → result ≡ Some (from, to) → StandBeside is_linked_two (lent_table links.now) to }
-    ensures member { (from to : Gap) → result ≡ Some (from, to) → Stands is_linked_two (lent_table links.now) (Some member) }
-    ensures before { (from to : Gap) → result ≡ Some (from, to) → TellsGap Before (lent_table links.now) list.now (Some member) }
-    ensures behind { (from to : Gap) → result ≡ Some (from, to) → TellsGap After (lent_table links.now) list.now (Some member) }
-    ensures from { (from to : Gap) → result ≡ Some (from, to) → StandBeside is_linked_two (lent_table links.now) from }
+    ensures at { (from to : Gap) → result ≡ Some (from, to) → IsNoneOrLinked W.is_linked (lent_table W.PrevPlace links.now) at }
+    ensures links_back { (from to : Gap) → result ≡ Some (from, to) → TellsGap W.PrevPlace side (lent_table W.PrevPlace links.now) list.now at }
+    ensures to { (from to : Gap) → result ≡ Some (from, to) → StandBeside W.is_linked (lent_table W.PrevPlace links.now) to }
+    ensures member { (from to : Gap) → result ≡ Some (from, to) → IsNoneOrLinked W.is_linked (lent_table W.PrevPlace links.now) (Some member) }
+    ensures before { (from to : Gap) → result ≡ Some (from, to) → TellsGap W.PrevPlace Before (lent_table W.PrevPlace links.now) list.now (Some member) }
+    ensures behind { (from to : Gap) → result ≡ Some (from, to) → TellsGap W.PrevPlace After (lent_table W.PrevPlace links.now) list.now (Some member) }
+    ensures from { (from to : Gap) → result ≡ Some (from, to) → StandBeside W.is_linked (lent_table W.PrevPlace links.now) from }
     ensures sides { (from to : Gap) → result ≡ Some (from, to)
-        → (from ≡ around (lent_table links.now) list.now (Some member)) × (to ≡ gap_from side (lent_table links.now) list.now at) }
+        → (from ≡ around W.PrevPlace (lent_table W.PrevPlace links.now) list.now (Some member)) × (to ≡ gap_from W.PrevPlace side (lent_table W.PrevPlace links.now) list.now at) }
 {
     let Some(to) = gap_at(links, list, side, at) else {
         return None;
@@ -176,23 +172,23 @@ pub(crate) fn gaps_to_move(
 
 // Moves a member, which is between these two places, into a gap that it is not beside. It stays linked.
 #[inline]
-pub(crate) fn relocate(
-    links: &mut RawTable<'_, RawTwo>,
+pub(crate) fn relocate<W: ListWords>(
+    links: &mut RawTable<'_, W>,
     list: &mut List,
     from: Gap,
     member: Place,
     to: Gap,
 )
-    requires member { Stands is_linked_two (lent_table links.old) (Some member) }
-    requires from { StandBeside is_linked_two (lent_table links.old) from }
-    requires to { StandBeside is_linked_two (lent_table links.old) to }
-    ensures moved { (front back : List Place) (cut : Cut) → Shows (lent_table links.old) list.old (front ++ member ∷ back)
+    requires member { IsNoneOrLinked W.is_linked (lent_table W.PrevPlace links.old) (Some member) }
+    requires from { StandBeside W.is_linked (lent_table W.PrevPlace links.old) from }
+    requires to { StandBeside W.is_linked (lent_table W.PrevPlace links.old) to }
+    ensures moved { (front back : List Place) (cut : Cut) → Represents W.PrevPlace (lent_table W.PrevPlace links.old) list.old (front ++ member ∷ back)
         → join cut ≡ front ++ back → from ≡ gap_of (record { front = front; back = back }) → to ≡ gap_of cut
-        → Inserts Shows (lent_table links.old) (lent_table links.new) list.new cut member }
-    ensures linked { KeepsLinked is_linked_two (lent_table links.old) (lent_table links.new) }
-    ensures touched { Touches is_linked_two (lent_table links.old) (lent_table links.new) [] (Some member ∷ sides from ++ sides to) }
+        → Inserts (Represents W.PrevPlace) (lent_table W.PrevPlace links.old) (lent_table W.PrevPlace links.new) list.new cut member }
+    ensures linked { KeepsLinked W.is_linked (lent_table W.PrevPlace links.old) (lent_table W.PrevPlace links.new) }
+    ensures touched { Touches W.is_linked (lent_table W.PrevPlace links.old) (lent_table W.PrevPlace links.new) [] (Some member ∷ sides from ++ sides to) }
     ensures own { IsMoved from (Some member) to list.old list.new }
-    ensures extent { (lent_table links.new).extent ≡ (lent_table links.old).extent }
+    ensures extent { (lent_table W.PrevPlace links.new).extent ≡ (lent_table W.PrevPlace links.old).extent }
 {
     list.bypass(links, from.before, member, from.behind);
     list.insert_linked(links, to.before, member, to.behind);

@@ -13,7 +13,7 @@ ghost use Rattle.ic_raw.specs.Words.{place_in};
 use crate::table::RawTable;
 use crate::words::RawThree;
 use ic_link_ops::{Color, Side};
-use ic_rbtree::Nodes;
+use ic_rbtree::NodeStore;
 use ic_unsafe_ref::Place;
 
 /// What is seen at a place: the words there, which place it is, and how many places the table has.
@@ -53,7 +53,7 @@ impl RawTable<'_, RawThree> {
 }
 
 /// The places that the table has count as linked, so that no name leads to another, whatever the words say.
-impl Nodes for RawTable<'_, RawThree> {
+impl NodeStore for RawTable<'_, RawThree> {
     ghost use Rattle.std.specs.Prelude.{nat_lt};
     ghost use Rattle.std.proofs.Common.{refl, ap, ◌∙◌};
     ghost use Rattle.ic_unsafe_ref.specs.Places.{index_of};
@@ -65,7 +65,7 @@ impl Nodes for RawTable<'_, RawThree> {
 
     ghost node = { seen_node };
 
-    ghost Quiet = { λ old new. KeepsMarks (lent_table old) (lent_table new) };
+    ghost KeepsLinks = { λ old new. KeepsMarks (lent_table old) (lent_table new) };
 
     #[inline]
     fn left(&self, place: Place) -> Option<Place> {
@@ -137,13 +137,13 @@ impl Nodes for RawTable<'_, RawThree> {
         words.parent = Place::to_word(parent) + black;
     }
 
-    ghost quiet_still = { λ t. record { extent = refl; marks = λ q. refl; names = λ q h. h } };
+    ghost keeps_links_still = { λ t. record { extent = refl; marks = λ q. refl; names = λ q h. h } };
 
-    ghost quiet_on = { λ a b c x y. record {
+    ghost keeps_links_on = { λ a b c x y. record {
       extent = y.extent ∙ x.extent;
       marks = λ q. y.marks q ∙ x.marks q;
       names = λ q h. y.names q (x.names q h);
     } };
 
-    ghost quiet_keeps = { λ old new same q. ap (λ x. nat_lt (index_of q) x.places) same.extent };
+    ghost keeps_links_keeps = { λ old new same q. ap (λ x. nat_lt (index_of q) x.places) same.extent };
 }

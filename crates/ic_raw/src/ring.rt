@@ -5,13 +5,10 @@
 //! ```
 
 ghost use Rattle.std.specs.Prelude.{◌≡◌, ◌≢◌, ◌∷◌, ◌++◌, List, [], Option, Some, None, IsSome, true, false};
-ghost use Rattle.ic_unsafe_ref.specs.declared.place.Place.{Place};
-ghost use Rattle.ic_link_ops.specs.Sequences.{IsAbsent, IsDisjoint, first, last};
-ghost use Rattle.ic_link_ops.specs.Tables.{IsLinked, IsUnlinked, ChangesOnly};
-ghost use Rattle.ic_link_ops.specs.LinkSteps.{acquires, releases};
+ghost use Rattle.ic_link_ops.specs.Prelude.{Place, IsAbsent, IsDisjoint, first, last, IsLinked, IsUnlinked, ChangesOnly, acquires, releases};
 ghost use Rattle.ic_raw.specs.declared.gap.Side.TheVariants.{After};
 ghost use Rattle.ic_raw.specs.LinkWords.{lent_table};
-ghost use Rattle.ic_raw.specs.Ring.{IsCircle, IsTold, Makes, MakesTwo, around, beside, own_on, put_in};
+ghost use Rattle.ic_raw.specs.Ring.{IsCircle, AreLinked, Makes, MakesTwo, around, beside, own_on, put_in};
 ghost use Rattle.ic_raw.specs.Tables.{IsFree};
 ghost use Rattle.ic_raw.specs.Touches.{Touches};
 
@@ -22,18 +19,18 @@ use ic_link_ops::{LinkOps, PrevPlace};
 use ic_ring::{bypass, turn_to};
 use ic_unsafe_ref::Place;
 
-/// Two places, of which the second stands behind the first.
+/// Two places, of which the second stands after the first.
 pub type Pair = (Place, Place);
 
-// The two places, where the words tell that the second stands behind the first: both are linked, and each names the other.
+// The two places, where the words tell that the second stands after the first: both are linked, and each names the other.
 #[inline]
 fn pair<W: PrevPlace>(
     links: &RawTable<'_, W>,
     before: Option<Place>,
     behind: Option<Place>,
 ) -> Option<Pair>
-    ensures told { (x : Place × Place) → result ≡ Some x → IsTold W.PrevPlace (lent_table W.PrevPlace links.now) x.0 x.1 × (before ≡ Some x.0) × (behind ≡ Some x.1) }
-    ensures tells { (x : Place × Place) → before ≡ Some x.0 → behind ≡ Some x.1 → IsTold W.PrevPlace (lent_table W.PrevPlace links.now) x.0 x.1 → result ≡ Some x }
+    ensures links_back { (x : Place × Place) → result ≡ Some x → AreLinked W.PrevPlace (lent_table W.PrevPlace links.now) x.0 x.1 × (before ≡ Some x.0) × (behind ≡ Some x.1) }
+    ensures tells { (x : Place × Place) → before ≡ Some x.0 → behind ≡ Some x.1 → AreLinked W.PrevPlace (lent_table W.PrevPlace links.now) x.0 x.1 → result ≡ Some x }
 {
     let before = before?;
     let behind = behind?;
@@ -55,8 +52,8 @@ fn pair<W: PrevPlace>(
 /// A place and its neighbor on this side, where the words tell of them.
 #[inline]
 pub fn beside<W: PrevPlace>(links: &RawTable<'_, W>, side: Side, at: Place) -> Option<Pair>
-    ensures told { (x : Place × Place) → result ≡ Some x → IsTold W.PrevPlace (lent_table W.PrevPlace links.now) x.0 x.1 × (own_on side x ≡ at) }
-    ensures tells { (x : Place × Place) → IsTold W.PrevPlace (lent_table W.PrevPlace links.now) x.0 x.1 → own_on side x ≡ at → result ≡ Some x }
+    ensures links_back { (x : Place × Place) → result ≡ Some x → AreLinked W.PrevPlace (lent_table W.PrevPlace links.now) x.0 x.1 × (own_on side x ≡ at) }
+    ensures tells { (x : Place × Place) → AreLinked W.PrevPlace (lent_table W.PrevPlace links.now) x.0 x.1 → own_on side x ≡ at → result ≡ Some x }
 {
     if !links.is_linked(at) {
         return None;
@@ -70,7 +67,7 @@ pub fn beside<W: PrevPlace>(links: &RawTable<'_, W>, side: Side, at: Place) -> O
 // The two neighbors of a place, where the words tell of both.
 #[inline]
 pub(crate) fn around<W: PrevPlace>(links: &RawTable<'_, W>, place: Place) -> Option<Pair>
-    ensures told { (x : Place × Place) → result ≡ Some x → IsTold W.PrevPlace (lent_table W.PrevPlace links.now) x.0 place × IsTold W.PrevPlace (lent_table W.PrevPlace links.now) place x.1 }
+    ensures links_back { (x : Place × Place) → result ≡ Some x → AreLinked W.PrevPlace (lent_table W.PrevPlace links.now) x.0 place × AreLinked W.PrevPlace (lent_table W.PrevPlace links.now) place x.1 }
     ensures tells { (r : List Place) → IsCircle W.PrevPlace (lent_table W.PrevPlace links.now) (place ∷ r) → IsSome result }
 {
     let Some(before) = beside(links, Side::Before, place) else {
@@ -82,11 +79,11 @@ pub(crate) fn around<W: PrevPlace>(links: &RawTable<'_, W>, place: Place) -> Opt
     Some((before.0, behind.1))
 }
 
-// Whether the words tell that the place stands behind itself, as a head without members does.
+// Whether the words tell that the place stands after itself, as a head without members does.
 #[inline]
 pub(crate) fn is_alone<W: PrevPlace>(links: &RawTable<'_, W>, place: Place) -> bool
-    ensures told { result ≡ true → IsTold W.PrevPlace (lent_table W.PrevPlace links.now) place place }
-    ensures tells { IsTold W.PrevPlace (lent_table W.PrevPlace links.now) place place → result ≡ true }
+    ensures links_back { result ≡ true → AreLinked W.PrevPlace (lent_table W.PrevPlace links.now) place place }
+    ensures tells { AreLinked W.PrevPlace (lent_table W.PrevPlace links.now) place place → result ≡ true }
 {
     let Some(_) = pair(links, Some(place), Some(place)) else {
         return false;
@@ -116,12 +113,12 @@ pub(crate) fn close<W: PrevPlace>(
 #[inline]
 pub(crate) fn link_between<W: PrevPlace>(links: &mut RawTable<'_, W>, pair: Pair, place: Place)
     requires held { IsLinked W.is_linked (lent_table W.PrevPlace links.old) place }
-    requires told { IsTold W.PrevPlace (lent_table W.PrevPlace links.old) pair.0 pair.1 }
+    requires links_back { AreLinked W.PrevPlace (lent_table W.PrevPlace links.old) pair.0 pair.1 }
     ensures inserted { (side : Side) (at : Place) (r : List Place) → own_on side pair ≡ at → IsCircle W.PrevPlace (lent_table W.PrevPlace links.old) (at ∷ r)
         → IsAbsent place (at ∷ r) → IsCircle W.PrevPlace (lent_table W.PrevPlace links.new) (put_in side at place r) }
     ensures others { (q : Place) → q ≢ place → q ≢ pair.0 → q ≢ pair.1 → (lent_table W.PrevPlace links.new).entry q ≡ (lent_table W.PrevPlace links.old).entry q }
     ensures extent { (lent_table W.PrevPlace links.new).extent ≡ (lent_table W.PrevPlace links.old).extent }
-    ensures no_step { (q : Place) → W.is_linked ((lent_table W.PrevPlace links.new).entry q) ≡ W.is_linked ((lent_table W.PrevPlace links.old).entry q) }
+    ensures trace_stays { (q : Place) → W.is_linked ((lent_table W.PrevPlace links.new).entry q) ≡ W.is_linked ((lent_table W.PrevPlace links.old).entry q) }
 {
     links.set_prev(place, Some(pair.0));
     links.set_next(place, Some(pair.1));
@@ -135,11 +132,11 @@ pub(crate) fn close_gap<W: PrevPlace>(links: &mut RawTable<'_, W>, before: Place
     requires behind { IsLinked W.is_linked (lent_table W.PrevPlace links.old) behind }
     ensures closed { (p : Place) (r : List Place) → IsCircle W.PrevPlace (lent_table W.PrevPlace links.old) (p ∷ r) → Some before ≡ last r → Some behind ≡ first r
         → IsCircle W.PrevPlace (lent_table W.PrevPlace links.new) r }
-    ensures joined { IsTold W.PrevPlace (lent_table W.PrevPlace links.new) before behind }
-    ensures told { (x y : Place) → x ≢ before → y ≢ behind → IsTold W.PrevPlace (lent_table W.PrevPlace links.old) x y → IsTold W.PrevPlace (lent_table W.PrevPlace links.new) x y }
+    ensures joined { AreLinked W.PrevPlace (lent_table W.PrevPlace links.new) before behind }
+    ensures links_back { (x y : Place) → x ≢ before → y ≢ behind → AreLinked W.PrevPlace (lent_table W.PrevPlace links.old) x y → AreLinked W.PrevPlace (lent_table W.PrevPlace links.new) x y }
     ensures others { (q : Place) → q ≢ before → q ≢ behind → (lent_table W.PrevPlace links.new).entry q ≡ (lent_table W.PrevPlace links.old).entry q }
     ensures extent { (lent_table W.PrevPlace links.new).extent ≡ (lent_table W.PrevPlace links.old).extent }
-    ensures no_step { (q : Place) → W.is_linked ((lent_table W.PrevPlace links.new).entry q) ≡ W.is_linked ((lent_table W.PrevPlace links.old).entry q) }
+    ensures trace_stays { (q : Place) → W.is_linked ((lent_table W.PrevPlace links.new).entry q) ≡ W.is_linked ((lent_table W.PrevPlace links.old).entry q) }
 {
     links.set_next(before, Some(behind));
     links.set_prev(behind, Some(before));
@@ -148,8 +145,8 @@ pub(crate) fn close_gap<W: PrevPlace>(links: &mut RawTable<'_, W>, before: Place
 // Two pairs of neighbors exchange their second places.
 #[inline]
 pub(crate) fn cross<W: PrevPlace>(links: &mut RawTable<'_, W>, first: Pair, second: Pair)
-    requires first { IsTold W.PrevPlace (lent_table W.PrevPlace links.old) first.0 first.1 }
-    requires second { IsTold W.PrevPlace (lent_table W.PrevPlace links.old) second.0 second.1 }
+    requires first { AreLinked W.PrevPlace (lent_table W.PrevPlace links.old) first.0 first.1 }
+    requires second { AreLinked W.PrevPlace (lent_table W.PrevPlace links.old) second.0 second.1 }
     ensures joins { (r s : List Place) → IsCircle W.PrevPlace (lent_table W.PrevPlace links.old) r → IsCircle W.PrevPlace (lent_table W.PrevPlace links.old) s → IsDisjoint r s
         → last r ≡ Some first.0 → last s ≡ Some second.0 → Makes W.PrevPlace (lent_table W.PrevPlace links.old) (lent_table W.PrevPlace links.new) (r ++ s) (r ++ s) }
     ensures cuts { (r s : List Place) → IsCircle W.PrevPlace (lent_table W.PrevPlace links.old) (r ++ s) → last r ≡ Some first.0 → last s ≡ Some second.0
@@ -157,7 +154,7 @@ pub(crate) fn cross<W: PrevPlace>(links: &mut RawTable<'_, W>, first: Pair, seco
     ensures others { (q : Place) → q ≢ first.0 → q ≢ first.1 → q ≢ second.0 → q ≢ second.1
         → (lent_table W.PrevPlace links.new).entry q ≡ (lent_table W.PrevPlace links.old).entry q }
     ensures extent { (lent_table W.PrevPlace links.new).extent ≡ (lent_table W.PrevPlace links.old).extent }
-    ensures no_step { (q : Place) → W.is_linked ((lent_table W.PrevPlace links.new).entry q) ≡ W.is_linked ((lent_table W.PrevPlace links.old).entry q) }
+    ensures trace_stays { (q : Place) → W.is_linked ((lent_table W.PrevPlace links.new).entry q) ≡ W.is_linked ((lent_table W.PrevPlace links.old).entry q) }
 {
     links.set_next(first.0, Some(second.1));
     links.set_prev(second.1, Some(first.0));
@@ -171,8 +168,8 @@ pub(crate) fn remove<W: PrevPlace>(links: &mut RawTable<'_, W>, place: Place) ->
     ensures removed { (r : List Place) → IsCircle W.PrevPlace (lent_table W.PrevPlace links.old) (place ∷ r)
         → (result ≡ true) × Makes W.PrevPlace (lent_table W.PrevPlace links.old) (lent_table W.PrevPlace links.new) (place ∷ r) r }
     ensures unlinked { result ≡ true → IsUnlinked W.is_linked (lent_table W.PrevPlace links.new) place }
-    ensures before { result ≡ true → (q : Place) × IsTold W.PrevPlace (lent_table W.PrevPlace links.old) q place }
-    ensures behind { result ≡ true → (q : Place) × IsTold W.PrevPlace (lent_table W.PrevPlace links.old) place q }
+    ensures before { result ≡ true → (q : Place) × AreLinked W.PrevPlace (lent_table W.PrevPlace links.old) q place }
+    ensures behind { result ≡ true → (q : Place) × AreLinked W.PrevPlace (lent_table W.PrevPlace links.old) place q }
     ensures touched { result ≡ true → Touches W.is_linked (lent_table W.PrevPlace links.old) (lent_table W.PrevPlace links.new) (releases place ∷ [])
         (Some place ∷ around W.PrevPlace (lent_table W.PrevPlace links.old) place) }
     ensures refused { result ≡ false → links.new ≡ links.old }
@@ -198,7 +195,7 @@ pub(crate) fn insert<W: PrevPlace>(
         → IsCircle W.PrevPlace (lent_table W.PrevPlace links.old) (at ∷ r)
         → (result ≡ true) × Makes W.PrevPlace (lent_table W.PrevPlace links.old) (lent_table W.PrevPlace links.new) (p ∷ at ∷ r) (put_in side at p r) }
     ensures free { result ≡ true → (p : Place) × (place ≡ Some p) × IsFree W.is_linked (lent_table W.PrevPlace links.old) p }
-    ensures told { result ≡ true → (x : Place × Place) × IsTold W.PrevPlace (lent_table W.PrevPlace links.old) x.0 x.1 × (own_on side x ≡ at) }
+    ensures links_back { result ≡ true → (x : Place × Place) × AreLinked W.PrevPlace (lent_table W.PrevPlace links.old) x.0 x.1 × (own_on side x ≡ at) }
     ensures touched { (p : Place) → place ≡ Some p → result ≡ true → Touches W.is_linked (lent_table W.PrevPlace links.old) (lent_table W.PrevPlace links.new) (acquires p ∷ [])
         (Some p ∷ Some at ∷ beside W.PrevPlace side (lent_table W.PrevPlace links.old) at ∷ []) }
     ensures refused { result ≡ false → links.new ≡ links.old }
@@ -214,7 +211,7 @@ pub(crate) fn insert<W: PrevPlace>(
     true
 }
 
-// Two places that stand in rings exchange what stands behind them, and it says whether they could: two rings become one, one becomes two.
+// Two places that stand in rings exchange what stands after them, and it says whether they could: two rings become one, one becomes two.
 #[inline]
 pub(crate) fn exchange<W: PrevPlace>(links: &mut RawTable<'_, W>, one: Place, other: Place) -> bool
     ensures joins { (r s : List Place) → IsCircle W.PrevPlace (lent_table W.PrevPlace links.old) r → IsCircle W.PrevPlace (lent_table W.PrevPlace links.old) s → IsDisjoint r s
@@ -222,8 +219,8 @@ pub(crate) fn exchange<W: PrevPlace>(links: &mut RawTable<'_, W>, one: Place, ot
         → (result ≡ true) × Makes W.PrevPlace (lent_table W.PrevPlace links.old) (lent_table W.PrevPlace links.new) (r ++ s) (r ++ s) }
     ensures cuts { (r s : List Place) → IsCircle W.PrevPlace (lent_table W.PrevPlace links.old) (r ++ s) → last r ≡ Some one → last s ≡ Some other
         → (result ≡ true) × MakesTwo W.PrevPlace (lent_table W.PrevPlace links.old) (lent_table W.PrevPlace links.new) (r ++ s) r s }
-    ensures told { result ≡ true → (q : Place) × IsTold W.PrevPlace (lent_table W.PrevPlace links.old) one q }
-    ensures other { result ≡ true → (q : Place) × IsTold W.PrevPlace (lent_table W.PrevPlace links.old) other q }
+    ensures links_back { result ≡ true → (q : Place) × AreLinked W.PrevPlace (lent_table W.PrevPlace links.old) one q }
+    ensures other { result ≡ true → (q : Place) × AreLinked W.PrevPlace (lent_table W.PrevPlace links.old) other q }
     ensures touched { result ≡ true → Touches W.is_linked (lent_table W.PrevPlace links.old) (lent_table W.PrevPlace links.new) []
         (Some one ∷ beside W.PrevPlace After (lent_table W.PrevPlace links.old) one ∷ Some other ∷ beside W.PrevPlace After (lent_table W.PrevPlace links.old) other ∷ []) }
     ensures refused { result ≡ false → links.new ≡ links.old }

@@ -2,7 +2,7 @@
 //!
 //! ```text
 //! init(table, 64)                    // OK: a ring with no members
-//! insert(table, Side::Before, 64, 7) // OK: in front of the head is the back
+//! insert(table, Side::Before, 64, 7) // OK: before the head is the back
 //! remove(table, 7)                   // OK, from whichever ring it is in
 //! ```
 
@@ -10,7 +10,7 @@ ghost use Rattle.std.specs.Prelude.{◌≡◌, ◌≢◌, ◌↔◌, ◌∷◌, 
 ghost use Rattle.ic_raw.specs.declared.status.TheConstants.{OK, NULL};
 ghost use Rattle.ic_raw.specs.Answers.{refusal};
 ghost use Rattle.ic_raw.specs.LinkWords.{lent_table};
-ghost use Rattle.ic_raw.specs.Ring.{IsTold};
+ghost use Rattle.ic_raw.specs.Ring.{AreLinked};
 ghost use Rattle.ic_raw.specs.RingCalls.{PopCall, ReplaceCall, MoveCall, SpliceCall};
 ghost use Rattle.ic_raw.specs.Tables.{member_fault};
 ghost use Rattle.ic_raw.specs.Words.{place_of};
@@ -73,9 +73,9 @@ pub fn remove<W: PrevPlace>(table: &mut [W], place: u32) -> u32
     OK
 }
 
-/// Two places that stand in rings exchange what stands behind them. So two rings become one, and one becomes two. O(1).
+/// Two places that stand in rings exchange what stands after them. So two rings become one, and one becomes two. O(1).
 ///
-/// With the last member of one ring and the head of another, all members of the second are put behind the first. The same call again takes
+/// With the last member of one ring and the head of another, all members of the second are put after the first. The same call again takes
 /// it back.
 #[inline]
 pub fn exchange<W: PrevPlace>(table: &mut [W], one: u32, other: u32) -> u32
@@ -97,7 +97,7 @@ pub fn exchange<W: PrevPlace>(table: &mut [W], one: u32, other: u32) -> u32
 // Why nothing could be taken out beside a head: it has no members, or its words tell of none.
 #[cold]
 fn refusal_to_pop<W: PrevPlace>(links: &RawTable<'_, W>, head: Place) -> u32
-    ensures null { (result ≡ NULL) ↔ IsTold W.PrevPlace (lent_table W.PrevPlace links.now) head head }
+    ensures null { (result ≡ NULL) ↔ AreLinked W.PrevPlace (lent_table W.PrevPlace links.now) head head }
     ensures why { result ≢ NULL → result ≡ refusal (member_fault W.is_linked (lent_table W.PrevPlace links.now) (Some head) ∷ []) }
     ensures refused { result ≢ OK }
 {
@@ -166,7 +166,7 @@ pub fn move_beside<W: PrevPlace>(table: &mut [W], side: Side, at: u32, place: u3
 /// Moves all members of the head `head` to this side of `at`, which stands in another ring. O(1).
 ///
 /// The head stands alone then. It returns [`NULL`] where one of the two is [`NONE`](crate::NONE), and [`BROKEN`](crate::BROKEN) beside the head
-/// itself, and behind its last member. A refused call leaves the words as they are.
+/// itself, and after its last member. A refused call leaves the words as they are.
 #[inline]
 pub fn splice<W: PrevPlace>(table: &mut [W], side: Side, at: u32, head: u32) -> u32
     ensures { SpliceCall W.PrevPlace table.old table.new result side (place_of at) (place_of head) }

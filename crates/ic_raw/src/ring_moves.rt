@@ -7,12 +7,9 @@
 //! ```
 
 ghost use Rattle.std.specs.Prelude.{◌≡◌, ◌≢◌, ◌∷◌, ◌++◌, List, [], Option, Some, None, true, false};
-ghost use Rattle.ic_unsafe_ref.specs.declared.place.Place.{Place};
-ghost use Rattle.ic_link_ops.specs.Sequences.{IsDisjoint};
-ghost use Rattle.ic_link_ops.specs.Tables.{IsLinked, IsUnlinked};
-ghost use Rattle.ic_link_ops.specs.LinkSteps.{acquires, releases};
+ghost use Rattle.ic_link_ops.specs.Prelude.{Place, IsDisjoint, IsLinked, IsUnlinked, acquires, releases};
 ghost use Rattle.ic_raw.specs.LinkWords.{lent_table};
-ghost use Rattle.ic_raw.specs.Ring.{IsCircle, IsTold, Makes, MakesTwo, around, beside, neighbor_on, put_in, all_put_in};
+ghost use Rattle.ic_raw.specs.Ring.{IsCircle, AreLinked, Makes, MakesTwo, around, beside, neighbor_on, put_in, all_put_in};
 ghost use Rattle.ic_raw.specs.Tables.{IsFree};
 ghost use Rattle.ic_raw.specs.Touches.{Touches};
 
@@ -65,7 +62,7 @@ pub(crate) fn pop<W: PrevPlace>(
     Some(member)
 }
 
-// What stands behind `own`, which is to stand where `at` does, behind which `next` stands: `own` itself where `at` stands alone.
+// What stands after `own`, which is to stand where `at` does, after which `next` stands: `own` itself where `at` stands alone.
 #[inline]
 fn next_without(at: Place, next: Place, own: Place) -> Place
     ensures alone { next ≡ at → result ≡ own }
@@ -86,8 +83,8 @@ pub(crate) fn replace<W: PrevPlace>(
         → (result ≡ true) × Makes W.PrevPlace (lent_table W.PrevPlace links.old) (lent_table W.PrevPlace links.new) (p ∷ at ∷ r) (p ∷ r) }
     ensures free { result ≡ true → (p : Place) × (place ≡ Some p) × IsFree W.is_linked (lent_table W.PrevPlace links.old) p }
     ensures unlinked { result ≡ true → IsUnlinked W.is_linked (lent_table W.PrevPlace links.new) at }
-    ensures before { result ≡ true → (q : Place) × IsTold W.PrevPlace (lent_table W.PrevPlace links.old) q at }
-    ensures behind { result ≡ true → (q : Place) × IsTold W.PrevPlace (lent_table W.PrevPlace links.old) at q }
+    ensures before { result ≡ true → (q : Place) × AreLinked W.PrevPlace (lent_table W.PrevPlace links.old) q at }
+    ensures behind { result ≡ true → (q : Place) × AreLinked W.PrevPlace (lent_table W.PrevPlace links.old) at q }
     ensures touched { (p : Place) → place ≡ Some p → result ≡ true
         → Touches W.is_linked (lent_table W.PrevPlace links.old) (lent_table W.PrevPlace links.new) (acquires p ∷ releases at ∷ [])
         (Some p ∷ Some at ∷ around W.PrevPlace (lent_table W.PrevPlace links.old) at) }
@@ -120,8 +117,8 @@ pub(crate) fn move_beside<W: PrevPlace>(
     ensures within { (r s : List Place) → IsCircle W.PrevPlace (lent_table W.PrevPlace links.old) (place ∷ r ++ at ∷ s)
         → (result ≡ true) × Makes W.PrevPlace (lent_table W.PrevPlace links.old) (lent_table W.PrevPlace links.new) (place ∷ r ++ at ∷ s) (put_in side at place (s ++ r)) }
     ensures itself { (r : List Place) → at ≡ place → IsCircle W.PrevPlace (lent_table W.PrevPlace links.old) (place ∷ r) → (result ≡ true) × (links.new ≡ links.old) }
-    ensures before { result ≡ true → (q : Place) × IsTold W.PrevPlace (lent_table W.PrevPlace links.old) q place }
-    ensures behind { result ≡ true → (q : Place) × IsTold W.PrevPlace (lent_table W.PrevPlace links.old) place q }
+    ensures before { result ≡ true → (q : Place) × AreLinked W.PrevPlace (lent_table W.PrevPlace links.old) q place }
+    ensures behind { result ≡ true → (q : Place) × AreLinked W.PrevPlace (lent_table W.PrevPlace links.old) place q }
     ensures linked { result ≡ true → IsLinked W.is_linked (lent_table W.PrevPlace links.old) at }
     ensures touched { result ≡ true → Touches W.is_linked (lent_table W.PrevPlace links.old) (lent_table W.PrevPlace links.new) []
         (Some place ∷ around W.PrevPlace (lent_table W.PrevPlace links.old) place ++ Some at ∷ beside W.PrevPlace side (lent_table W.PrevPlace links.old) at ∷ []) }
@@ -145,7 +142,7 @@ pub(crate) fn move_beside<W: PrevPlace>(
     true
 }
 
-// Moves all members of a head to this side of a place of another ring, and says whether it could: not beside that head itself, nor behind its
+// Moves all members of a head to this side of a place of another ring, and says whether it could: not beside that head itself, nor after its
 // last member.
 #[inline]
 pub(crate) fn splice<W: PrevPlace>(
@@ -157,8 +154,8 @@ pub(crate) fn splice<W: PrevPlace>(
     ensures spliced { (r s : List Place) → IsCircle W.PrevPlace (lent_table W.PrevPlace links.old) (at ∷ r) → IsCircle W.PrevPlace (lent_table W.PrevPlace links.old) (given ∷ s)
         → IsDisjoint (at ∷ r) (given ∷ s)
         → (result ≡ true) × MakesTwo W.PrevPlace (lent_table W.PrevPlace links.old) (lent_table W.PrevPlace links.new) (at ∷ r ++ given ∷ s) (all_put_in side at r s) (given ∷ []) }
-    ensures before { result ≡ true → (q : Place) × IsTold W.PrevPlace (lent_table W.PrevPlace links.old) q given }
-    ensures behind { result ≡ true → (q : Place) × IsTold W.PrevPlace (lent_table W.PrevPlace links.old) given q }
+    ensures before { result ≡ true → (q : Place) × AreLinked W.PrevPlace (lent_table W.PrevPlace links.old) q given }
+    ensures behind { result ≡ true → (q : Place) × AreLinked W.PrevPlace (lent_table W.PrevPlace links.old) given q }
     ensures linked { result ≡ true → IsLinked W.is_linked (lent_table W.PrevPlace links.old) at }
     ensures other { result ≡ true → at ≢ given }
     ensures touched { result ≡ true → Touches W.is_linked (lent_table W.PrevPlace links.old) (lent_table W.PrevPlace links.new) []

@@ -5,10 +5,7 @@
 //! ```
 
 ghost use Rattle.std.specs.Prelude.{◌≡◌, ◌≢◌, ◌⊎◌, ◌≤◌, ◌∷◌, [], List, Bool, Option, Some, length, None, IfSome, true, false};
-ghost use Rattle.ic_unsafe_ref.specs.declared.place.Place.{Place};
-ghost use Rattle.ic_unsafe_ref.specs.Objects.{is_placed, at_indexes};
-ghost use Rattle.ic_link_ops.specs.Sequences.{Cut, join};
-ghost use Rattle.ic_link_ops.specs.Tables.{LinksAlso};
+ghost use Rattle.ic_link_ops.specs.Prelude.{Place, is_placed, at_indexes, Cut, join, LinksAlso};
 ghost use Rattle.ic_link_ops.specs.RedBlackTree as trees;
 ghost use Rattle.ic_rbtree.specs.Closed.{IsIn, AreIn, IsClosed};
 ghost use Rattle.ic_rbtree.specs.Comparing.{goes_left};
@@ -17,20 +14,22 @@ ghost use Rattle.ic_rbtree.specs.Ordered.{InsertsInOrder};
 ghost use Rattle.ic_rbtree.specs.Tree.{root_of};
 ghost use Rattle.ic_raw.specs.declared.status.TheConstants.{OK, NULL};
 ghost use Rattle.ic_raw.specs.Answers.{HandsOut, refusal};
-ghost use Rattle.ic_raw.specs.Gaps.{Stands};
+ghost use Rattle.ic_raw.specs.Gaps.{IsNoneOrLinked};
 ghost use Rattle.ic_raw.specs.declared.search.Way.{Way};
 ghost use Rattle.ic_raw.specs.Keys.{against, key_of, keys_fault, at_root, past, EndsIn, EndsBelow, HasTurned, IsTarget, Meets, NamesTarget, equals_of, SearchEnds};
 ghost use Rattle.ic_raw.specs.Seen.{seen, seen_node, has_place, StaysWithin, HandsOutReached};
+ghost use Rattle.ic_raw.specs.Surgery.{TellsOfInsertion};
 ghost use Rattle.ic_raw.specs.Tables.{IsFree, place_fault};
-ghost use Rattle.ic_raw.specs.Tree.{Shows, IsHole, lent_table};
+ghost use Rattle.ic_raw.specs.Tree.{Represents, IsInsertPos, lent_table};
 ghost use Rattle.ic_raw.specs.Words.{is_linked_three, place_of};
 
 use crate::status::{BROKEN, NONE, OUT_OF_RANGE};
+use crate::surgery::Surgery;
 use crate::table::RawTable;
 use crate::tree::{self, Tree};
 use crate::words::RawThree;
 use ic_link_ops::{PlaceWord, Side, Words};
-use ic_rbtree::Nodes;
+use ic_rbtree::NodeStore;
 use ic_unsafe_ref::{Place, Values};
 use std::cmp::Ordering;
 
@@ -54,7 +53,7 @@ pub struct Way {
     // The member below which the gap is, none in an empty tree, and the side of that member.
     parent: PlaceWord,
     side: Side,
-    // The members in front of the gap, and behind it.
+    // The members before the gap, and after it.
     front: PlaceWord,
     back: PlaceWord,
 }
@@ -63,8 +62,8 @@ pub struct Way {
 #[inline]
 pub(crate) fn is_searchable(links: &RawTable<'_, RawThree>, tree: &Tree, keys: &[u64]) -> bool
     ensures keys { result ≡ true → (lent_table links.now).extent.places ≤ length keys.now }
-    ensures root { result ≡ true → Stands is_linked_three (lent_table links.now) (root_of tree.now) }
-    ensures shown { (s : List Place) → Shows (lent_table links.now) (root_of tree.now) s
+    ensures root { result ≡ true → IsNoneOrLinked is_linked_three (lent_table links.now) (root_of tree.now) }
+    ensures shown { (s : List Place) → Represents (lent_table links.now) (root_of tree.now) s
         → (lent_table links.now).extent.places ≤ length keys.now → result ≡ true }
 {
     if keys.len() < links.places() {
@@ -153,8 +152,8 @@ impl Way {
     #[inline]
     fn is_open(&self, links: &RawTable<'_, RawThree>, tree: &Tree) -> bool
         requires { IsIn (has_place (lent_table links.now)) self.now.parent }
-        ensures { (cut : Cut) → Shows (lent_table links.now) (root_of tree.now) (join cut)
-            → IsHole self.now.side (lent_table links.now) self.now.parent cut → result ≡ true }
+        ensures { (cut : Cut) → Represents (lent_table links.now) (root_of tree.now) (join cut)
+            → IsInsertPos self.now.side (lent_table links.now) self.now.parent cut → result ≡ true }
     {
         match self.parent.get() {
             None => tree.root().is_none(),
@@ -164,8 +163,8 @@ impl Way {
 }
 
 // Goes down from the root to the gap to which the key sends, past equal ones to this side. [`RBTree::descend`](ic_rbtree::RBTree::descend)
-// does so for any probe in a table that shows the tree, and keeps the last equal member as well, which takes more instructions a look. It is `None`
-// if the way is longer than that of any tree.
+// does so for any probe in a table that represents the tree, and keeps the last equal member as well, which takes more instructions a look. It is
+// `None` if the way is longer than that of any tree.
 #[inline]
 fn descend(
     links: &RawTable<'_, RawThree>,
@@ -175,8 +174,8 @@ fn descend(
     equals: Side,
 ) -> Option<Way>
     requires keys { (lent_table links.now).extent.places ≤ length keys.now }
-    requires root { Stands is_linked_three (lent_table links.now) (root_of tree.now) }
-    ensures ends { (s : List Place) (h : trees.Shows seen_node (seen (lent_table links.now)) (root_of tree.now) s)
+    requires root { IsNoneOrLinked is_linked_three (lent_table links.now) (root_of tree.now) }
+    ensures ends { (s : List Place) (h : trees.Represents seen_node (seen (lent_table links.now)) (root_of tree.now) s)
         → (way : Way) × (result ≡ Some way) × EndsIn (lent_table links.now) (gap_in (λ p. goes_left equals (against key keys.now p)) h.tree) way }
     ensures down { result ≢ None
         → EndsBelow (seen (lent_table links.now)) (λ p. goes_left equals (against key keys.now p)) (root_of tree.now) }
@@ -229,8 +228,8 @@ pub(crate) fn find(
     target: Target,
 ) -> Option<Option<Place>>
     requires keys { (lent_table links.now).extent.places ≤ length keys.now }
-    requires root { Stands is_linked_three (lent_table links.now) (root_of tree.now) }
-    ensures found { (s : List Place) → Shows (lent_table links.now) (root_of tree.now) s
+    requires root { IsNoneOrLinked is_linked_three (lent_table links.now) (root_of tree.now) }
+    ensures found { (s : List Place) → Represents (lent_table links.now) (root_of tree.now) s
         → (member : Option Place) × (result ≡ Some member) × IsTarget target (against key keys.now) s member }
     ensures ended { result ≢ None → SearchEnds target keys.now key (lent_table links.now) (root_of tree.now) }
     ensures bounded { (q : Place) → result ≡ Some (Some q) → Meets target (against key keys.now q) }
@@ -265,14 +264,14 @@ pub(crate) fn look(
     target: Target,
     found: &mut u32,
 ) -> u32
-    ensures found { (s : List Place) → Shows (lent_table links.now) (root_of tree.now) s
+    ensures found { (s : List Place) → Represents (lent_table links.now) (root_of tree.now) s
         → (lent_table links.now).extent.places ≤ length keys.now → HandsOut (IsTarget target (against key keys.now) s) result found.new }
     ensures reached { result ≡ OK → HandsOutReached (lent_table links.now) (root_of tree.now) [] found.new }
     ensures bounded { result ≡ OK → NamesTarget target keys.now key (lent_table links.now) found.new }
     ensures ended { result ≡ NULL → SearchEnds target keys.now key (lent_table links.now) (root_of tree.now) }
     ensures refused { result ≢ OK → found.new ≡ found.old }
     ensures looked { (result ≡ OK) ⊎ (result ≡ NULL) → ((lent_table links.now).extent.places ≤ length keys.now)
-        × Stands is_linked_three (lent_table links.now) (root_of tree.now) }
+        × IsNoneOrLinked is_linked_three (lent_table links.now) (root_of tree.now) }
     ensures why { result ≢ OK → result ≢ NULL → result ≡ refusal (keys_fault keys.now (lent_table links.now).extent.places ∷ []) }
 {
     if !is_searchable(links, tree, keys) {
@@ -284,24 +283,27 @@ pub(crate) fn look(
     tree::hand_out(links, member, found)
 }
 
-// Puts the place in behind all members with no greater key than its own, and says whether it could.
+// Puts the place in after all members with no greater key than its own, and says whether it could.
 #[inline]
-pub(crate) fn insert(
+pub(crate) fn insert<S: Surgery>(
+    surgery: &mut S,
     links: &mut RawTable<'_, RawThree>,
     tree: &mut Tree,
     keys: &[u64],
     place: Option<Place>,
 ) -> bool
-    ensures inserted { (s : List Place) (p : Place) → Shows (lent_table links.old) (root_of tree.old) s → place ≡ Some p
+    ensures inserted { (s : List Place) (p : Place) → Represents (lent_table links.old) (root_of tree.old) s → place ≡ Some p
         → (lent_table links.old).extent.places ≤ length keys.now → IsFree is_linked_three (lent_table links.old) p
-        → (result ≡ true) × InsertsInOrder Shows (against (key_of keys.now p) keys.now) (lent_table links.old) (lent_table links.new)
+        → (result ≡ true) × InsertsInOrder Represents (against (key_of keys.now p) keys.now) (lent_table links.old) (lent_table links.new)
         (root_of tree.new) s p }
     ensures free { result ≡ true → (p : Place) × (place ≡ Some p) × IsFree is_linked_three (lent_table links.old) p }
     ensures keys { result ≡ true → (lent_table links.old).extent.places ≤ length keys.now }
-    ensures root { result ≡ true → Stands is_linked_three (lent_table links.old) (root_of tree.old) }
+    ensures root { result ≡ true → IsNoneOrLinked is_linked_three (lent_table links.old) (root_of tree.old) }
     ensures linked { (p : Place) → place ≡ Some p → result ≡ true → LinksAlso is_linked_three (lent_table links.old) (lent_table links.new) p }
     ensures within { result ≡ true
         → StaysWithin (lent_table links.old) (lent_table links.new) (root_of tree.old) (root_of tree.new) place None [] }
+    ensures told { (p : Place) → place ≡ Some p → result ≡ true
+        → TellsOfInsertion S.Tells surgery.old surgery.new (lent_table links.old) (lent_table links.new) p }
     ensures refused { result ≡ false → (links.new ≡ links.old) × (tree.new ≡ tree.old) }
     ensures extent { (lent_table links.new).extent ≡ (lent_table links.old).extent }
 {
@@ -320,5 +322,5 @@ pub(crate) fn insert(
     if !way.is_open(&*links, &*tree) {
         return false;
     }
-    tree::put(links, tree, way.side, way.parent.get(), place)
+    tree::put(surgery, links, tree, way.side, way.parent.get(), place)
 }

@@ -5,19 +5,16 @@
 //! ```
 
 ghost use Rattle.std.specs.Prelude.{◌≡◌, ◌≢◌, ◌↔◌, ◌++◌, ◌∷◌, [], List, Some, None, true, false};
-ghost use Rattle.ic_unsafe_ref.specs.declared.place.Place.{Place};
-ghost use Rattle.ic_link_ops.specs.Sequences.{Cut, join, last, IsDisjoint, IsAfter};
-ghost use Rattle.ic_link_ops.specs.LinkSteps.{acquires, releases};
-ghost use Rattle.ic_link_ops.specs.Tables.{IsLinked, IsUnlinked};
+ghost use Rattle.ic_link_ops.specs.Prelude.{Place, Cut, join, last, IsDisjoint, IsAfter, IsLinked, IsUnlinked, acquires, releases};
 ghost use Rattle.ic_link_ops.specs.Chains.{end_of};
 ghost use Rattle.ic_link_ops.specs.Edits.{Inserts, Removes, Replaces, Splices, Splits};
 ghost use Rattle.ic_link_ops.specs.SinglyLinkedList.{list_from};
 ghost use Rattle.ic_raw.specs.declared.gap.Gap.{Gap};
-ghost use Rattle.ic_raw.specs.Gaps.{BeginApart, NamesFree, Stands, before, gap_of};
+ghost use Rattle.ic_raw.specs.Gaps.{BeginApart, NamesFree, IsNoneOrLinked, before, gap_of};
 ghost use Rattle.ic_raw.specs.Tables.{IsFree};
 ghost use Rattle.ic_raw.specs.Touches.{Touches};
 ghost use Rattle.ic_raw.specs.Words.{is_linked_one};
-ghost use Rattle.ic_raw.specs.Singly.{Shows, ShowsSome, TellsGap, lent_table, next_from};
+ghost use Rattle.ic_raw.specs.Singly.{Represents, RepresentsSome, TellsGap, lent_table, next_from};
 
 use crate::gap::{Gap, begin_alike};
 use crate::table::RawTable;
@@ -30,10 +27,10 @@ use ic_unsafe_ref::Place;
 /// A list of the caller's.
 pub type Stack = SinglyLinkedList<()>;
 
-// What stands behind a place, the first of the list at none.
+// What stands after a place, the first of the list at none.
 #[inline]
 fn next_of(links: &RawTable<'_, RawOne>, list: &Stack, place: Option<Place>) -> Option<Place>
-    requires { Stands is_linked_one (lent_table links.now) place }
+    requires { IsNoneOrLinked is_linked_one (lent_table links.now) place }
     ensures { result ≡ next_from (lent_table links.now) list.now place }
 {
     match place {
@@ -42,19 +39,19 @@ fn next_of(links: &RawTable<'_, RawOne>, list: &Stack, place: Option<Place>) -> 
     }
 }
 
-// The gap behind a place, at none the first one. None where a side of it is a place that is not linked.
+// The gap after a place, at none the first one. None where a side of it is a place that is not linked.
 #[inline]
 pub(crate) fn gap_after(
     links: &RawTable<'_, RawOne>,
     list: &Stack,
     at: Option<Place>,
 ) -> Option<Gap>
-    ensures told { (gap : Gap) → result ≡ Some gap → TellsGap (lent_table links.now) list.now at }
+    ensures links_back { (gap : Gap) → result ≡ Some gap → TellsGap (lent_table links.now) list.now at }
     ensures is { (gap : Gap) → result ≡ Some gap
         → gap ≡ record { before = at; behind = next_from (lent_table links.now) list.now at } }
     ensures found { TellsGap (lent_table links.now) list.now at
         → result ≡ Some (record { before = at; behind = next_from (lent_table links.now) list.now at }) }
-    ensures shown { (cut : Cut) → Shows (lent_table links.now) list.now (join cut) → IsAfter cut at → result ≡ Some (gap_of cut) }
+    ensures shown { (cut : Cut) → Represents (lent_table links.now) list.now (join cut) → IsAfter cut at → result ≡ Some (gap_of cut) }
 {
     if !links.stands(at) {
         return None;
@@ -66,7 +63,7 @@ pub(crate) fn gap_after(
     Some(Gap { before: at, behind })
 }
 
-// Puts the place into the gap behind another one, and says whether it could.
+// Puts the place into the gap after another one, and says whether it could.
 #[inline]
 pub(crate) fn insert(
     links: &mut RawTable<'_, RawOne>,
@@ -74,9 +71,9 @@ pub(crate) fn insert(
     at: Option<Place>,
     place: Option<Place>,
 ) -> bool
-    ensures inserted { (cut : Cut) (p : Place) → Shows (lent_table links.old) list.old (join cut) → IsAfter cut at → place ≡ Some p
+    ensures inserted { (cut : Cut) (p : Place) → Represents (lent_table links.old) list.old (join cut) → IsAfter cut at → place ≡ Some p
         → IsFree is_linked_one (lent_table links.old) p
-        → (result ≡ true) × Inserts Shows (lent_table links.old) (lent_table links.new) list.new cut p }
+        → (result ≡ true) × Inserts Represents (lent_table links.old) (lent_table links.new) list.new cut p }
     ensures accepted { (result ≡ true) ↔ NamesFree is_linked_one (lent_table links.old) place × TellsGap (lent_table links.old) list.old at }
     ensures own { result ≡ true → list.new.head ≡ end_of at place list.old.head }
     ensures touched { (p : Place) → place ≡ Some p → result ≡ true
@@ -94,7 +91,7 @@ pub(crate) fn insert(
     true
 }
 
-// Takes the member behind a place off, at none the first one.
+// Takes the member after a place off, at none the first one.
 #[inline]
 pub(crate) fn remove(
     links: &mut RawTable<'_, RawOne>,
@@ -102,10 +99,10 @@ pub(crate) fn remove(
     at: Option<Place>,
     member: Place,
 )
-    requires stands { Stands is_linked_one (lent_table links.old) at }
+    requires stands { IsNoneOrLinked is_linked_one (lent_table links.old) at }
     requires member { IsLinked is_linked_one (lent_table links.old) member }
-    ensures removed { (front back : List Place) → Shows (lent_table links.old) list.old (front ++ member ∷ back) → at ≡ last front
-        → Removes Shows (lent_table links.old) (lent_table links.new) list.new (before member front back)
+    ensures removed { (front back : List Place) → Represents (lent_table links.old) list.old (front ++ member ∷ back) → at ≡ last front
+        → Removes Represents (lent_table links.old) (lent_table links.new) list.new (before member front back)
         × IsUnlinked is_linked_one (lent_table links.new) member }
     ensures own { list.new.head ≡ end_of at (next_from (lent_table links.old) list.old (Some member)) list.old.head }
     ensures touched { Touches is_linked_one (lent_table links.old) (lent_table links.new) (releases member ∷ []) (Some member ∷ at ∷ []) }
@@ -116,7 +113,7 @@ pub(crate) fn remove(
     links.release_link(member);
 }
 
-// Puts the place where the member behind another one is, at none where the first is, and says whether it could. That member is unlinked
+// Puts the place where the member after another one is, at none where the first is, and says whether it could. That member is unlinked
 // then.
 #[inline]
 pub(crate) fn replace(
@@ -126,11 +123,11 @@ pub(crate) fn replace(
     member: Place,
     place: Option<Place>,
 ) -> bool
-    requires stands { Stands is_linked_one (lent_table links.old) at }
+    requires stands { IsNoneOrLinked is_linked_one (lent_table links.old) at }
     requires member { IsLinked is_linked_one (lent_table links.old) member }
-    ensures replaced { (front back : List Place) (p : Place) → Shows (lent_table links.old) list.old (front ++ member ∷ back)
+    ensures replaced { (front back : List Place) (p : Place) → Represents (lent_table links.old) list.old (front ++ member ∷ back)
         → at ≡ last front → place ≡ Some p → IsFree is_linked_one (lent_table links.old) p
-        → (result ≡ true) × Replaces Shows (lent_table links.old) (lent_table links.new) list.new (before member front back) p
+        → (result ≡ true) × Replaces Represents (lent_table links.old) (lent_table links.new) list.new (before member front back) p
         × IsUnlinked is_linked_one (lent_table links.new) member }
     ensures accepted { (result ≡ true) ↔ NamesFree is_linked_one (lent_table links.old) place }
     ensures own { result ≡ true → list.new.head ≡ end_of at place list.old.head }
@@ -151,8 +148,8 @@ pub(crate) fn replace(
 /// The last member of the list with this front, if its places lead to an end within as many steps as the table has places.
 pub fn last_from(links: &RawTable<'_, RawOne>, front: Place) -> Option<Place>
     ensures ended { (end : Place) → result ≡ Some end
-        → (s : List Place) × Shows (lent_table links.now) (list_from (Some front)) s × (Some end ≡ last s) }
-    ensures shown { (s : List Place) → Shows (lent_table links.now) (list_from (Some front)) s → result ≡ last s }
+        → (s : List Place) × Represents (lent_table links.now) (list_from (Some front)) s × (Some end ≡ last s) }
+    ensures shown { (s : List Place) → Represents (lent_table links.now) (list_from (Some front)) s → result ≡ last s }
 {
     let mut at = front;
     let mut left = links.places();
@@ -169,7 +166,7 @@ pub fn last_from(links: &RawTable<'_, RawOne>, front: Place) -> Option<Place>
     None
 }
 
-// Puts all of the given list into the gap behind a place, and says whether it could.
+// Puts all of the given list into the gap after a place, and says whether it could.
 #[inline]
 pub(crate) fn splice(
     links: &mut RawTable<'_, RawOne>,
@@ -177,14 +174,14 @@ pub(crate) fn splice(
     at: Option<Place>,
     given: Stack,
 ) -> bool
-    ensures spliced { (cut : Cut) (t : List Place) → Shows (lent_table links.old) list.old (join cut) → IsAfter cut at
-        → Shows (lent_table links.old) given t → IsDisjoint t (join cut)
-        → (result ≡ true) × Splices Shows (lent_table links.old) (lent_table links.new) list.new cut t }
+    ensures spliced { (cut : Cut) (t : List Place) → Represents (lent_table links.old) list.old (join cut) → IsAfter cut at
+        → Represents (lent_table links.old) given t → IsDisjoint t (join cut)
+        → (result ≡ true) × Splices Represents (lent_table links.old) (lent_table links.new) list.new cut t }
     ensures accepted { (result ≡ true) ↔ TellsGap (lent_table links.old) list.old at × BeginApart list.old.head given.head
-        × ShowsSome (lent_table links.old) given }
+        × RepresentsSome (lent_table links.old) given }
     ensures own { result ≡ true → given.head ≢ None → list.new.head ≡ end_of at given.head list.old.head }
     ensures nothing { result ≡ true → given.head ≡ None → (links.new ≡ links.old) × (list.new ≡ list.old) }
-    ensures touched { (t : List Place) → Shows (lent_table links.old) given t → result ≡ true
+    ensures touched { (t : List Place) → Represents (lent_table links.old) given t → result ≡ true
         → Touches is_linked_one (lent_table links.old) (lent_table links.new) [] (at ∷ last t ∷ []) }
     ensures refused { result ≡ false → (links.new ≡ links.old) × (list.new ≡ list.old) }
     ensures extent { (lent_table links.new).extent ≡ (lent_table links.old).extent }
@@ -205,7 +202,7 @@ pub(crate) fn splice(
     true
 }
 
-// Cuts the list at the gap behind a place, and says whether it could. It keeps what is in front of the cut, and the rest is handed out.
+// Cuts the list at the gap after a place, and says whether it could. It keeps what is before the cut, and the rest is handed out.
 #[inline]
 pub(crate) fn split(
     links: &mut RawTable<'_, RawOne>,
@@ -213,8 +210,8 @@ pub(crate) fn split(
     at: Option<Place>,
     rest: &mut Stack,
 ) -> bool
-    ensures split { (cut : Cut) → Shows (lent_table links.old) list.old (join cut) → IsAfter cut at
-        → (result ≡ true) × Splits Shows (lent_table links.old) (lent_table links.new) list.new rest.new cut.front cut.back }
+    ensures split { (cut : Cut) → Represents (lent_table links.old) list.old (join cut) → IsAfter cut at
+        → (result ≡ true) × Splits Represents (lent_table links.old) (lent_table links.new) list.new rest.new cut.front cut.back }
     ensures accepted { (result ≡ true) ↔ TellsGap (lent_table links.old) list.old at }
     ensures own { result ≡ true → list.new.head ≡ end_of at None list.old.head }
     ensures rest { result ≡ true → rest.new.head ≡ next_from (lent_table links.old) list.old at }

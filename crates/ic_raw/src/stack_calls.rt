@@ -35,7 +35,7 @@ pub fn write_back(words: &mut RawFront, list: stack::Stack)
     words.set(list.first());
 }
 
-/// Puts a place in front of all members. O(1).
+/// Puts a place before all members. O(1).
 ///
 /// The place has to be one of the table, and not linked. Where the first member is not linked, it returns [`BROKEN`].
 #[inline]
@@ -54,7 +54,7 @@ pub fn push_front(table: &mut [RawOne], list: &mut RawFront, place: u32) -> u32
 // Takes the first member off any list, or says why not.
 #[cold]
 #[inline(never)]
-fn pop_front_any(table: &mut [RawOne], list: &mut RawFront, popped: &mut u32) -> u32
+fn pop_front_slow(table: &mut [RawOne], list: &mut RawFront, popped: &mut u32) -> u32
     ensures { PopCall table.old table.new list.old list.new result popped.old popped.new }
 {
     remove_after(table, list, NONE, popped)
@@ -77,12 +77,12 @@ pub fn pop_front(table: &mut [RawOne], list: &mut RawFront, popped: &mut u32) ->
             return OK;
         }
     }
-    pop_front_any(links.entries, list, popped)
+    pop_front_slow(links.entries, list, popped)
 }
 
-/// Puts a place behind the member `at`, at [`NONE`] in front of all. O(1).
+/// Puts a place after the member `at`, at [`NONE`] before all. O(1).
 ///
-/// The place has to be one of the table, and not linked. Where what stands behind `at` is not linked, it returns
+/// The place has to be one of the table, and not linked. Where what stands after `at` is not linked, it returns
 /// [`BROKEN`].
 #[inline]
 pub fn insert_after(table: &mut [RawOne], list: &mut RawFront, at: u32, place: u32) -> u32
@@ -97,9 +97,9 @@ pub fn insert_after(table: &mut [RawOne], list: &mut RawFront, at: u32, place: u
     OK
 }
 
-/// Takes the member behind `at` off, at [`NONE`] the first one, and hands it out, or returns [`NULL`] where there is none. O(1).
+/// Takes the member after `at` off, at [`NONE`] the first one, and hands it out, or returns [`NULL`] where there is none. O(1).
 ///
-/// Where what stands behind `at` is not linked, it returns [`BROKEN`].
+/// Where what stands after `at` is not linked, it returns [`BROKEN`].
 #[inline]
 pub fn remove_after(table: &mut [RawOne], list: &mut RawFront, at: u32, removed: &mut u32) -> u32
     ensures { RemoveCall table.old table.new list.old list.new result (place_of at) removed.old removed.new }
@@ -118,10 +118,10 @@ pub fn remove_after(table: &mut [RawOne], list: &mut RawFront, at: u32, removed:
     OK
 }
 
-/// Puts a place where the member behind `at` is, at [`NONE`] where the first is, and hands out that member, which is unlinked then.
+/// Puts a place where the member after `at` is, at [`NONE`] where the first is, and hands out that member, which is unlinked then.
 /// Returns [`NULL`] where there is none. O(1).
 ///
-/// The place has to be one of the table, and not linked. Where what stands behind `at` is not linked, it returns
+/// The place has to be one of the table, and not linked. Where what stands after `at` is not linked, it returns
 /// [`BROKEN`].
 #[inline]
 pub fn replace_after(
@@ -149,9 +149,9 @@ pub fn replace_after(
     OK
 }
 
-/// Puts all of the given list behind the member `at`, at [`NONE`] in front of all, and leaves the given one empty.
+/// Puts all of the given list after the member `at`, at [`NONE`] before all, and leaves the given one empty.
 ///
-/// One reading for each of its members. Where what stands behind `at` is not linked, it returns [`BROKEN`], and so it does
+/// One reading for each of its members. Where what stands after `at` is not linked, it returns [`BROKEN`], and so it does
 /// of a given list that begins with the same member, as the list itself, or whose places lead to no end.
 #[inline]
 pub fn splice_after(table: &mut [RawOne], list: &mut RawFront, at: u32, given: &mut RawFront) -> u32
@@ -168,9 +168,9 @@ pub fn splice_after(table: &mut [RawOne], list: &mut RawFront, at: u32, given: &
     OK
 }
 
-/// Hands out what stands behind the member `at`, at [`NONE`] all of the list. O(1).
+/// Hands out what stands after the member `at`, at [`NONE`] all of the list. O(1).
 ///
-/// Where `rest` is not empty, or what stands behind `at` is not linked, it returns [`BROKEN`].
+/// Where `rest` is not empty, or what stands after `at` is not linked, it returns [`BROKEN`].
 #[inline]
 pub fn split_after(table: &mut [RawOne], list: &mut RawFront, at: u32, rest: &mut RawFront) -> u32
     ensures { SplitCall table.old table.new list.old list.new result (place_of at) rest.old rest.new }

@@ -6,14 +6,12 @@
 //! ```
 
 ghost use Rattle.std.specs.Prelude.{◌≡◌, ◌≢◌, ◌↔◌, ◌∷◌, ◌<◌, [], length, Some, None, true, IsTrue};
-ghost use Rattle.ic_unsafe_ref.specs.declared.place.Place.{Place};
-ghost use Rattle.ic_unsafe_ref.specs.Places.{index_of};
+ghost use Rattle.ic_link_ops.specs.Prelude.{Place, index_of, IsCovered, IsLinked, ChangesOnly};
 ghost use Rattle.ic_link_ops.specs.PlainTables.{table_of};
 ghost use Rattle.ic_link_ops.specs.Widths.{nameable};
-ghost use Rattle.ic_link_ops.specs.Tables.{IsCovered, IsLinked, ChangesOnly};
 ghost use Rattle.ic_raw.specs.declared.status.TheConstants.{OK, NULL};
 ghost use Rattle.ic_raw.specs.Tables.{IsView, IsFree, raw_entries, nameable_table, member_fault, place_fault};
-ghost use Rattle.ic_raw.specs.Gaps.{Stands};
+ghost use Rattle.ic_raw.specs.Gaps.{IsNoneOrLinked};
 ghost use Rattle.ic_raw.specs.Answers.{refusal};
 ghost use Rattle.ic_raw.specs.Words.{place_of};
 
@@ -116,7 +114,7 @@ impl<W: Words> RawTable<'_, W> {
     /// Whether `place` is none or a linked place of the table. O(1).
     #[inline]
     pub fn stands(&self, place: Option<Place>) -> bool
-        ensures { (result ≡ true) ↔ Stands W.is_linked (nameable_table W.width W.unlinked self.now) place }
+        ensures { (result ≡ true) ↔ IsNoneOrLinked W.is_linked (nameable_table W.width W.unlinked self.now) place }
     {
         match place {
             None => true,
@@ -262,7 +260,7 @@ pub(crate) fn refusal_at_end<W: Words>(words: &mut [W], place: u32) -> u32
 
 impl<W: Words> LinkOps for RawTable<'_, W> {
     ghost use Rattle.ic_link_ops.specs.EntryLaws.{linked_in_range};
-    ghost use Rattle.ic_link_ops.specs.LinkSteps.{Replays};
+    ghost use Rattle.ic_link_ops.specs.LinkSteps.{TraceIs};
     ghost use Rattle.ic_link_ops.specs.StepLaws.{replays_on};
     ghost use Rattle.std.proofs.Common.{ap, refl};
     ghost use Rattle.ic_link_ops.specs.Widths.{HasRoom, nameable_has_room};
@@ -275,7 +273,7 @@ impl<W: Words> LinkOps for RawTable<'_, W> {
 
     ghost CanName = { HasRoom W.width };
 
-    ghost Does = { λ old new s. Replays W.is_linked (nameable_table W.width W.unlinked old) (nameable_table W.width W.unlinked new) s };
+    ghost Trace = { λ old new s. TraceIs W.is_linked (nameable_table W.width W.unlinked old) (nameable_table W.width W.unlinked new) s };
 
     ghost Refused = { λ old new p. IsLinked W.is_linked (nameable_table W.width W.unlinked old) p × (new ≡ old) };
 

@@ -1,13 +1,11 @@
 //! The red-black tree: what its calls test, and its edits over a view of the table.
 //!
 //! ```text
-//! let made = remove(&mut links, &mut tree, member);
+//! let made = remove(&mut Plain, &mut links, &mut tree, member);
 //! ```
 
 ghost use Rattle.std.specs.Prelude.{◌≡◌, ◌≢◌, ◌↔◌, ◌⊎◌, ◌++◌, ◌∷◌, [], List, Option, Some, None, true, false};
-ghost use Rattle.ic_unsafe_ref.specs.declared.place.Place.{Place};
-ghost use Rattle.ic_link_ops.specs.Sequences.{Cut, join};
-ghost use Rattle.ic_link_ops.specs.Tables.{IsLinked, IsUnlinked, ChangesOnly, LinksAlso, Unlinks, Exchanges};
+ghost use Rattle.ic_link_ops.specs.Prelude.{Place, Cut, join, IsLinked, IsUnlinked, ChangesOnly, LinksAlso, Unlinks, Exchanges};
 ghost use Rattle.ic_link_ops.specs.Edits.{Inserts, Removes, Replaces};
 ghost use Rattle.ic_link_ops.specs.RedBlackTree.{node_at};
 ghost use Rattle.ic_link_ops.specs.Frames.{across, child_on};
@@ -16,14 +14,16 @@ ghost use Rattle.ic_rbtree.specs.Sides.{IsBeside};
 ghost use Rattle.ic_rbtree.specs.Tree.{root_of};
 ghost use Rattle.ic_raw.specs.declared.status.TheConstants.{OK, NULL, BROKEN};
 ghost use Rattle.ic_raw.specs.Answers.{IsFound, refusal};
-ghost use Rattle.ic_raw.specs.Gaps.{Stands, before};
+ghost use Rattle.ic_raw.specs.Gaps.{IsNoneOrLinked, before};
 ghost use Rattle.ic_raw.specs.Seen.{IsWithin, StaysWithin, HandsOutStep, StepEndsIn, has_place};
+ghost use Rattle.ic_raw.specs.Surgery.{TellsOfInsertion, TellsOfRemoval};
 ghost use Rattle.ic_raw.specs.Tables.{IsFree, member_fault};
 ghost use Rattle.ic_raw.specs.Words.{is_linked_three, place_of, HasNumber};
-ghost use Rattle.ic_raw.specs.Tree.{Shows, IsHole, TellsHole, lent_table, node};
+ghost use Rattle.ic_raw.specs.Tree.{Represents, IsInsertPos, TellsInsertPos, lent_table, node};
 
 use crate::number::{number_of, place_in, place_of};
 use crate::status::{BROKEN, NULL, OK};
+use crate::surgery::Surgery;
 use crate::table::RawTable;
 use crate::words::RawThree;
 use ic_link_ops::{LinkOps, Side, Words};
@@ -37,8 +37,8 @@ pub(crate) type Tree = RBTree<()>;
 // none and that the table has no such place.
 #[inline]
 fn has_root(links: &RawTable<'_, RawThree>, tree: &Tree) -> bool
-    ensures root { result ≡ true → Stands is_linked_three (lent_table links.now) (root_of tree.now) }
-    ensures shown { root_of tree.now ≢ None → Stands is_linked_three (lent_table links.now) (root_of tree.now) → result ≡ true }
+    ensures root { result ≡ true → IsNoneOrLinked is_linked_three (lent_table links.now) (root_of tree.now) }
+    ensures shown { root_of tree.now ≢ None → IsNoneOrLinked is_linked_three (lent_table links.now) (root_of tree.now) → result ≡ true }
 {
     let Some(root) = tree.root() else {
         return false;
@@ -52,9 +52,9 @@ fn has_root(links: &RawTable<'_, RawThree>, tree: &Tree) -> bool
 // Whether the place is none or linked, and the root too, which a tree with a member has.
 #[inline]
 pub(crate) fn stand(links: &RawTable<'_, RawThree>, tree: &Tree, at: Option<Place>) -> bool
-    ensures at { result ≡ true → Stands is_linked_three (lent_table links.now) at }
-    ensures root { result ≡ true → Stands is_linked_three (lent_table links.now) (root_of tree.now) }
-    ensures shown { (side : Side) (cut : Cut) → Shows (lent_table links.now) (root_of tree.now) (join cut) → IsBeside side cut at
+    ensures at { result ≡ true → IsNoneOrLinked is_linked_three (lent_table links.now) at }
+    ensures root { result ≡ true → IsNoneOrLinked is_linked_three (lent_table links.now) (root_of tree.now) }
+    ensures shown { (side : Side) (cut : Cut) → Represents (lent_table links.now) (root_of tree.now) (join cut) → IsBeside side cut at
         → result ≡ true }
 {
     match at {
@@ -72,10 +72,10 @@ pub(crate) fn stand(links: &RawTable<'_, RawThree>, tree: &Tree, at: Option<Plac
 // tree is none of this one.
 #[inline]
 fn may_hold(links: &RawTable<'_, RawThree>, tree: &Tree, member: Place) -> bool
-    ensures at { result ≡ true → Stands is_linked_three (lent_table links.now) (Some member) }
-    ensures root { result ≡ true → Stands is_linked_three (lent_table links.now) (root_of tree.now) }
+    ensures at { result ≡ true → IsNoneOrLinked is_linked_three (lent_table links.now) (Some member) }
+    ensures root { result ≡ true → IsNoneOrLinked is_linked_three (lent_table links.now) (root_of tree.now) }
     ensures own { result ≡ true → (node_at node (lent_table links.now) member).parent ≡ None → root_of tree.now ≡ Some member }
-    ensures shown { (front back : List Place) → Shows (lent_table links.now) (root_of tree.now) (front ++ member ∷ back) → result ≡ true }
+    ensures shown { (front back : List Place) → Represents (lent_table links.now) (root_of tree.now) (front ++ member ∷ back) → result ≡ true }
 {
     if !stand(links, tree, Some(member)) {
         return false;
@@ -102,10 +102,10 @@ fn child(links: &RawTable<'_, RawThree>, place: Place, side: Side) -> Option<Pla
 // Whether a place can be put in on this side of `at`: it has no child there, or is none, and the tree empty.
 #[inline]
 fn is_hole(links: &RawTable<'_, RawThree>, tree: &Tree, side: Side, at: Option<Place>) -> bool
-    ensures at { result ≡ true → Stands is_linked_three (lent_table links.now) at }
-    ensures root { result ≡ true → Stands is_linked_three (lent_table links.now) (root_of tree.now) }
-    ensures told { result ≡ true → TellsHole side (lent_table links.now) (root_of tree.now) at }
-    ensures shown { (cut : Cut) → Shows (lent_table links.now) (root_of tree.now) (join cut) → IsHole side (lent_table links.now) at cut
+    ensures at { result ≡ true → IsNoneOrLinked is_linked_three (lent_table links.now) at }
+    ensures root { result ≡ true → IsNoneOrLinked is_linked_three (lent_table links.now) (root_of tree.now) }
+    ensures links_back { result ≡ true → TellsInsertPos side (lent_table links.now) (root_of tree.now) at }
+    ensures shown { (cut : Cut) → Represents (lent_table links.now) (root_of tree.now) (join cut) → IsInsertPos side (lent_table links.now) at cut
         → result ≡ true }
 {
     if !stand(links, tree, at) {
@@ -142,7 +142,8 @@ fn acquire(links: &mut RawTable<'_, RawThree>, place: Option<Place>) -> Option<P
 // Puts the place in on this side of a place of the table, at none as the root, if it is one of the table and not linked, and says whether
 // it could.
 #[inline(always)]
-pub(crate) fn put(
+pub(crate) fn put<S: Surgery>(
+    surgery: &mut S,
     links: &mut RawTable<'_, RawThree>,
     tree: &mut Tree,
     side: Side,
@@ -150,70 +151,81 @@ pub(crate) fn put(
     place: Option<Place>,
 ) -> bool
     requires { AreIn (has_place (lent_table links.old)) (at ∷ root_of tree.old ∷ []) }
-    ensures inserted { (cut : Cut) (p : Place) → Shows (lent_table links.old) (root_of tree.old) (join cut)
-        → IsHole side (lent_table links.old) at cut → place ≡ Some p → IsFree is_linked_three (lent_table links.old) p
-        → (result ≡ true) × Inserts Shows (lent_table links.old) (lent_table links.new) (root_of tree.new) cut p }
+    ensures inserted { (cut : Cut) (p : Place) → Represents (lent_table links.old) (root_of tree.old) (join cut)
+        → IsInsertPos side (lent_table links.old) at cut → place ≡ Some p → IsFree is_linked_three (lent_table links.old) p
+        → (result ≡ true) × Inserts Represents (lent_table links.old) (lent_table links.new) (root_of tree.new) cut p }
     ensures free { result ≡ true → (p : Place) × (place ≡ Some p) × IsFree is_linked_three (lent_table links.old) p }
     ensures linked { (p : Place) → place ≡ Some p → result ≡ true → LinksAlso is_linked_three (lent_table links.old) (lent_table links.new) p }
     ensures within { result ≡ true
         → StaysWithin (lent_table links.old) (lent_table links.new) (root_of tree.old) (root_of tree.new) place None (at ∷ []) }
+    ensures told { (p : Place) → place ≡ Some p → result ≡ true
+        → TellsOfInsertion S.Tells surgery.old surgery.new (lent_table links.old) (lent_table links.new) p }
     ensures refused { result ≡ false → (links.new ≡ links.old) × (tree.new ≡ tree.old) }
     ensures extent { (lent_table links.new).extent ≡ (lent_table links.old).extent }
 {
     let Some(place) = acquire(links, place) else {
         return false;
     };
-    tree.attach(links, at, side, place);
+    surgery.attach(links, tree, at, side, place);
     true
 }
 
 // Puts the place in on this side of a member, at none as the only one, and says whether it could.
 #[inline(always)]
-pub(crate) fn insert(
+pub(crate) fn insert<S: Surgery>(
+    surgery: &mut S,
     links: &mut RawTable<'_, RawThree>,
     tree: &mut Tree,
     side: Side,
     at: Option<Place>,
     place: Option<Place>,
 ) -> bool
-    ensures inserted { (cut : Cut) (p : Place) → Shows (lent_table links.old) (root_of tree.old) (join cut)
-        → IsHole side (lent_table links.old) at cut → place ≡ Some p → IsFree is_linked_three (lent_table links.old) p
-        → (result ≡ true) × Inserts Shows (lent_table links.old) (lent_table links.new) (root_of tree.new) cut p }
+    ensures inserted { (cut : Cut) (p : Place) → Represents (lent_table links.old) (root_of tree.old) (join cut)
+        → IsInsertPos side (lent_table links.old) at cut → place ≡ Some p → IsFree is_linked_three (lent_table links.old) p
+        → (result ≡ true) × Inserts Represents (lent_table links.old) (lent_table links.new) (root_of tree.new) cut p }
     ensures free { result ≡ true → (p : Place) × (place ≡ Some p) × IsFree is_linked_three (lent_table links.old) p }
-    ensures stands { result ≡ true → Stands is_linked_three (lent_table links.old) at }
-    ensures root { result ≡ true → Stands is_linked_three (lent_table links.old) (root_of tree.old) }
-    ensures told { result ≡ true → TellsHole side (lent_table links.old) (root_of tree.old) at }
+    ensures stands { result ≡ true → IsNoneOrLinked is_linked_three (lent_table links.old) at }
+    ensures root { result ≡ true → IsNoneOrLinked is_linked_three (lent_table links.old) (root_of tree.old) }
+    ensures links_back { result ≡ true → TellsInsertPos side (lent_table links.old) (root_of tree.old) at }
     ensures linked { (p : Place) → place ≡ Some p → result ≡ true → LinksAlso is_linked_three (lent_table links.old) (lent_table links.new) p }
     ensures within { result ≡ true
         → StaysWithin (lent_table links.old) (lent_table links.new) (root_of tree.old) (root_of tree.new) place None (at ∷ []) }
+    ensures told { (p : Place) → place ≡ Some p → result ≡ true
+        → TellsOfInsertion S.Tells surgery.old surgery.new (lent_table links.old) (lent_table links.new) p }
     ensures refused { result ≡ false → (links.new ≡ links.old) × (tree.new ≡ tree.old) }
     ensures extent { (lent_table links.new).extent ≡ (lent_table links.old).extent }
 {
     if !is_hole(&*links, &*tree, side, at) {
         return false;
     }
-    put(links, tree, side, at, place)
+    put(surgery, links, tree, side, at, place)
 }
 
 // Takes the member off, and says whether it could.
 #[inline]
-pub(crate) fn remove(links: &mut RawTable<'_, RawThree>, tree: &mut Tree, member: Place) -> bool
-    ensures removed { (front back : List Place) → Shows (lent_table links.old) (root_of tree.old) (front ++ member ∷ back)
-        → (result ≡ true) × Removes Shows (lent_table links.old) (lent_table links.new) (root_of tree.new) (before member front back)
+pub(crate) fn remove<S: Surgery>(
+    surgery: &mut S,
+    links: &mut RawTable<'_, RawThree>,
+    tree: &mut Tree,
+    member: Place,
+) -> bool
+    ensures removed { (front back : List Place) → Represents (lent_table links.old) (root_of tree.old) (front ++ member ∷ back)
+        → (result ≡ true) × Removes Represents (lent_table links.old) (lent_table links.new) (root_of tree.new) (before member front back)
         × IsUnlinked is_linked_three (lent_table links.new) member }
-    ensures stands { result ≡ true → Stands is_linked_three (lent_table links.old) (Some member) }
-    ensures root { result ≡ true → Stands is_linked_three (lent_table links.old) (root_of tree.old) }
+    ensures stands { result ≡ true → IsNoneOrLinked is_linked_three (lent_table links.old) (Some member) }
+    ensures root { result ≡ true → IsNoneOrLinked is_linked_three (lent_table links.old) (root_of tree.old) }
     ensures own { result ≡ true → (node_at node (lent_table links.old) member).parent ≡ None → root_of tree.old ≡ Some member }
     ensures unlinked { result ≡ true → Unlinks is_linked_three (lent_table links.old) (lent_table links.new) member }
     ensures within { result ≡ true → StaysWithin (lent_table links.old) (lent_table links.new) (root_of tree.old) (root_of tree.new) None (Some member)
         (Some member ∷ []) }
+    ensures told { result ≡ true → TellsOfRemoval S.Tells surgery.old surgery.new (lent_table links.old) (lent_table links.new) member }
     ensures refused { result ≡ false → (links.new ≡ links.old) × (tree.new ≡ tree.old) }
     ensures extent { (lent_table links.new).extent ≡ (lent_table links.old).extent }
 {
     if !may_hold(&*links, &*tree, member) {
         return false;
     }
-    tree.unlink(links, member);
+    surgery.unlink(links, tree, member);
     links.release_link(member);
     true
 }
@@ -226,13 +238,13 @@ pub(crate) fn replace(
     member: Place,
     place: Option<Place>,
 ) -> bool
-    ensures replaced { (front back : List Place) (p : Place) → Shows (lent_table links.old) (root_of tree.old) (front ++ member ∷ back)
+    ensures replaced { (front back : List Place) (p : Place) → Represents (lent_table links.old) (root_of tree.old) (front ++ member ∷ back)
         → place ≡ Some p → IsFree is_linked_three (lent_table links.old) p
-        → (result ≡ true) × Replaces Shows (lent_table links.old) (lent_table links.new) (root_of tree.new) (before member front back) p
+        → (result ≡ true) × Replaces Represents (lent_table links.old) (lent_table links.new) (root_of tree.new) (before member front back) p
         × IsUnlinked is_linked_three (lent_table links.new) member }
     ensures free { result ≡ true → (p : Place) × (place ≡ Some p) × IsFree is_linked_three (lent_table links.old) p }
-    ensures stands { result ≡ true → Stands is_linked_three (lent_table links.old) (Some member) }
-    ensures root { result ≡ true → Stands is_linked_three (lent_table links.old) (root_of tree.old) }
+    ensures stands { result ≡ true → IsNoneOrLinked is_linked_three (lent_table links.old) (Some member) }
+    ensures root { result ≡ true → IsNoneOrLinked is_linked_three (lent_table links.old) (root_of tree.old) }
     ensures own { result ≡ true → (node_at node (lent_table links.old) member).parent ≡ None → root_of tree.old ≡ Some member }
     ensures exchanged { (p : Place) → place ≡ Some p → result ≡ true
         → Exchanges is_linked_three (lent_table links.old) (lent_table links.new) p member }
@@ -256,9 +268,9 @@ pub(crate) fn replace(
 #[inline(always)]
 fn tell(links: &RawTable<'_, RawThree>, member: Option<Place>, found: &mut u32) -> bool
     requires { IsIn (has_place (lent_table links.now)) member }
-    ensures told { result ≡ true → (q : Place) × (member ≡ Some q) × IsLinked is_linked_three (lent_table links.now) q × HasNumber q found.new }
+    ensures links_back { result ≡ true → (q : Place) × (member ≡ Some q) × IsLinked is_linked_three (lent_table links.now) q × HasNumber q found.new }
     ensures not_told { result ≡ false → found.new ≡ found.old }
-    ensures stands { Stands is_linked_three (lent_table links.now) member → member ≢ None → result ≡ true }
+    ensures stands { IsNoneOrLinked is_linked_three (lent_table links.now) member → member ≢ None → result ≡ true }
 {
     let Some(place) = member else {
         return false;
@@ -302,9 +314,9 @@ pub(crate) fn hand_out(
     found: &mut u32,
 ) -> u32
     requires { IsIn (has_place (lent_table links.now)) member }
-    ensures found { Stands is_linked_three (lent_table links.now) member → IsFound member result found.new }
+    ensures found { IsNoneOrLinked is_linked_three (lent_table links.now) member → IsFound member result found.new }
     ensures refused { result ≢ OK → found.new ≡ found.old }
-    ensures told { result ≡ OK → (q : Place) × (member ≡ Some q) × IsLinked is_linked_three (lent_table links.now) q × HasNumber q found.new }
+    ensures links_back { result ≡ OK → (q : Place) × (member ≡ Some q) × IsLinked is_linked_three (lent_table links.now) q × HasNumber q found.new }
     ensures null { (result ≡ NULL) ↔ (member ≡ None) }
     ensures why { result ≢ OK → result ≢ NULL → result ≡ BROKEN }
 {
@@ -319,12 +331,12 @@ pub(crate) fn hand_out(
 // It is out of line, so that a step from a member keeps no register for it.
 #[inline(never)]
 fn step_from_none(links: &RawTable<'_, RawThree>, tree: &Tree, side: Side, found: &mut u32) -> u32
-    ensures found { (cut : Cut) (member : Option Place) → Shows (lent_table links.now) (root_of tree.now) (join cut)
+    ensures found { (cut : Cut) (member : Option Place) → Represents (lent_table links.now) (root_of tree.now) (join cut)
         → IsBeside side cut None → IsBeside (across side) cut member → IsFound member result found.new }
     ensures stepped { result ≡ OK → HandsOutStep (lent_table links.now) (root_of tree.now) side None found.new }
     ensures ended { result ≡ NULL → StepEndsIn (lent_table links.now) (root_of tree.now) side None }
     ensures refused { result ≢ OK → found.new ≡ found.old }
-    ensures looked { (result ≡ OK) ⊎ (result ≡ NULL) → Stands is_linked_three (lent_table links.now) (root_of tree.now) }
+    ensures looked { (result ≡ OK) ⊎ (result ≡ NULL) → IsNoneOrLinked is_linked_three (lent_table links.now) (root_of tree.now) }
     ensures why { result ≢ OK → result ≢ NULL → result ≡ BROKEN }
 {
     if !links.stands(tree.root()) {
@@ -342,13 +354,13 @@ pub(crate) fn step(
     at: u32,
     found: &mut u32,
 ) -> u32
-    ensures found { (cut : Cut) (member : Option Place) → Shows (lent_table links.now) (root_of tree.now) (join cut)
+    ensures found { (cut : Cut) (member : Option Place) → Represents (lent_table links.now) (root_of tree.now) (join cut)
         → IsBeside side cut (place_of at) → IsBeside (across side) cut member → IsFound member result found.new }
     ensures stepped { result ≡ OK → HandsOutStep (lent_table links.now) (root_of tree.now) side (place_of at) found.new }
     ensures ended { result ≡ NULL → StepEndsIn (lent_table links.now) (root_of tree.now) side (place_of at) }
     ensures refused { result ≢ OK → found.new ≡ found.old }
-    ensures looked { (result ≡ OK) ⊎ (result ≡ NULL) → Stands is_linked_three (lent_table links.now) (place_of at)
-        × Stands is_linked_three (lent_table links.now) (root_of tree.now) }
+    ensures looked { (result ≡ OK) ⊎ (result ≡ NULL) → IsNoneOrLinked is_linked_three (lent_table links.now) (place_of at)
+        × IsNoneOrLinked is_linked_three (lent_table links.now) (root_of tree.now) }
     ensures why { result ≢ OK → result ≢ NULL → result ≡ refusal (member_fault is_linked_three (lent_table links.now) (place_of at) ∷ []) }
 {
     let Some(member) = place_of(at) else {

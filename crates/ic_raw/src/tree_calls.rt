@@ -2,18 +2,22 @@
 //!
 //! ```text
 //! insert_at(table, tree, Side::Left, NONE, 7) // OK: the only member
-//! insert_at(table, tree, Side::Right, 7, 8)   // OK: behind it
+//! insert_at(table, tree, Side::Right, 7, 8)   // OK: after it
 //! remove(table, tree, 7)                      // OK
 //! ```
 
-ghost use Rattle.std.specs.Prelude.{◌≡◌};
+ghost use Rattle.std.specs.Prelude.{◌≡◌, Some};
+ghost use Rattle.ic_link_ops.specs.Prelude.{Place};
 ghost use Rattle.ic_rbtree.specs.Tree.{root_of};
+ghost use Rattle.ic_raw.specs.declared.status.TheConstants.{OK};
+ghost use Rattle.ic_raw.specs.Surgery.{HoldsOfViews, TellsOfInsertion, TellsOfRemoval};
 ghost use Rattle.ic_raw.specs.Words.{place_of};
 ghost use Rattle.ic_raw.specs.Tree.{root_in};
 ghost use Rattle.ic_raw.specs.TreeCalls.{ClearCall, InsertCall, RemoveCall, ReplaceCall, StepCall};
 
 use crate::number::{place_in, place_of};
 use crate::status::{BROKEN, NULL, OK};
+use crate::surgery::{Plain, Surgery};
 use crate::table::RawTable;
 use crate::words::{RawRoot, RawThree};
 use crate::{tree, tree_clear};
@@ -36,9 +40,33 @@ pub(crate) fn tree_of(words: &RawRoot) -> tree::Tree
 pub fn insert_at(table: &mut [RawThree], tree: &mut RawRoot, side: Side, at: u32, place: u32) -> u32
     ensures { InsertCall table.old table.new tree.old tree.new result side (place_of at) (place_of place) }
 {
+    insert_at_by(&mut Plain, table, tree, side, at, place)
+}
+
+/// The same by surgery of the caller's, which sees what is written.
+#[inline]
+pub fn insert_at_by<S: Surgery>(
+    by: &mut S,
+    table: &mut [RawThree],
+    tree: &mut RawRoot,
+    side: Side,
+    at: u32,
+    place: u32,
+) -> u32
+    ensures call { InsertCall table.old table.new tree.old tree.new result side (place_of at) (place_of place) }
+    ensures told { (p : Place) → place_of place ≡ Some p → result ≡ OK
+        → HoldsOfViews table.old table.new (λ old new. TellsOfInsertion S.Tells by.old by.new old new p) }
+{
     let mut links = RawTable::new(table);
     let mut edited = tree_of(&*tree);
-    if !tree::insert(&mut links, &mut edited, side, place_of(at), place_of(place)) {
+    if !tree::insert(
+        by,
+        &mut links,
+        &mut edited,
+        side,
+        place_of(at),
+        place_of(place),
+    ) {
         return links.refusal(at, place);
     }
     tree.set(edited.root());
@@ -50,12 +78,22 @@ pub fn insert_at(table: &mut [RawThree], tree: &mut RawRoot, side: Side, at: u32
 pub fn remove(table: &mut [RawThree], tree: &mut RawRoot, at: u32) -> u32
     ensures { RemoveCall table.old table.new tree.old tree.new result (place_of at) }
 {
+    remove_by(&mut Plain, table, tree, at)
+}
+
+/// The same by surgery of the caller's, which sees what is written.
+#[inline]
+pub fn remove_by<S: Surgery>(by: &mut S, table: &mut [RawThree], tree: &mut RawRoot, at: u32) -> u32
+    ensures call { RemoveCall table.old table.new tree.old tree.new result (place_of at) }
+    ensures told { (p : Place) → place_of at ≡ Some p → result ≡ OK
+        → HoldsOfViews table.old table.new (λ old new. TellsOfRemoval S.Tells by.old by.new old new p) }
+{
     let Some(member) = place_of(at) else {
         return NULL;
     };
     let mut links = RawTable::new(table);
     let mut edited = tree_of(&*tree);
-    if !tree::remove(&mut links, &mut edited, member) {
+    if !tree::remove(by, &mut links, &mut edited, member) {
         return links.refusal_at(at);
     }
     tree.set(edited.root());

@@ -5,17 +5,15 @@
 //! ```
 
 ghost use Rattle.std.specs.Prelude.{◌≡◌, ◌↔◌, ◌∷◌, [], List, Some, None, true, false};
-ghost use Rattle.ic_unsafe_ref.specs.declared.place.Place.{Place};
+ghost use Rattle.ic_link_ops.specs.Prelude.{Place, Cut, join, IsAfter, IsBefore, IsCovered, IsUnlinked, ChangesOnly};
 ghost use Rattle.ic_link_ops.specs.declared.side.Side.TheVariants.{Right};
-ghost use Rattle.ic_link_ops.specs.Sequences.{Cut, join, IsAfter, IsBefore};
-ghost use Rattle.ic_link_ops.specs.Tables.{IsCovered, IsUnlinked, ChangesOnly};
 ghost use Rattle.ic_rbtree.specs.Closed.{AreIn, IsIn};
 ghost use Rattle.ic_rbtree.specs.StepsTo.{StepsTo};
 ghost use Rattle.ic_rbtree.specs.Tree.{root_of};
 ghost use Rattle.ic_raw.specs.Calls.{Clears};
-ghost use Rattle.ic_raw.specs.Gaps.{Stands};
+ghost use Rattle.ic_raw.specs.Gaps.{IsNoneOrLinked};
 ghost use Rattle.ic_raw.specs.Seen.{seen, seen_node, has_place, StepEndsIn};
-ghost use Rattle.ic_raw.specs.Tree.{Shows, lent_table};
+ghost use Rattle.ic_raw.specs.Tree.{Represents, lent_table};
 ghost use Rattle.ic_raw.specs.WholeTree.{IsSeen, LeadsToEnd, OnlyUnmarks, unmarked};
 ghost use Rattle.ic_raw.specs.Words.{is_linked_three};
 
@@ -37,7 +35,7 @@ fn has(links: &RawTable<'_, RawThree>, place: Option<Place>) -> bool
     }
 }
 
-// What stands behind a place, the first member at none. None where the place or the root is none of the table.
+// What stands after a place, the first member at none. None where the place or the root is none of the table.
 #[inline]
 fn next_of(links: &RawTable<'_, RawThree>, tree: &Tree, at: Option<Place>) -> Option<Place>
     ensures leads { (gap : Cut) → IsSeen (lent_table links.now) (root_of tree.now) (join gap) → IsAfter gap at → IsBefore gap result }
@@ -56,8 +54,8 @@ fn next_of(links: &RawTable<'_, RawThree>, tree: &Tree, at: Option<Place>) -> Op
 
 // Whether steps from the first member on lead through linked places to an end, as many as the table has places at most.
 fn leads_to_end(links: &RawTable<'_, RawThree>, tree: &Tree) -> bool
-    ensures shown { (s : List Place) → Shows (lent_table links.now) (root_of tree.now) s → result ≡ true }
-    ensures ended { Stands is_linked_three (lent_table links.now) (root_of tree.now) → result ≡ true
+    ensures shown { (s : List Place) → Represents (lent_table links.now) (root_of tree.now) s → result ≡ true }
+    ensures ended { IsNoneOrLinked is_linked_three (lent_table links.now) (root_of tree.now) → result ≡ true
         → LeadsToEnd (lent_table links.now) (root_of tree.now) None }
 {
     let mut at = next_of(links, tree, None);
@@ -90,7 +88,7 @@ fn unmark(links: &mut RawTable<'_, RawThree>, place: Place)
 
 // Unlinks the places from the first member on, one after the other.
 fn unmark_all(links: &mut RawTable<'_, RawThree>, tree: &Tree)
-    ensures cleared { (s : List Place) → Shows (lent_table links.old) (root_of tree.now) s
+    ensures cleared { (s : List Place) → Represents (lent_table links.old) (root_of tree.now) s
         → Clears is_linked_three (lent_table links.old) (lent_table links.new) s }
     ensures marks { OnlyUnmarks (lent_table links.old) (lent_table links.new) }
     ensures extent { (lent_table links.new).extent ≡ (lent_table links.old).extent }
@@ -112,10 +110,10 @@ fn unmark_all(links: &mut RawTable<'_, RawThree>, tree: &Tree)
 
 // Takes all members off, and says whether it could: steps lead from the first one to an end.
 pub(crate) fn clear(links: &mut RawTable<'_, RawThree>, tree: &Tree) -> bool
-    ensures cleared { (s : List Place) → Shows (lent_table links.old) (root_of tree.now) s
+    ensures cleared { (s : List Place) → Represents (lent_table links.old) (root_of tree.now) s
         → (result ≡ true) × Clears is_linked_three (lent_table links.old) (lent_table links.new) s }
     ensures ended { result ≡ true → LeadsToEnd (lent_table links.old) (root_of tree.now) None }
-    ensures root { result ≡ true → Stands is_linked_three (lent_table links.old) (root_of tree.now) }
+    ensures root { result ≡ true → IsNoneOrLinked is_linked_three (lent_table links.old) (root_of tree.now) }
     ensures refused { result ≡ false → links.new ≡ links.old }
     ensures marks { OnlyUnmarks (lent_table links.old) (lent_table links.new) }
     ensures extent { (lent_table links.new).extent ≡ (lent_table links.old).extent }

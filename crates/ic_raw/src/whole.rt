@@ -9,22 +9,23 @@ ghost use Rattle.ic_unsafe_ref.specs.declared.place.Place.{Place};
 ghost use Rattle.ic_link_ops.specs.Chains.{no_members};
 ghost use Rattle.ic_link_ops.specs.SinglyLinkedList.{list_from};
 ghost use Rattle.ic_raw.specs.Calls.{Clears};
-ghost use Rattle.ic_raw.specs.Words.{is_linked_one, is_linked_two};
+ghost use Rattle.ic_raw.specs.LinkWords.{lent_table};
+ghost use Rattle.ic_raw.specs.Words.{is_linked_one};
 ghost use Rattle.ic_raw.specs.Doubly as doubly;
 ghost use Rattle.ic_raw.specs.Singly as singly;
 
 use crate::list::{List, follows};
 use crate::stack::{Stack, last_from};
 use crate::table::RawTable;
-use crate::words::{RawOne, RawTwo};
+use crate::words::{ListWords, RawOne};
 use ic_link_ops::linked_list::LinkedListOps;
 use ic_unsafe_ref::Place;
 
 // Takes all members of a singly linked list off, and says whether it could: its places lead to an end.
 pub(crate) fn clear_stack(links: &mut RawTable<'_, RawOne>, list: &mut Stack) -> bool
-    ensures cleared { (s : List Place) → singly.Shows (singly.lent_table links.old) list.old s
+    ensures cleared { (s : List Place) → singly.Represents (singly.lent_table links.old) list.old s
         → (result ≡ true) × Clears is_linked_one (singly.lent_table links.old) (singly.lent_table links.new) s }
-    ensures ended { result ≡ true → (s : List Place) × singly.Shows (singly.lent_table links.old) list.old s }
+    ensures ended { result ≡ true → (s : List Place) × singly.Represents (singly.lent_table links.old) list.old s }
     ensures emptied { result ≡ true → list.new ≡ list_from None }
     ensures refused { result ≡ false → (links.new ≡ links.old) × (list.new ≡ list.old) }
     ensures extent { (singly.lent_table links.new).extent ≡ (singly.lent_table links.old).extent }
@@ -39,11 +40,11 @@ pub(crate) fn clear_stack(links: &mut RawTable<'_, RawOne>, list: &mut Stack) ->
     true
 }
 
-// Whether the places lead from the first member to the last, each back to the one in front of it, within as many steps as the table has
+// Whether the places lead from the first member to the last, each back to the one before it, within as many steps as the table has
 // places.
-fn leads_to_last(links: &RawTable<'_, RawTwo>, list: &List) -> bool
-    ensures ended { result ≡ true → (s : List Place) × doubly.Shows (doubly.lent_table links.now) list.now s }
-    ensures shown { (s : List Place) → doubly.Shows (doubly.lent_table links.now) list.now s → result ≡ true }
+fn leads_to_last<W: ListWords>(links: &RawTable<'_, W>, list: &List) -> bool
+    ensures ended { result ≡ true → (s : List Place) × doubly.Represents W.PrevPlace (lent_table W.PrevPlace links.now) list.now s }
+    ensures shown { (s : List Place) → doubly.Represents W.PrevPlace (lent_table W.PrevPlace links.now) list.now s → result ≡ true }
 {
     let Some(front) = list.first() else {
         return Place::to_word(list.last()) == Place::to_word(None);
@@ -66,13 +67,13 @@ fn leads_to_last(links: &RawTable<'_, RawTwo>, list: &List) -> bool
 }
 
 // Takes all members of a doubly linked list off, and says whether it could: its places lead from its first to its last, and back.
-pub(crate) fn clear_list(links: &mut RawTable<'_, RawTwo>, list: &mut List) -> bool
-    ensures cleared { (s : List Place) → doubly.Shows (doubly.lent_table links.old) list.old s
-        → (result ≡ true) × Clears is_linked_two (doubly.lent_table links.old) (doubly.lent_table links.new) s }
-    ensures ended { result ≡ true → (s : List Place) × doubly.Shows (doubly.lent_table links.old) list.old s }
+pub(crate) fn clear_list<W: ListWords>(links: &mut RawTable<'_, W>, list: &mut List) -> bool
+    ensures cleared { (s : List Place) → doubly.Represents W.PrevPlace (lent_table W.PrevPlace links.old) list.old s
+        → (result ≡ true) × Clears W.is_linked (lent_table W.PrevPlace links.old) (lent_table W.PrevPlace links.new) s }
+    ensures ended { result ≡ true → (s : List Place) × doubly.Represents W.PrevPlace (lent_table W.PrevPlace links.old) list.old s }
     ensures emptied { result ≡ true → list.new ≡ no_members }
     ensures refused { result ≡ false → (links.new ≡ links.old) × (list.new ≡ list.old) }
-    ensures extent { (doubly.lent_table links.new).extent ≡ (doubly.lent_table links.old).extent }
+    ensures extent { (lent_table W.PrevPlace links.new).extent ≡ (lent_table W.PrevPlace links.old).extent }
 {
     if !leads_to_last(&*links, &*list) {
         return false;

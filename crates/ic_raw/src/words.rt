@@ -12,9 +12,9 @@
 //! ```
 
 ghost use Rattle.std.specs.Prelude.{◌≡◌, ◌↔◌, Some, None, true};
+ghost use Rattle.ic_raw.specs.Words.{is_marked, narrow_place_in};
 ghost use Rattle.ic_unsafe_ref.specs.Places.{word_of};
 ghost use Rattle.ic_link_ops.specs.Chains.{no_members};
-ghost use Rattle.ic_raw.specs.Words.{place_in, is_linked_two};
 ghost use Rattle.ic_raw.specs.Doubly.{ends_of, words_of};
 ghost use Rattle.ic_raw.specs.Singly.{front_of, word_of_front};
 ghost use Rattle.ic_raw.specs.Tree.{root_in, word_of_root};
@@ -42,8 +42,8 @@ pub struct RawTwo {
     prev: u64,
 }
 
-/// What a table of rings keeps at a place whose words have 4 bytes each: those of [`RawTwo`], which fit for each place with an index below
-/// 536,870,911. Places beyond these are out of range.
+/// What a table of doubly linked lists or of rings keeps at a place whose words have 4 bytes each: those of [`RawTwo`], which fit for each
+/// place with an index below 536,870,911. Places beyond these are out of range.
 #[repr(C)]
 #[derive(Clone, Copy)]
 pub struct RawNarrowTwo {
@@ -86,6 +86,30 @@ pub struct RawEnds {
 pub struct RawRoot {
     /// The word for the root, 0 for none.
     pub root: u64,
+}
+
+/// Words of doubly linked lists, which tell by one comparison of a word what is linked beside their place.
+///
+/// The last two tests look for what a call writes. Other bits are looked at more closely, by the calls that take any words.
+pub trait ListWords: PrevPlace {
+    ghost use Rattle.std.specs.Prelude.{◌≡◌, true};
+    ghost use Rattle.ic_link_ops.specs.Prelude.{place_at};
+
+    /// Whether these are the words of a linked place, with `next` after it.
+    fn leads(&self, next: Option<Place>) -> bool
+        ensures linked { result ≡ true → Self.is_linked self.now ≡ true }
+        ensures next { result ≡ true → place_at (Self.next_word self.now) ≡ next }
+        ensures leads { Self.is_linked self.now ≡ true → next ≡ place_at (Self.next_word self.now) → result ≡ true };
+
+    /// Whether these are the words of a linked place as a call writes them, with `next` after it.
+    fn is_before(&self, next: Option<Place>) -> bool
+        ensures linked { result ≡ true → Self.is_linked self.now ≡ true }
+        ensures next { result ≡ true → place_at (Self.next_word self.now) ≡ next };
+
+    /// Whether these are the words of a linked place as a call writes them, with `prev` before it.
+    fn is_after(&self, prev: Option<Place>) -> bool
+        ensures linked { result ≡ true → Self.is_linked self.now ≡ true }
+        ensures prev { result ≡ true → Self.prev self.now ≡ prev };
 }
 
 impl Words for RawOne {
@@ -238,36 +262,19 @@ impl PrevPlace for RawTwo {
     ghost keeps_prev = { λ old new h. h };
 }
 
-impl RawTwo {
-    // Whether these are the words of a linked place, with `next` behind it. One comparison tells both.
+impl ListWords for RawTwo {
     #[inline]
-    #[tactic(auto, using(crate::proofs::Entries::is_led))]
-    pub(crate) fn leads(&self, next: Option<Place>) -> bool
-        ensures linked { result ≡ true → is_linked_two self.now ≡ true }
-        ensures next { result ≡ true → place_in self.now.next ≡ next }
-        ensures leads { is_linked_two self.now ≡ true → next ≡ place_in self.now.next → result ≡ true }
-    {
+    fn leads(&self, next: Option<Place>) -> bool {
         self.next / 8 % 8_589_934_592 * 8 + self.next % 2 == Place::to_word(next) + 1
     }
-}
 
-// What a call writes, by one comparison of a word. Other bits are looked at more closely, by the calls that take any words.
-impl RawTwo {
-    // Whether these are the words of a linked place, with `next` behind it.
     #[inline]
-    pub(crate) fn is_before(&self, next: Option<Place>) -> bool
-        ensures linked { result ≡ true → is_linked_two self.now ≡ true }
-        ensures next { result ≡ true → place_in self.now.next ≡ next }
-    {
+    fn is_before(&self, next: Option<Place>) -> bool {
         self.next == Place::to_word(next) + 1
     }
 
-    // Whether these are the words of a linked place, with `prev` before it.
     #[inline]
-    pub(crate) fn is_behind(&self, prev: Option<Place>) -> bool
-        ensures linked { result ≡ true → is_linked_two self.now ≡ true }
-        ensures prev { result ≡ true → place_in self.now.prev ≡ prev }
-    {
+    fn is_after(&self, prev: Option<Place>) -> bool {
         self.prev == Place::to_word(prev) && self.next % 2 == 1
     }
 }
@@ -354,6 +361,40 @@ impl PrevPlace for RawNarrowTwo {
     }
 
     ghost keeps_prev = { λ old new h. h };
+}
+
+impl ListWords for RawNarrowTwo {
+    #[inline]
+    fn leads(&self, next: Option<Place>) -> bool {
+        u64::from(self.next / 8 % 536_870_912 * 8 + self.next % 2) == Place::to_word(next) + 1
+    }
+
+    #[inline]
+    fn is_before(&self, next: Option<Place>) -> bool {
+        is_marked_word(self.next, next)
+    }
+
+    #[inline]
+    fn is_after(&self, prev: Option<Place>) -> bool {
+        is_word(self.prev, prev) && self.next % 2 == 1
+    }
+}
+
+// Whether a word of 4 bytes is what a call writes for a place.
+#[inline]
+fn is_word(word: u32, place: Option<Place>) -> bool
+    ensures { result ≡ true → narrow_place_in word ≡ place }
+{
+    u64::from(word) == Place::to_word(place)
+}
+
+// Whether it is what a call writes at a linked place, with `next` after it.
+#[inline]
+fn is_marked_word(word: u32, next: Option<Place>) -> bool
+    ensures linked { result ≡ true → is_marked word ≡ true }
+    ensures next { result ≡ true → narrow_place_in word ≡ next }
+{
+    u64::from(word) == Place::to_word(next) + 1
 }
 
 impl Words for RawThree {

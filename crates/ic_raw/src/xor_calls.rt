@@ -7,11 +7,8 @@
 //! ```
 
 ghost use Rattle.std.specs.Prelude.{◌≡◌, ◌≢◌, ◌++◌, ◌∷◌, [], List, reverse, Some, None, true, false};
-ghost use Rattle.ic_unsafe_ref.specs.declared.place.Place.{Place};
-ghost use Rattle.ic_link_ops.specs.Sequences.{Cut, join, last, IsAfter, IsBefore, IsDisjoint};
-ghost use Rattle.ic_link_ops.specs.Tables.{Table};
+ghost use Rattle.ic_link_ops.specs.Prelude.{Place, Cut, join, last, IsAfter, IsBefore, IsDisjoint, Table, acquires, releases};
 ghost use Rattle.ic_link_ops.specs.Chains.{no_members};
-ghost use Rattle.ic_link_ops.specs.LinkSteps.{acquires, releases};
 ghost use Rattle.ic_raw.specs.declared.gap.Side.TheVariants.{After, Before};
 ghost use Rattle.ic_raw.specs.declared.status.TheConstants.{OK, NULL};
 ghost use Rattle.ic_raw.specs.declared.words.RawOne.{RawOne};
@@ -21,7 +18,7 @@ ghost use Rattle.ic_raw.specs.Words.{place_in, place_of, is_linked_one};
 ghost use Rattle.ic_raw.specs.Tables.{member_fault, place_fault};
 ghost use Rattle.ic_raw.specs.Doubly.{ends_of, words_of};
 ghost use Rattle.ic_raw.specs.Singly.{table_of, lent_table};
-ghost use Rattle.ic_raw.specs.Xor.{Shows, ShowsList, FreeIn, StandsIn, beyond, TellsGap, TellsMemberBehind, TellsMemberBefore, TellsEnds, Inserted, Removed, Spliced};
+ghost use Rattle.ic_raw.specs.Xor.{Represents, RepresentsList, FreeIn, IsNoneOrLinkedIn, beyond, TellsGap, TellsMemberAfter, TellsMemberBefore, TellsEnds, Inserted, Removed, Spliced};
 ghost use Rattle.ic_raw.specs.Answers.{IsStatus, refusal};
 ghost use Rattle.ic_raw.specs.XorCalls.{AppendCall, ClearCall, InsertCall, PopCall, PushCall, RemoveCall, ReplaceCall, SpliceCall, SplitCall};
 
@@ -79,12 +76,12 @@ fn put(
     behind: Option<Place>,
 ) -> bool
     ensures inserted { (cut : Cut) (p : Place) → IsAfter cut before → IsBefore cut behind → place ≡ Some p
-        → ShowsList table.old list.old (join cut) → FreeIn table.old p
+        → RepresentsList table.old list.old (join cut) → FreeIn table.old p
         → (result ≡ true) × Inserted table.old table.new list.old list.new OK cut p }
     ensures free { result ≡ true → (p : Place) × (place ≡ Some p) × FreeIn table.old p }
-    ensures told { result ≡ true → TellsGap (table_of table.old) (ends_of list.old) before behind }
-    ensures before { result ≡ true → StandsIn table.old before }
-    ensures behind { result ≡ true → StandsIn table.old behind }
+    ensures links_back { result ≡ true → TellsGap (table_of table.old) (ends_of list.old) before behind }
+    ensures before { result ≡ true → IsNoneOrLinkedIn table.old before }
+    ensures behind { result ≡ true → IsNoneOrLinkedIn table.old behind }
     ensures touched { (p : Place) → place ≡ Some p → result ≡ true
         → Touches is_linked_one (table_of table.old) (table_of table.new) (acquires p ∷ []) (Some p ∷ before ∷ behind ∷ []) }
     ensures own { result ≡ true → PutIn (gap_between before behind) place (ends_of list.old) (ends_of list.new) }
@@ -122,7 +119,7 @@ fn has_neighbor(table: &mut [RawOne], end: Option<Place>) -> bool
 // Puts a place between the two neighbors that these words name, one of which is none, or says why not.
 #[cold]
 #[inline(never)]
-fn put_any(table: &mut [RawOne], list: &mut RawEnds, place: u32, before: u64, behind: u64) -> u32
+fn put_slow(table: &mut [RawOne], list: &mut RawEnds, place: u32, before: u64, behind: u64) -> u32
     ensures { PushCall table.old table.new list.old list.new result (place_in before) (place_in behind) (place_of place) }
 {
     if !put(
@@ -137,7 +134,7 @@ fn put_any(table: &mut [RawOne], list: &mut RawEnds, place: u32, before: u64, be
     OK
 }
 
-/// Puts a place in front of all members. O(1).
+/// Puts a place before all members. O(1).
 ///
 /// The place has to be one of the table, and not linked. Where the first member is none of the table, it returns [`BROKEN`].
 #[inline]
@@ -149,10 +146,10 @@ pub fn push_front(table: &mut [RawOne], list: &mut RawEnds, place: u32) -> u32
     if has_neighbor(table, first) && put(table, list, None, place_of(place), first) {
         return OK;
     }
-    put_any(table, list, place, 0, word)
+    put_slow(table, list, place, 0, word)
 }
 
-/// Puts a place behind all members. O(1).
+/// Puts a place after all members. O(1).
 ///
 /// The place has to be one of the table, and not linked. Where the last member is none of the table, it returns [`BROKEN`].
 #[inline]
@@ -164,17 +161,17 @@ pub fn push_back(table: &mut [RawOne], list: &mut RawEnds, place: u32) -> u32
     if has_neighbor(table, last) && put(table, list, last, place_of(place), None) {
         return OK;
     }
-    put_any(table, list, place, word, 0)
+    put_slow(table, list, place, word, 0)
 }
 
-// Takes the member behind `before` off, and says whether it could.
+// Takes the member after `before` off, and says whether it could.
 #[inline]
 fn take(table: &mut [RawOne], list: &mut RawEnds, before: Option<Place>, member: Place) -> bool
-    ensures removed { (front back : List Place) → before ≡ last front → ShowsList table.old list.old (front ++ member ∷ back)
+    ensures removed { (front back : List Place) → before ≡ last front → RepresentsList table.old list.old (front ++ member ∷ back)
         → (result ≡ true) × Removed table.old table.new list.old list.new OK member front back }
-    ensures stands { result ≡ true → StandsIn table.old (Some member) }
-    ensures before { result ≡ true → StandsIn table.old before }
-    ensures told { result ≡ true → TellsMemberBehind (table_of table.old) (ends_of list.old) before (Some member) }
+    ensures stands { result ≡ true → IsNoneOrLinkedIn table.old (Some member) }
+    ensures before { result ≡ true → IsNoneOrLinkedIn table.old before }
+    ensures links_back { result ≡ true → TellsMemberAfter (table_of table.old) (ends_of list.old) before (Some member) }
     ensures touched { result ≡ true → Touches is_linked_one (table_of table.old) (table_of table.new) (releases member ∷ [])
         (Some member ∷ before ∷ beyond (table_of table.old) (Some member) before ∷ []) }
     ensures own { result ≡ true
@@ -194,10 +191,10 @@ fn take(table: &mut [RawOne], list: &mut RawEnds, before: Option<Place>, member:
 // Takes the last member off, and says whether it could.
 #[inline]
 fn take_last(table: &mut [RawOne], list: &mut RawEnds, member: Place) -> bool
-    ensures removed { (front : List Place) → ShowsList table.old list.old (front ++ member ∷ [])
+    ensures removed { (front : List Place) → RepresentsList table.old list.old (front ++ member ∷ [])
         → (result ≡ true) × Removed table.old table.new list.old list.new OK member front [] }
-    ensures stands { result ≡ true → StandsIn table.old (Some member) }
-    ensures told { result ≡ true → TellsMemberBefore (table_of table.old) (ends_of list.old) None (Some member) }
+    ensures stands { result ≡ true → IsNoneOrLinkedIn table.old (Some member) }
+    ensures links_back { result ≡ true → TellsMemberBefore (table_of table.old) (ends_of list.old) None (Some member) }
     ensures touched { result ≡ true → Touches is_linked_one (table_of table.old) (table_of table.new) (releases member ∷ [])
         (Some member ∷ beyond (table_of table.old) (Some member) None ∷ None ∷ []) }
     ensures own { result ≡ true
@@ -217,7 +214,7 @@ fn take_last(table: &mut [RawOne], list: &mut RawEnds, member: Place) -> bool
 // Takes the first member off any list, or says why not.
 #[cold]
 #[inline(never)]
-fn pop_front_any(table: &mut [RawOne], list: &mut RawEnds, popped: &mut u32) -> u32
+fn pop_front_slow(table: &mut [RawOne], list: &mut RawEnds, popped: &mut u32) -> u32
     ensures { PopCall table.old table.new list.old list.new result After popped.old popped.new }
 {
     let Some(member) = place_in(list.head) else {
@@ -244,7 +241,7 @@ pub fn pop_front(table: &mut [RawOne], list: &mut RawEnds, popped: &mut u32) -> 
         *popped = number_of(first);
         return OK;
     }
-    pop_front_any(links.entries, list, popped)
+    pop_front_slow(links.entries, list, popped)
 }
 
 /// Takes the last member off and hands it out, or returns [`NULL`] where there is none. O(1).
@@ -284,7 +281,7 @@ pub fn insert_between(
     OK
 }
 
-/// Takes the member `at` off, in front of which `before` stands, or returns [`NULL`] at [`NONE`]. O(1).
+/// Takes the member `at` off, before which `before` stands, or returns [`NULL`] at [`NONE`]. O(1).
 ///
 /// Where the words tell of no such member, it returns [`BROKEN`].
 #[inline]
@@ -300,7 +297,7 @@ pub fn remove(table: &mut [RawOne], list: &mut RawEnds, before: u32, at: u32) ->
     OK
 }
 
-/// Puts a place where the member `at` is, in front of which `before` stands, or returns [`NULL`] at [`NONE`]. The member is
+/// Puts a place where the member `at` is, before which `before` stands, or returns [`NULL`] at [`NONE`]. The member is
 /// unlinked then. O(1).
 ///
 /// The place has to be one of the table, and not linked. Where the words tell of no such member, it returns [`BROKEN`].
@@ -330,13 +327,13 @@ fn splice(
     given: &mut RawEnds,
     behind: Option<Place>,
 ) -> bool
-    ensures spliced { (cut : Cut) (t : List Place) → IsAfter cut before → IsBefore cut behind → ShowsList table.old list.old (join cut)
-        → ShowsList table.old given.old t → IsDisjoint t (join cut)
+    ensures spliced { (cut : Cut) (t : List Place) → IsAfter cut before → IsBefore cut behind → RepresentsList table.old list.old (join cut)
+        → RepresentsList table.old given.old t → IsDisjoint t (join cut)
         → (result ≡ true) × Spliced table.old table.new list.old list.new OK given.old cut t }
     ensures emptied { result ≡ true → given.new ≡ words_of no_members }
-    ensures before { result ≡ true → StandsIn table.old before }
-    ensures behind { result ≡ true → StandsIn table.old behind }
-    ensures told { result ≡ true → TellsGap (table_of table.old) (ends_of list.old) before behind }
+    ensures before { result ≡ true → IsNoneOrLinkedIn table.old before }
+    ensures behind { result ≡ true → IsNoneOrLinkedIn table.old behind }
+    ensures links_back { result ≡ true → TellsGap (table_of table.old) (ends_of list.old) before behind }
     ensures ends { result ≡ true → TellsEnds (table_of table.old) (ends_of given.old) }
     ensures apart { result ≡ true → (p : Place) → (ends_of given.old).head ≡ Some p → (ends_of list.old).head ≢ Some p }
     ensures touched { result ≡ true
@@ -377,7 +374,7 @@ pub fn splice_between(
     OK
 }
 
-/// Puts all of the given list behind all members, and leaves the given one empty. O(1).
+/// Puts all of the given list after all members, and leaves the given one empty. O(1).
 ///
 /// A list that begins with the same member, as the list itself, is [`BROKEN`], and so are two whose ends are none of the table.
 #[inline]
@@ -391,7 +388,7 @@ pub fn append(table: &mut [RawOne], list: &mut RawEnds, given: &mut RawEnds) -> 
     OK
 }
 
-/// Cuts the list between the neighbors `before` and `behind`, and hands out what stands behind the cut. O(1).
+/// Cuts the list between the neighbors `before` and `behind`, and hands out what stands after the cut. O(1).
 ///
 /// Where the words tell of no gap between the two, and where `rest` is not empty, it returns [`BROKEN`].
 #[inline]
@@ -435,7 +432,7 @@ pub fn clear(table: &mut [RawOne], list: &mut RawEnds) -> u32
 #[inline]
 pub fn reverse(list: &mut RawEnds) -> u32
     ensures ok { result ≡ OK }
-    ensures reversed { (t : Table RawOne) (s : List Place) → Shows t (ends_of list.old) s → Shows t (ends_of list.new) (reverse s) }
+    ensures reversed { (t : Table RawOne) (s : List Place) → Represents t (ends_of list.old) s → Represents t (ends_of list.new) (reverse s) }
     ensures words { list.new ≡ record { head = list.old.tail; tail = list.old.head } }
 {
     mem::swap(&mut list.head, &mut list.tail);

@@ -1,23 +1,20 @@
 //! The XOR linked list: what its calls test, and its edits over a view of the table.
 //!
 //! ```text
-//! let made = insert(&mut links, &mut list, before, place, behind);
+//! let made = insert(&mut links, &mut list, before, place, after);
 //! ```
 
 ghost use Rattle.std.specs.Prelude.{◌≡◌, ◌≢◌, ◌↔◌, ◌++◌, ◌∷◌, [], List, Option, Some, None, true, false};
-ghost use Rattle.ic_unsafe_ref.specs.declared.place.Place.{Place};
-ghost use Rattle.ic_link_ops.specs.Sequences.{Cut, join, first, last, IsDisjoint, IsAfter, IsBefore};
-ghost use Rattle.ic_link_ops.specs.Tables.{IsLinked, IsUnlinked};
-ghost use Rattle.ic_link_ops.specs.LinkSteps.{acquires, releases};
+ghost use Rattle.ic_link_ops.specs.Prelude.{Place, Cut, join, first, last, IsDisjoint, IsAfter, IsBefore, IsLinked, IsUnlinked, acquires, releases};
 ghost use Rattle.ic_link_ops.specs.Edits.{Inserts, Removes, Replaces, Splices, Splits};
 ghost use Rattle.ic_raw.specs.Calls.{Clears};
-ghost use Rattle.ic_raw.specs.Gaps.{IsCutAt, PutIn, Stands, TakenOut, Turns, gap_between};
+ghost use Rattle.ic_raw.specs.Gaps.{IsCutAt, PutIn, IsNoneOrLinked, TakenOut, Turns, gap_between};
 ghost use Rattle.ic_raw.specs.Gaps as gaps;
 ghost use Rattle.ic_raw.specs.Tables.{IsFree};
 ghost use Rattle.ic_raw.specs.Touches.{Touches};
 ghost use Rattle.ic_raw.specs.Words.{is_linked_one};
 ghost use Rattle.ic_raw.specs.Singly.{lent_table};
-ghost use Rattle.ic_raw.specs.Xor.{Shows, beyond, GoesOn, Faces, TellsGap, TellsMember, TellsMemberBehind, TellsMemberBefore, TellsEnds, LeadsThrough};
+ghost use Rattle.ic_raw.specs.Xor.{Represents, beyond, GoesOn, Faces, TellsGap, TellsMember, TellsMemberAfter, TellsMemberBefore, TellsEnds, LeadsThrough};
 
 use crate::gap::begin_alike;
 use crate::table::RawTable;
@@ -55,8 +52,8 @@ fn faces(
     place: Option<Place>,
     neighbor: Option<Place>,
 ) -> bool
-    ensures told { (result ≡ true) ↔ Faces (lent_table links.now).entry end place neighbor }
-    ensures stands { result ≡ true → Stands is_linked_one (lent_table links.now) place }
+    ensures links_back { (result ≡ true) ↔ Faces (lent_table links.now).entry end place neighbor }
+    ensures stands { result ≡ true → IsNoneOrLinked is_linked_one (lent_table links.now) place }
 {
     let Some(place) = place else {
         return Place::to_word(end) == Place::to_word(neighbor);
@@ -75,10 +72,10 @@ pub(crate) fn is_gap(
     before: Option<Place>,
     behind: Option<Place>,
 ) -> bool
-    ensures told { result ≡ true → TellsGap (lent_table links.now) list.now before behind }
-    ensures before { result ≡ true → Stands is_linked_one (lent_table links.now) before }
-    ensures behind { result ≡ true → Stands is_linked_one (lent_table links.now) behind }
-    ensures shown { (cut : Cut) → Shows (lent_table links.now) list.now (join cut) → IsAfter cut before → IsBefore cut behind
+    ensures links_back { result ≡ true → TellsGap (lent_table links.now) list.now before behind }
+    ensures before { result ≡ true → IsNoneOrLinked is_linked_one (lent_table links.now) before }
+    ensures behind { result ≡ true → IsNoneOrLinked is_linked_one (lent_table links.now) behind }
+    ensures shown { (cut : Cut) → Represents (lent_table links.now) list.now (join cut) → IsAfter cut before → IsBefore cut behind
         → result ≡ true }
 {
     faces(links, list.first(), before, behind) && faces(links, list.last(), behind, before)
@@ -93,10 +90,10 @@ fn is_between(
     member: Place,
     behind: Option<Place>,
 ) -> bool
-    ensures told { result ≡ true → TellsMember (lent_table links.now) list.now before member behind }
-    ensures before { result ≡ true → Stands is_linked_one (lent_table links.now) before }
-    ensures behind { result ≡ true → Stands is_linked_one (lent_table links.now) behind }
-    ensures shown { (front back : List Place) → Shows (lent_table links.now) list.now (front ++ member ∷ back)
+    ensures links_back { result ≡ true → TellsMember (lent_table links.now) list.now before member behind }
+    ensures before { result ≡ true → IsNoneOrLinked is_linked_one (lent_table links.now) before }
+    ensures behind { result ≡ true → IsNoneOrLinked is_linked_one (lent_table links.now) behind }
+    ensures shown { (front back : List Place) → Represents (lent_table links.now) list.now (front ++ member ∷ back)
         → before ≡ last front → behind ≡ first back → result ≡ true }
 {
     let at = Some(member);
@@ -113,16 +110,16 @@ pub(crate) fn insert(
     place: Option<Place>,
     behind: Option<Place>,
 ) -> bool
-    ensures inserted { (cut : Cut) (p : Place) → Shows (lent_table links.old) list.old (join cut) → IsAfter cut before → IsBefore cut behind
+    ensures inserted { (cut : Cut) (p : Place) → Represents (lent_table links.old) list.old (join cut) → IsAfter cut before → IsBefore cut behind
         → place ≡ Some p → IsFree is_linked_one (lent_table links.old) p
-        → (result ≡ true) × Inserts Shows (lent_table links.old) (lent_table links.new) list.new cut p }
+        → (result ≡ true) × Inserts Represents (lent_table links.old) (lent_table links.new) list.new cut p }
     ensures free { result ≡ true → (p : Place) × (place ≡ Some p) × IsFree is_linked_one (lent_table links.old) p }
-    ensures told { result ≡ true → TellsGap (lent_table links.old) list.old before behind }
+    ensures links_back { result ≡ true → TellsGap (lent_table links.old) list.old before behind }
     ensures touched { (p : Place) → place ≡ Some p → result ≡ true
         → Touches is_linked_one (lent_table links.old) (lent_table links.new) (acquires p ∷ []) (Some p ∷ before ∷ behind ∷ []) }
     ensures own { result ≡ true → PutIn (gap_between before behind) place list.old list.new }
-    ensures before { result ≡ true → Stands is_linked_one (lent_table links.old) before }
-    ensures behind { result ≡ true → Stands is_linked_one (lent_table links.old) behind }
+    ensures before { result ≡ true → IsNoneOrLinked is_linked_one (lent_table links.old) before }
+    ensures behind { result ≡ true → IsNoneOrLinked is_linked_one (lent_table links.old) behind }
     ensures refused { result ≡ false → (links.new ≡ links.old) × (list.new ≡ list.old) }
     ensures extent { (lent_table links.new).extent ≡ (lent_table links.old).extent }
 {
@@ -146,15 +143,15 @@ fn take_out(
     behind: Option<Place>,
 ) -> bool
     requires { IsLinked is_linked_one (lent_table links.old) member }
-    ensures removed { (front back : List Place) → Shows (lent_table links.old) list.old (front ++ member ∷ back)
+    ensures removed { (front back : List Place) → Represents (lent_table links.old) list.old (front ++ member ∷ back)
         → before ≡ last front → behind ≡ first back
-        → (result ≡ true) × Removes Shows (lent_table links.old) (lent_table links.new) list.new (gaps.before member front back)
+        → (result ≡ true) × Removes Represents (lent_table links.old) (lent_table links.new) list.new (gaps.before member front back)
         × IsUnlinked is_linked_one (lent_table links.new) member }
-    ensures told { result ≡ true → TellsMember (lent_table links.old) list.old before member behind }
+    ensures links_back { result ≡ true → TellsMember (lent_table links.old) list.old before member behind }
     ensures touched { result ≡ true
         → Touches is_linked_one (lent_table links.old) (lent_table links.new) (releases member ∷ []) (Some member ∷ before ∷ behind ∷ []) }
     ensures own { result ≡ true → TakenOut (gap_between before behind) list.old list.new }
-    ensures before { result ≡ true → Stands is_linked_one (lent_table links.old) before }
+    ensures before { result ≡ true → IsNoneOrLinked is_linked_one (lent_table links.old) before }
     ensures refused { result ≡ false → (links.new ≡ links.old) × (list.new ≡ list.old) }
     ensures extent { (lent_table links.new).extent ≡ (lent_table links.old).extent }
 {
@@ -166,7 +163,7 @@ fn take_out(
     true
 }
 
-// Takes the member behind `before` off, and says whether it could.
+// Takes the member after `before` off, and says whether it could.
 #[inline]
 pub(crate) fn remove(
     links: &mut RawTable<'_, RawOne>,
@@ -174,12 +171,12 @@ pub(crate) fn remove(
     before: Option<Place>,
     member: Place,
 ) -> bool
-    ensures removed { (front back : List Place) → Shows (lent_table links.old) list.old (front ++ member ∷ back) → before ≡ last front
-        → (result ≡ true) × Removes Shows (lent_table links.old) (lent_table links.new) list.new (gaps.before member front back)
+    ensures removed { (front back : List Place) → Represents (lent_table links.old) list.old (front ++ member ∷ back) → before ≡ last front
+        → (result ≡ true) × Removes Represents (lent_table links.old) (lent_table links.new) list.new (gaps.before member front back)
         × IsUnlinked is_linked_one (lent_table links.new) member }
-    ensures stands { result ≡ true → Stands is_linked_one (lent_table links.old) (Some member) }
-    ensures before { result ≡ true → Stands is_linked_one (lent_table links.old) before }
-    ensures told { result ≡ true → TellsMemberBehind (lent_table links.old) list.old before (Some member) }
+    ensures stands { result ≡ true → IsNoneOrLinked is_linked_one (lent_table links.old) (Some member) }
+    ensures before { result ≡ true → IsNoneOrLinked is_linked_one (lent_table links.old) before }
+    ensures links_back { result ≡ true → TellsMemberAfter (lent_table links.old) list.old before (Some member) }
     ensures touched { result ≡ true → Touches is_linked_one (lent_table links.old) (lent_table links.new) (releases member ∷ [])
         (Some member ∷ before ∷ beyond (lent_table links.old) (Some member) before ∷ []) }
     ensures own { result ≡ true → TakenOut (gap_between before (beyond (lent_table links.old) (Some member) before)) list.old list.new }
@@ -193,16 +190,16 @@ pub(crate) fn remove(
     take_out(links, list, before, member, behind)
 }
 
-// Takes the first member off, where two are behind it. Else it changes nothing.
+// Takes the first member off, where two are after it. Else it changes nothing.
 #[inline]
 pub(crate) fn pop_before_others(links: &mut RawTable<'_, RawOne>, list: &mut List) -> Option<Place>
-    ensures removed { (p q : Place) (s : List Place) → result ≡ Some q → Shows (lent_table links.old) list.old (p ∷ s)
-        → (q ≡ p) × Removes Shows (lent_table links.old) (lent_table links.new) list.new (gaps.before p [] s)
+    ensures removed { (p q : Place) (s : List Place) → result ≡ Some q → Represents (lent_table links.old) list.old (p ∷ s)
+        → (q ≡ p) × Removes Represents (lent_table links.old) (lent_table links.new) list.new (gaps.before p [] s)
         × IsUnlinked is_linked_one (lent_table links.new) p }
     ensures tail { (q : Place) → result ≡ Some q → list.new.tail ≡ list.old.tail }
     ensures first { (q : Place) → result ≡ Some q → list.old.head ≡ Some q }
-    ensures stands { (q : Place) → result ≡ Some q → Stands is_linked_one (lent_table links.old) (Some q) }
-    ensures told { (q : Place) → result ≡ Some q → TellsMemberBehind (lent_table links.old) list.old None (Some q) }
+    ensures stands { (q : Place) → result ≡ Some q → IsNoneOrLinked is_linked_one (lent_table links.old) (Some q) }
+    ensures links_back { (q : Place) → result ≡ Some q → TellsMemberAfter (lent_table links.old) list.old None (Some q) }
     ensures touched { (q : Place) → result ≡ Some q → Touches is_linked_one (lent_table links.old) (lent_table links.new) (releases q ∷ [])
         (Some q ∷ None ∷ beyond (lent_table links.old) (Some q) None ∷ []) }
     ensures own { (q : Place) → result ≡ Some q → TakenOut (gap_between None (beyond (lent_table links.old) (Some q) None)) list.old list.new }
@@ -235,11 +232,11 @@ pub(crate) fn pop_before_others(links: &mut RawTable<'_, RawOne>, list: &mut Lis
 // Takes the last member off, and says whether it could.
 #[inline]
 pub(crate) fn remove_last(links: &mut RawTable<'_, RawOne>, list: &mut List, member: Place) -> bool
-    ensures removed { (front : List Place) → Shows (lent_table links.old) list.old (front ++ member ∷ [])
-        → (result ≡ true) × Removes Shows (lent_table links.old) (lent_table links.new) list.new (gaps.before member front [])
+    ensures removed { (front : List Place) → Represents (lent_table links.old) list.old (front ++ member ∷ [])
+        → (result ≡ true) × Removes Represents (lent_table links.old) (lent_table links.new) list.new (gaps.before member front [])
         × IsUnlinked is_linked_one (lent_table links.new) member }
-    ensures stands { result ≡ true → Stands is_linked_one (lent_table links.old) (Some member) }
-    ensures told { result ≡ true → TellsMemberBefore (lent_table links.old) list.old None (Some member) }
+    ensures stands { result ≡ true → IsNoneOrLinked is_linked_one (lent_table links.old) (Some member) }
+    ensures links_back { result ≡ true → TellsMemberBefore (lent_table links.old) list.old None (Some member) }
     ensures touched { result ≡ true → Touches is_linked_one (lent_table links.old) (lent_table links.new) (releases member ∷ [])
         (Some member ∷ beyond (lent_table links.old) (Some member) None ∷ None ∷ []) }
     ensures own { result ≡ true → TakenOut (gap_between (beyond (lent_table links.old) (Some member) None) None) list.old list.new }
@@ -253,7 +250,7 @@ pub(crate) fn remove_last(links: &mut RawTable<'_, RawOne>, list: &mut List, mem
     take_out(links, list, before, member, None)
 }
 
-// Puts the place where the member behind `before` is, which is unlinked then, and says whether it could.
+// Puts the place where the member after `before` is, which is unlinked then, and says whether it could.
 #[inline]
 pub(crate) fn replace(
     links: &mut RawTable<'_, RawOne>,
@@ -262,14 +259,14 @@ pub(crate) fn replace(
     member: Place,
     place: Option<Place>,
 ) -> bool
-    ensures replaced { (front back : List Place) (p : Place) → Shows (lent_table links.old) list.old (front ++ member ∷ back)
+    ensures replaced { (front back : List Place) (p : Place) → Represents (lent_table links.old) list.old (front ++ member ∷ back)
         → before ≡ last front → place ≡ Some p → IsFree is_linked_one (lent_table links.old) p
-        → (result ≡ true) × Replaces Shows (lent_table links.old) (lent_table links.new) list.new (gaps.before member front back) p
+        → (result ≡ true) × Replaces Represents (lent_table links.old) (lent_table links.new) list.new (gaps.before member front back) p
         × IsUnlinked is_linked_one (lent_table links.new) member }
     ensures free { result ≡ true → (p : Place) × (place ≡ Some p) × IsFree is_linked_one (lent_table links.old) p }
-    ensures stands { result ≡ true → Stands is_linked_one (lent_table links.old) (Some member) }
-    ensures before { result ≡ true → Stands is_linked_one (lent_table links.old) before }
-    ensures told { result ≡ true → TellsMemberBehind (lent_table links.old) list.old before (Some member) }
+    ensures stands { result ≡ true → IsNoneOrLinked is_linked_one (lent_table links.old) (Some member) }
+    ensures before { result ≡ true → IsNoneOrLinked is_linked_one (lent_table links.old) before }
+    ensures links_back { result ≡ true → TellsMemberAfter (lent_table links.old) list.old before (Some member) }
     ensures touched { (p : Place) → place ≡ Some p → result ≡ true
         → Touches is_linked_one (lent_table links.old) (lent_table links.new) (acquires p ∷ releases member ∷ [])
         (Some p ∷ Some member ∷ before ∷ beyond (lent_table links.old) (Some member) before ∷ []) }
@@ -295,10 +292,10 @@ pub(crate) fn replace(
 // Whether the words tell of a list between both ends.
 #[inline]
 fn has_ends(links: &RawTable<'_, RawOne>, list: &List) -> bool
-    ensures told { result ≡ true → TellsEnds (lent_table links.now) list.now }
-    ensures first { result ≡ true → Stands is_linked_one (lent_table links.now) list.now.head }
-    ensures last { result ≡ true → Stands is_linked_one (lent_table links.now) list.now.tail }
-    ensures shown { (s : List Place) → Shows (lent_table links.now) list.now s → result ≡ true }
+    ensures links_back { result ≡ true → TellsEnds (lent_table links.now) list.now }
+    ensures first { result ≡ true → IsNoneOrLinked is_linked_one (lent_table links.now) list.now.head }
+    ensures last { result ≡ true → IsNoneOrLinked is_linked_one (lent_table links.now) list.now.tail }
+    ensures shown { (s : List Place) → Represents (lent_table links.now) list.now s → result ≡ true }
 {
     let (first, last) = (list.first(), list.last());
     faces(links, last, first, None) && faces(links, first, last, None)
@@ -313,10 +310,10 @@ pub(crate) fn splice(
     given: List,
     behind: Option<Place>,
 ) -> bool
-    ensures spliced { (cut : Cut) (t : List Place) → Shows (lent_table links.old) list.old (join cut) → IsAfter cut before
-        → IsBefore cut behind → Shows (lent_table links.old) given t → IsDisjoint t (join cut)
-        → (result ≡ true) × Splices Shows (lent_table links.old) (lent_table links.new) list.new cut t }
-    ensures told { result ≡ true → TellsGap (lent_table links.old) list.old before behind }
+    ensures spliced { (cut : Cut) (t : List Place) → Represents (lent_table links.old) list.old (join cut) → IsAfter cut before
+        → IsBefore cut behind → Represents (lent_table links.old) given t → IsDisjoint t (join cut)
+        → (result ≡ true) × Splices Represents (lent_table links.old) (lent_table links.new) list.new cut t }
+    ensures links_back { result ≡ true → TellsGap (lent_table links.old) list.old before behind }
     ensures ends { result ≡ true → TellsEnds (lent_table links.old) given }
     ensures apart { result ≡ true → (p : Place) → given.head ≡ Some p → list.old.head ≢ Some p }
     ensures touched { result ≡ true
@@ -324,8 +321,8 @@ pub(crate) fn splice(
     ensures own { (first : Place) → given.head ≡ Some first → result ≡ true
         → Turns (gap_between before behind) (Some first) given.tail list.old list.new }
     ensures nothing { given.head ≡ None → result ≡ true → (links.new ≡ links.old) × (list.new ≡ list.old) }
-    ensures before { result ≡ true → Stands is_linked_one (lent_table links.old) before }
-    ensures behind { result ≡ true → Stands is_linked_one (lent_table links.old) behind }
+    ensures before { result ≡ true → IsNoneOrLinked is_linked_one (lent_table links.old) before }
+    ensures behind { result ≡ true → IsNoneOrLinked is_linked_one (lent_table links.old) behind }
     ensures refused { result ≡ false → (links.new ≡ links.old) × (list.new ≡ list.old) }
     ensures extent { (lent_table links.new).extent ≡ (lent_table links.old).extent }
 {
@@ -343,7 +340,7 @@ pub(crate) fn splice(
     true
 }
 
-// Cuts the list at the gap between two places, and says whether it could. The list keeps what is in front of the cut, and the rest is
+// Cuts the list at the gap between two places, and says whether it could. The list keeps what is before the cut, and the rest is
 // handed out.
 #[inline]
 pub(crate) fn split(
@@ -353,13 +350,13 @@ pub(crate) fn split(
     behind: Option<Place>,
     rest: &mut List,
 ) -> bool
-    ensures split { (cut : Cut) → Shows (lent_table links.old) list.old (join cut) → IsAfter cut before → IsBefore cut behind
-        → (result ≡ true) × Splits Shows (lent_table links.old) (lent_table links.new) list.new rest.new cut.front cut.back }
-    ensures told { result ≡ true → TellsGap (lent_table links.old) list.old before behind }
+    ensures split { (cut : Cut) → Represents (lent_table links.old) list.old (join cut) → IsAfter cut before → IsBefore cut behind
+        → (result ≡ true) × Splits Represents (lent_table links.old) (lent_table links.new) list.new rest.new cut.front cut.back }
+    ensures links_back { result ≡ true → TellsGap (lent_table links.old) list.old before behind }
     ensures touched { result ≡ true → Touches is_linked_one (lent_table links.old) (lent_table links.new) [] (before ∷ behind ∷ []) }
     ensures own { result ≡ true → IsCutAt (gap_between before behind) list.old list.new rest.new }
-    ensures before { result ≡ true → Stands is_linked_one (lent_table links.old) before }
-    ensures behind { result ≡ true → Stands is_linked_one (lent_table links.old) behind }
+    ensures before { result ≡ true → IsNoneOrLinked is_linked_one (lent_table links.old) before }
+    ensures behind { result ≡ true → IsNoneOrLinked is_linked_one (lent_table links.old) behind }
     ensures refused { result ≡ false → (links.new ≡ links.old) × (list.new ≡ list.old) × (rest.new ≡ rest.old) }
     ensures extent { (lent_table links.new).extent ≡ (lent_table links.old).extent }
 {
@@ -373,7 +370,7 @@ pub(crate) fn split(
 // Whether the places lead from the first member to the last, within as many steps as the table has places.
 fn leads_to_last(links: &RawTable<'_, RawOne>, list: &List) -> bool
     ensures ended { result ≡ true → (s : List Place) × LeadsThrough (lent_table links.now) list.now s }
-    ensures shown { (s : List Place) → Shows (lent_table links.now) list.now s → result ≡ true }
+    ensures shown { (s : List Place) → Represents (lent_table links.now) list.now s → result ≡ true }
 {
     let Some(front) = list.first() else {
         return Place::to_word(list.last()) == Place::to_word(None);
@@ -397,7 +394,7 @@ fn leads_to_last(links: &RawTable<'_, RawOne>, list: &List) -> bool
 
 // Unlinks the places from the first member on, one after the other.
 fn release_all(links: &mut RawTable<'_, RawOne>, list: &List)
-    ensures cleared { (s : List Place) → Shows (lent_table links.old) list.now s → Clears is_linked_one (lent_table links.old) (lent_table links.new) s }
+    ensures cleared { (s : List Place) → Represents (lent_table links.old) list.now s → Clears is_linked_one (lent_table links.old) (lent_table links.new) s }
     ensures extent { (lent_table links.new).extent ≡ (lent_table links.old).extent }
 {
     let mut prev = None;
@@ -419,7 +416,7 @@ fn release_all(links: &mut RawTable<'_, RawOne>, list: &List)
 
 // Takes all members off, and says whether it could: the places lead from the first to the last.
 pub(crate) fn clear(links: &mut RawTable<'_, RawOne>, list: &List) -> bool
-    ensures cleared { (s : List Place) → Shows (lent_table links.old) list.now s
+    ensures cleared { (s : List Place) → Represents (lent_table links.old) list.now s
         → (result ≡ true) × Clears is_linked_one (lent_table links.old) (lent_table links.new) s }
     ensures ended { result ≡ true → (s : List Place) × LeadsThrough (lent_table links.old) list.now s }
     ensures refused { result ≡ false → links.new ≡ links.old }

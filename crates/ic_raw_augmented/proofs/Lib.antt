@@ -5,3 +5,5 @@ pub mod Renewing
 pub mod Searches
 pub mod Overlaps
 pub mod Viewed
+pub mod Edits
+pub mod Notes

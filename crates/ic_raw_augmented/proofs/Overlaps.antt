@@ -1,14 +1,13 @@
 -- The first interval that overlaps another one, by the first that ends late enough.
-use Rattle.std.proofs.Common.{◌≡◌, ◌≢◌, ◌≤◌, ◌<◌, ◌&&◌, nat_lt, ℕ, Bool, true, false, cond, Option, Some, None, List, [], ◌∷◌, ◌++◌, map, max, refl, sym, ap, ◌∙◌, subst, arith, inl, inr}
-use Rattle.std.proofs.Math.Nat.{le-max_left, le-max_right, max-le, max-zero}
+use Rattle.std.proofs.Common.{◌≡◌, ◌≢◌, ◌≤◌, ◌<◌, ◌&&◌, nat_lt, ℕ, Bool, true, false, cond, Some, None, List, [], ◌∷◌, ◌++◌, map, max, refl, sym, ap, ◌∙◌, subst, arith, inl, inr}
+use Rattle.std.proofs.Math.Nat.{le-max_left, le-max_right, max-le}
 use Rattle.std.proofs.lemmas.Bool.{lt-ltb, le-ltb}
 use Rattle.std.proofs.lemmas.List.Elements.{filter-append}
 use Rattle.std.specs.Cmp.{nat_cmp_is}
 use Rattle.std.specs.List.{filter}
 use Rattle.std.specs.Ordering.{nat_cmp}
 use Rattle.std.specs.declared.cmp.Ordering.TheVariants.{Greater}
-use Rattle.ic_unsafe_ref.specs.declared.place.Place.{Place}
-use Rattle.ic_link_ops.specs.Sequences.{first}
+use Rattle.ic_link_ops.specs.Prelude.{Place, first}
 use Rattle.ic_rbtree.specs.Borders.{IsSorted}
 use Rattle.ic_raw_augmented.specs.declared.sums.Kind.TheVariants.{Greatest}
 use Rattle.ic_raw_augmented.specs.Find.{IsFirstBeyond, overlaps}
@@ -42,9 +41,9 @@ module _ (start end : Place → ℕ) (from to : ℕ) where
   sorted_tail x [] h = tt
   sorted_tail x (y ∷ s) h = h.1
 
-  sorted_behind : (f g : List Place) → IsSorted nat_cmp (map start (f ++ g)) → IsSorted nat_cmp (map start g)
-  sorted_behind [] g h = h
-  sorted_behind (x ∷ f) g h = sorted_behind f g (sorted_tail x (f ++ g) h)
+  sorted_after : (f g : List Place) → IsSorted nat_cmp (map start (f ++ g)) → IsSorted nat_cmp (map start g)
+  sorted_after [] g h = h
+  sorted_after (x ∷ f) g h = sorted_after f g (sorted_tail x (f ++ g) h)
 
   -- those that end too early overlap nothing, and those after one that starts too late do not either
   all_early : (s : List Place) → total Greatest end s ≤ from → filter test s ≡ []
@@ -83,4 +82,4 @@ module _ (start end : Place → ℕ) (from to : ℕ) where
 
       pub it_does_not : to ≤ start m → IsSorted nat_cmp (map start s) → None ≡ first (filter test s)
       it_does_not late sorted =
-          sym (ap first (rest_is ∙ all_late m h.1 late (sorted_behind h.0 (m ∷ h.1) (subst (λ (y : List Place). IsSorted nat_cmp (map start y)) h.2 sorted))))
+          sym (ap first (rest_is ∙ all_late m h.1 late (sorted_after h.0 (m ∷ h.1) (subst (λ (y : List Place). IsSorted nat_cmp (map start y)) h.2 sorted))))

@@ -1,24 +1,20 @@
 -- Sums that are joined anew, one after the other, from a place up.
-use Rattle.std.proofs.Common.{◌≡◌, ◌≢◌, ◌≤◌, ◌<◌, ◌+◌, ◌-◌, ◌||◌, ℕ, suc, Bool, true, false, cond, nat_lt, Option, Some, None, List, [], ◌∷◌, length, refl, sym, ap, ◌∙◌, subst, inl, inr, arith}
-use Rattle.std.proofs.lemmas.Bool.{lt-ltb, le-ltb, ltb-true, ltb-false}
-use Rattle.ic_unsafe_ref.specs.declared.place.Place.{Place}
-use Rattle.ic_unsafe_ref.specs.Places.{index_of, place_at, word_of}
+use Rattle.std.proofs.Common.{◌≡◌, ◌≢◌, ◌≤◌, ◌<◌, ◌+◌, ◌-◌, ◌||◌, ℕ, suc, Bool, true, false, cond, Option, Some, None, List, ◌∷◌, refl, sym, ap, ◌∙◌, subst, inl, inr, arith}
+use Rattle.std.proofs.lemmas.Bool.{lt-ltb, le-ltb, ltb-false}
+use Rattle.ic_link_ops.specs.Prelude.{Place, index_of, place_at, word_of, IsMember, Table}
 use Rattle.ic_unsafe_ref.proofs.PlaceLemmas.{place_at_word, same_or_not}
 use Rattle.ic_link_ops.specs.declared.color.Color.{Color}
 use Rattle.ic_link_ops.specs.declared.side.Side.{Side}
 use Rattle.ic_link_ops.specs.declared.side.Side.TheVariants.{Left, Right}
-use Rattle.ic_link_ops.specs.Frames.{Frame, frame, plug, child_on}
+use Rattle.ic_link_ops.specs.Frames.{Frame, frame, child_on}
 use Rattle.ic_link_ops.specs.RedBlackTree.{IsTree}
-use Rattle.ic_link_ops.specs.Sequences.{IsMember}
-use Rattle.ic_link_ops.specs.Tables.{Table}
-use Rattle.ic_link_ops.specs.Times.{times}
 use Rattle.ic_link_ops.specs.Trees.{Tree, leaf, fork, top}
 use Rattle.ic_link_ops.specs.Walk.{is_end}
 use Rattle.ic_link_ops.proofs.SequenceLemmas.{none_not, some_same}
 use Rattle.ic_link_ops.proofs.Times.{times_plug}
 use Rattle.ic_link_ops.proofs.Walks.{is_end_not, is_end_yes, is_end_no}
 use Rattle.ic_raw_augmented.specs.Subtrees.{IsSubtree}
-use Rattle.ic_raw_augmented.proofs.Subtrees.{member_at, no_longer, subtree_parent}
+use Rattle.ic_raw_augmented.proofs.Subtrees.{member_at, no_longer}
 use Rattle.ic_raw.specs.declared.words.RawThree.{RawThree}
 use Rattle.ic_raw.specs.Seen.{also, seen, seen_node}
 use Rattle.ic_raw.specs.WholeTree.{IsSeen}
@@ -35,7 +31,7 @@ also_off up but q e = pick (is_end up q) refl where
   pick true k = let l : true ≡ false = sym (ap (λ (b : Bool). cond b true (but q)) k) ∙ e in cc
   pick false k = (k, sym (ap (λ (b : Bool). cond b true (but q)) k) ∙ e)
 
-off_also : (up : Option Place) (but : Place → Bool) (q : Place) → is_end up q ≡ false → but q ≡ false → also up but q ≡ false
+pub off_also : (up : Option Place) (but : Place → Bool) (q : Place) → is_end up q ≡ false → but q ≡ false → also up but q ≡ false
 off_also up but q k e = ap (λ (b : Bool). cond b true (but q)) k ∙ e
 
 or_off : (a b : Bool) → a || b ≡ false → (a ≡ false) × (b ≡ false)

@@ -1,15 +1,13 @@
 -- Searches by sums: below a place, above it, and in a whole tree.
-use Rattle.std.proofs.Common.{◌≡◌, ◌≢◌, ◌≤◌, ◌<◌, ◌+◌, ◌-◌, ℕ, suc, Bool, true, false, Option, Some, None, List, [], ◌∷◌, ◌++◌, length, max, refl, sym, ap, ◌∙◌, subst, arith, append_assoc, append-nil}
+use Rattle.std.proofs.Common.{◌≡◌, ◌≤◌, ◌<◌, ◌-◌, ℕ, Bool, true, false, Option, Some, None, List, [], ◌∷◌, ◌++◌, length, refl, sym, ap, ◌∙◌, subst, arith, append_assoc, append-nil}
 use Rattle.std.proofs.Math.Nat.{le-max_left, le-max_right}
-use Rattle.ic_unsafe_ref.specs.declared.place.Place.{Place}
+use Rattle.ic_link_ops.specs.Prelude.{Place, Cut, join, but_last, IsAfter, Table}
 use Rattle.ic_link_ops.specs.declared.color.Color.{Color}
 use Rattle.ic_link_ops.specs.declared.side.Side.TheVariants.{Left, Right}
-use Rattle.ic_link_ops.specs.Frames.{Frame, frame, plug, above, before, after}
+use Rattle.ic_link_ops.specs.Frames.{Frame, frame, plug, before, after}
 use Rattle.ic_link_ops.specs.RedBlackTree.{IsTree}
-use Rattle.ic_link_ops.specs.Sequences.{Cut, join, last, but_last, IsAfter}
-use Rattle.ic_link_ops.specs.Tables.{Table}
 use Rattle.ic_link_ops.specs.Trees.{Tree, leaf, fork, top, in_order}
-use Rattle.ic_link_ops.specs.Times.{times, times_in}
+use Rattle.ic_link_ops.specs.Times.{times_in}
 use Rattle.ic_link_ops.specs.Walk.{is_end}
 use Rattle.ic_link_ops.proofs.SequenceLemmas.{none_not, some_same, nothing_last, split_last}
 use Rattle.ic_link_ops.proofs.Times.{times_plug, times_order}

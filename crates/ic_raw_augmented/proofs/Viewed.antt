@@ -1,15 +1,14 @@
 -- What is so of sums among the words is so in a view of them, and the other way round. What a search finds is linked.
-use Rattle.std.proofs.Common.{◌≡◌, ℕ, true, false, cond, List, [], ◌∷◌, ◌++◌, Bool, Option, Some, None, refl, sym, ap, ◌∙◌, subst, append_assoc}
+use Rattle.std.proofs.Common.{◌≡◌, ℕ, true, false, cond, List, [], ◌∷◌, ◌++◌, Bool, Option, Some, refl, sym, ap, ◌∙◌, subst, append_assoc}
 use Rattle.std.specs.List.{filter}
-use Rattle.ic_unsafe_ref.specs.declared.place.Place.{Place}
-use Rattle.ic_link_ops.specs.Sequences.{Cut, join, first, IsMember}
+use Rattle.ic_link_ops.specs.Prelude.{Place, Cut, join, first, IsMember}
 use Rattle.ic_link_ops.proofs.SequenceLemmas.{none_not, some_same, split_member}
-use Rattle.ic_link_ops.proofs.ShownTrees.{holds_linked}
+use Rattle.ic_link_ops.proofs.RepresentedTrees.{holds_linked}
 use Rattle.ic_raw.specs.declared.table.RawTable.{RawTable}
 use Rattle.ic_raw.specs.declared.words.RawThree.{RawThree}
-use Rattle.ic_raw.specs.Gaps.{Stands}
+use Rattle.ic_raw.specs.Gaps.{IsNoneOrLinked}
 use Rattle.ic_raw.specs.Tables.{raw_entries}
-use Rattle.ic_raw.specs.Tree.{Shows, lent_table, table_of}
+use Rattle.ic_raw.specs.Tree.{Represents, lent_table, table_of}
 use Rattle.ic_raw.specs.Words.{is_linked_three}
 use Rattle.ic_raw_augmented.specs.declared.sums.Kind.{Kind}
 use Rattle.ic_raw_augmented.specs.declared.sums.RawSum.{RawSum}
@@ -28,8 +27,8 @@ pub but_viewed : (kind : Kind) (t : RawTable RawThree) {es : List RawThree} (sum
     → IsSummedBut kind (table_of es) sums s but → IsSummedBut kind (lent_table t) sums s but
 but_viewed kind t sums s but view h = subst (λ (ws : List RawThree). IsSummedBut kind (table_of ws) sums s but) (sym view) h
 
-pub stands_viewed : (t : RawTable RawThree) {es : List RawThree} (o : Option Place) → raw_entries t ≡ es → Stands is_linked_three (table_of es) o → Stands is_linked_three (lent_table t) o
-stands_viewed t o view h = subst (λ (ws : List RawThree). Stands is_linked_three (table_of ws) o) (sym view) h
+pub stands_viewed : (t : RawTable RawThree) {es : List RawThree} (o : Option Place) → raw_entries t ≡ es → IsNoneOrLinked is_linked_three (table_of es) o → IsNoneOrLinked is_linked_three (lent_table t) o
+stands_viewed t o view h = subst (λ (ws : List RawThree). IsNoneOrLinked is_linked_three (table_of ws) o) (sym view) h
 
 pub beside_back : (t : RawTable RawThree) {es : List RawThree} (old new : List RawSum) (p : Place) → raw_entries t ≡ es → StaysBeside (lent_table t) old new p
     → StaysBeside (table_of es) old new p
@@ -56,7 +55,7 @@ among test m (q ∷ s) e = pick (test q) refl (λ later. among test m s later) w
       record { front = q ∷ x.front; back = x.back; is = ap (λ (y : List Place). q ∷ y) x.is }
 
 -- WHAT IS FOUND is a member, and so it is linked
-module _ (t : RawTable RawThree) (root : Option Place) (cut : Cut) (shown : Shows (lent_table t) root (join cut)) where
+module _ (t : RawTable RawThree) (root : Option Place) (cut : Cut) (shown : Represents (lent_table t) root (join cut)) where
   part_stands : (front : List Place) (m : Place) (back : List Place) → cut.back ≡ front ++ m ∷ back → is_linked_three ((lent_table t).entry m) ≡ true
   part_stands front m back is =
       let parts : join cut ≡ (cut.front ++ front) ++ m ∷ back = ap (λ (y : List Place). cut.front ++ y) is ∙ sym (append_assoc cut.front front (m ∷ back)) in

@@ -1,9 +1,6 @@
 -- A sum that is written.
-use Rattle.std.proofs.Common.{◌≡◌, ◌≢◌, ℕ, List, slice_set, slice_index_or, ap}
-use Rattle.std.proofs.lemmas.List.{get_or-set_other}
-use Rattle.ic_unsafe_ref.specs.declared.place.Place.{Place}
-use Rattle.ic_unsafe_ref.specs.Places.{index_of}
-use Rattle.ic_unsafe_ref.proofs.PlaceLemmas.{same_index}
+use Rattle.std.proofs.Common.{◌≡◌, ◌≢◌, ℕ, List, slice_set, ap}
+use Rattle.ic_link_ops.specs.Prelude.{Place, index_of}
 use Rattle.ic_link_ops.proofs.EntryLemmas.{others_same}
 use Rattle.ic_raw_augmented.specs.declared.sums.RawSum.{RawSum}
 use Rattle.ic_raw_augmented.specs.Sums.{sum_at}

@@ -2,3 +2,6 @@ pub mod Find
 pub mod Subtrees
 pub mod SumCalls
 pub mod Sums
+pub mod Noting
+pub mod Written
+pub mod EditCalls

@@ -1,9 +1,8 @@
--- A subtree of a shown tree, and what stands around it.
+-- A subtree of a represented tree, and what stands around it.
 use Rattle.std.specs.Prelude.{◌≤◌, List, length}
-use Rattle.ic_unsafe_ref.specs.declared.place.Place.{Place}
+use Rattle.ic_link_ops.specs.Prelude.{Place, Table}
 use Rattle.ic_link_ops.specs.Frames.{Frame, plug, above, IsAround}
 use Rattle.ic_link_ops.specs.RedBlackTree.{Node, IsTree}
-use Rattle.ic_link_ops.specs.Tables.{Table}
 use Rattle.ic_link_ops.specs.Times.{times}
 use Rattle.ic_link_ops.specs.Trees.{Tree, top, in_order}
 use Rattle.ic_rbtree.specs.Height.{height}

@@ -1,12 +1,8 @@
 -- WHAT THE CALLS OF TREES WITH SUMS DO: each record is the whole contract of a call. It says first what the call does to a tree that the table
--- shows, if its sums are right, and then what holds whatever the words say.
-use Rattle.std.specs.Prelude.{◌≡◌, ◌≢◌, ◌↔◌, ◌⊎◌, ◌≤◌, ◌<◌, ◌∷◌, ◌++◌, ℕ, Bool, false, List, [], Option, Some, None, length, map, filter}
+-- represents, if its sums are right, and then what holds whatever the words say.
+use Rattle.std.specs.Prelude.{◌≡◌, ◌≢◌, ◌↔◌, ◌⊎◌, ◌≤◌, ◌∷◌, ◌++◌, ℕ, List, [], Option, Some, None, length, map, filter}
 use Rattle.std.specs.Ordering.{nat_cmp}
-use Rattle.ic_unsafe_ref.specs.declared.place.Place.{Place}
-use Rattle.ic_link_ops.specs.Sequences.{Cut, join, first, IsAfter}
-use Rattle.ic_link_ops.specs.Walk.{is_end}
-use Rattle.ic_link_ops.specs.declared.side.Side.{Side}
-use Rattle.ic_link_ops.specs.Frames.{child_on}
+use Rattle.ic_link_ops.specs.Prelude.{Place, Cut, join, first, IsAfter}
 use Rattle.ic_rbtree.specs.Borders.{IsSorted}
 use Rattle.ic_raw.specs.declared.status.TheConstants.{OK, NULL}
 use Rattle.ic_raw.specs.declared.words.RawRoot.{RawRoot}
@@ -14,7 +10,7 @@ use Rattle.ic_raw.specs.declared.words.RawThree.{RawThree}
 use Rattle.ic_raw.specs.Answers.{IsAccepted, IsStatus, HandsOut, IsFound, refusal}
 use Rattle.ic_raw.specs.Keys.{key_of, keys_fault}
 use Rattle.ic_raw.specs.Seen.{HandsOutReached}
-use Rattle.ic_raw.specs.Tree.{Shows, ShowsTree, StandsIn, fault_at, root_in, table_of}
+use Rattle.ic_raw.specs.Tree.{Represents, RepresentsTree, IsNoneOrLinkedIn, fault_at, root_in, table_of}
 use Rattle.ic_raw_augmented.specs.declared.sums.Kind.{Kind}
 use Rattle.ic_raw_augmented.specs.declared.sums.Kind.TheVariants.{Greatest}
 use Rattle.ic_raw_augmented.specs.declared.sums.RawSum.{RawSum}
@@ -25,24 +21,24 @@ use Rattle.ic_raw_augmented.specs.Sums.{IsSummed, IsSummedBut, KeepsValues, Stay
 module _ (kind : Kind) (sums : List RawSum) (old new : List RawThree) (status : ℕ) where
   -- THE FIRST MEMBER BEYOND A BOUND IS HANDED OUT, of those after `at`, from none of all, in words that said `was`
   pub record FindCall (tree : RawRoot) (at : Option Place) (bound was number : ℕ) : Type 0 where
-    pub found : (cut : Cut) → length old ≤ length sums → IsAfter cut at → ShowsTree old tree (join cut) → IsSummed kind (table_of old) sums (join cut)
+    pub found : (cut : Cut) → length old ≤ length sums → IsAfter cut at → RepresentsTree old tree (join cut) → IsSummed kind (table_of old) sums (join cut)
         → HandsOut (IsFirstBeyond kind (value_at sums) [] bound cut.back) status number
     pub reached : status ≡ OK → HandsOutReached (table_of old) (root_in tree) (at ∷ []) number
     pub ended : at ≡ None → status ≡ NULL → sum_below sums (root_in tree) ≤ bound
     pub refused : status ≢ OK → number ≡ was
     pub same : new ≡ old
-    pub looked : (status ≡ OK) ⊎ (status ≡ NULL) → (length old ≤ length sums) × StandsIn old at × StandsIn old (root_in tree)
+    pub looked : (status ≡ OK) ⊎ (status ≡ NULL) → (length old ≤ length sums) × IsNoneOrLinkedIn old at × IsNoneOrLinkedIn old (root_in tree)
     pub why : status ≢ OK → status ≢ NULL → status ≡ refusal (fault_at old at ∷ sums_fault sums (length old) ∷ [])
     pub is_status : IsStatus status
 
   -- WHAT THE VALUES BEFORE A MEMBER MAKE TOGETHER IS HANDED OUT, in words that said `was`
   pub record BeforeCall (at : Option Place) (was sum : ℕ) : Type 0 where
-    pub told : (root : Option Place) (front back : List Place) (p : Place) → at ≡ Some p → length old ≤ length sums → Shows (table_of old) root (front ++ p ∷ back)
+    pub links_back : (root : Option Place) (front back : List Place) (p : Place) → at ≡ Some p → length old ≤ length sums → Represents (table_of old) root (front ++ p ∷ back)
         → IsSummed kind (table_of old) sums (front ++ p ∷ back) → IsAccepted status (sum ≡ total kind (value_at sums) front)
     pub null : (status ≡ NULL) ↔ (at ≡ None)
     pub refused : status ≢ OK → sum ≡ was
     pub same : new ≡ old
-    pub looked : status ≡ OK → (length old ≤ length sums) × StandsIn old at
+    pub looked : status ≡ OK → (length old ≤ length sums) × IsNoneOrLinkedIn old at
     pub why : status ≢ OK → status ≢ NULL → status ≡ refusal (fault_at old at ∷ sums_fault sums (length old) ∷ [])
     pub is_status : IsStatus status
 
@@ -50,13 +46,13 @@ module _ (kind : Kind) (sums : List RawSum) (old new : List RawThree) (status : 
 -- place's start and ends at its value
 module _ (starts : List ℕ) (sums : List RawSum) (old new : List RawThree) (status : ℕ) where
   pub record OverlapCall (tree : RawRoot) (at : Option Place) (from to was number : ℕ) : Type 0 where
-    pub found : (cut : Cut) → length old ≤ length starts → length old ≤ length sums → IsAfter cut at → ShowsTree old tree (join cut)
+    pub found : (cut : Cut) → length old ≤ length starts → length old ≤ length sums → IsAfter cut at → RepresentsTree old tree (join cut)
         → IsSummed Greatest (table_of old) sums (join cut) → IsSorted nat_cmp (map (key_of starts) cut.back)
         → IsFound (first (filter (overlaps (key_of starts) (value_at sums) from to) cut.back)) status number
     pub reached : status ≡ OK → HandsOutReached (table_of old) (root_in tree) (at ∷ []) number
     pub refused : status ≢ OK → number ≡ was
     pub same : new ≡ old
-    pub looked : (status ≡ OK) ⊎ (status ≡ NULL) → (length old ≤ length starts) × (length old ≤ length sums) × StandsIn old at × StandsIn old (root_in tree)
+    pub looked : (status ≡ OK) ⊎ (status ≡ NULL) → (length old ≤ length starts) × (length old ≤ length sums) × IsNoneOrLinkedIn old at × IsNoneOrLinkedIn old (root_in tree)
     pub why : status ≢ OK → status ≢ NULL → status ≡ refusal (fault_at old at ∷ keys_fault starts (length old) ∷ sums_fault sums (length old) ∷ [])
     pub is_status : IsStatus status
 
@@ -64,13 +60,13 @@ module _ (starts : List ℕ) (sums : List RawSum) (old new : List RawThree) (sta
 module _ (kind : Kind) (sums sums' : List RawSum) (old new : List RawThree) (status : ℕ) where
   -- THE SUMS ARE JOINED ANEW from the member `at` up, at none those of the whole table: of each tree they are right if they were at all other members
   pub record RenewCall (at : Option Place) : Type 0 where
-    pub renewed : (root : Option Place) (s : List Place) → length old ≤ length sums → StandsIn old at → Shows (table_of old) root s
+    pub renewed : (root : Option Place) (s : List Place) → length old ≤ length sums → IsNoneOrLinkedIn old at → Represents (table_of old) root s
         → IsSummedBut kind (table_of old) sums s (is_there at) → IsAccepted status (IsSummed kind (table_of old) sums' s)
-    pub opened : length old ≤ length sums → StandsIn old at → status ≡ OK
+    pub opened : length old ≤ length sums → IsNoneOrLinkedIn old at → status ≡ OK
     pub values : KeepsValues sums sums'
     pub beside : (p : Place) → at ≡ Some p → StaysBeside (table_of old) sums sums' p
     pub refused : status ≢ OK → sums' ≡ sums
     pub same : new ≡ old
-    pub looked : status ≡ OK → (length old ≤ length sums) × StandsIn old at
+    pub looked : status ≡ OK → (length old ≤ length sums) × IsNoneOrLinkedIn old at
     pub why : status ≢ OK → status ≡ refusal (fault_at old at ∷ sums_fault sums (length old) ∷ [])
     pub is_status : IsStatus status

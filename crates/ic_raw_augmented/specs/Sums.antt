@@ -1,9 +1,6 @@
 -- What the values of a tree's members make together, and the sums that a caller keeps beside the table.
 use Rattle.std.specs.Prelude.{◌≡◌, ◌+◌, ◌-◌, ◌^◌, ◌<◌, ◌||◌, ℕ, suc, Bool, true, false, cond, nat_eq, nat_lt, min, max, Option, Some, None, List, [], ◌∷◌, length, slice_index_or}
-use Rattle.ic_unsafe_ref.specs.declared.place.Place.{Place}
-use Rattle.ic_unsafe_ref.specs.Places.{index_of}
-use Rattle.ic_link_ops.specs.Sequences.{IsMember}
-use Rattle.ic_link_ops.specs.Tables.{Table}
+use Rattle.ic_link_ops.specs.Prelude.{Place, index_of, IsMember, Table}
 use Rattle.ic_link_ops.specs.Walk.{is_end}
 use Rattle.ic_link_ops.specs.Frames.{Frame}
 use Rattle.ic_link_ops.specs.Trees.{Tree, leaf, fork, top}

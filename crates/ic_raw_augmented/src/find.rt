@@ -7,11 +7,9 @@
 
 ghost use Rattle.std.specs.Prelude.{◌≡◌, ◌≢◌, ◌≤◌, ◌<◌, ◌∷◌, ◌++◌, [], true, Bool, Option, Some, None, IfSome, List, length, map, filter};
 ghost use Rattle.std.specs.Ordering.{nat_cmp};
-ghost use Rattle.ic_unsafe_ref.specs.declared.place.Place.{Place};
+ghost use Rattle.ic_link_ops.specs.Prelude.{Place, Cut, join, first, IsAfter, Table};
 ghost use Rattle.ic_link_ops.specs.Frames.{Frame, plug, before, after};
 ghost use Rattle.ic_link_ops.specs.RedBlackTree.{IsTree};
-ghost use Rattle.ic_link_ops.specs.Sequences.{Cut, join, first, IsAfter};
-ghost use Rattle.ic_link_ops.specs.Tables.{Table};
 ghost use Rattle.ic_link_ops.specs.Trees.{Tree, top, in_order};
 ghost use Rattle.ic_rbtree.specs.Borders.{IsSorted};
 ghost use Rattle.ic_rbtree.specs.Closed.{IsClosed, IsIn};
@@ -29,7 +27,7 @@ use crate::renew::TURNS;
 use crate::sums::{Kind, RawSum, sum_below, value_at};
 use ic_link_ops::Side;
 use ic_raw::{RawTable, RawThree};
-use ic_rbtree::Nodes;
+use ic_rbtree::NodeStore;
 use ic_unsafe_ref::Place;
 
 // The first member of the subtree at a place at which the values up to it make more than the bound, where those before the subtree make `done`
@@ -41,30 +39,31 @@ fn first_below(
     place: Place,
     done: u64,
     bound: u64,
-    turns: u32,
 ) -> Option<Place>
     requires { has_place (lent_table links.now) place ≡ true }
     ensures found { (up : Option Place) (t : Tree) (s : List Place) → IsTree seen_node (Table.entry (seen (lent_table links.now))) up t → top t ≡ Some place
-        → IsSummedTree kind (lent_table links.now) sums.now t → height t ≤ turns → done ≡ total kind (value_at sums.now) s
+        → IsSummedTree kind (lent_table links.now) sums.now t → height t ≤ 67 → done ≡ total kind (value_at sums.now) s
         → done ≤ bound → bound < total kind (value_at sums.now) (s ++ in_order t)
         → (m : Place) × (result ≡ Some m) × IsFirstBeyond kind (value_at sums.now) s bound (in_order t) (Some m) }
     ensures within { (S : Place → Bool) → IsClosed seen_node (seen (lent_table links.now)) None S → S place ≡ true → IsIn S result }
 {
-    if turns == 0 {
-        return None;
+    let mut place = place;
+    let mut done = done;
+    for _ in 0..TURNS {
+        let left = links.left(place);
+        let before_it = kind.combine(done, sum_below(sums, left));
+        if bound < before_it {
+            place = left?;
+        } else {
+            let with_it = kind.combine(before_it, value_at(sums, place));
+            if bound < with_it {
+                return Some(place);
+            }
+            place = links.right(place)?;
+            done = with_it;
+        }
     }
-    let left = links.left(place);
-    let before_it = kind.combine(done, sum_below(sums, left));
-    if bound < before_it {
-        let next = left?;
-        return first_below(links, sums, kind, next, done, bound, turns - 1);
-    }
-    let with_it = kind.combine(before_it, value_at(sums, place));
-    if bound < with_it {
-        return Some(place);
-    }
-    let right = links.right(place)?;
-    first_below(links, sums, kind, right, with_it, bound, turns - 1)
+    None
 }
 
 // The same among the members after the subtree at a place, where the values between make `done` together, `Some(None)` if all make no more.
@@ -75,35 +74,36 @@ fn first_above(
     place: Place,
     done: u64,
     bound: u64,
-    turns: u32,
 ) -> Option<Option<Place>>
     requires { has_place (lent_table links.now) place ≡ true }
     ensures found { (fs : List Frame) (t : Tree) (s : List Place) → IsSubtree seen_node (seen (lent_table links.now)) fs t → top t ≡ Some place
-        → IsSummedTree kind (lent_table links.now) sums.now (plug fs t) → length fs < turns → done ≡ total kind (value_at sums.now) s → done ≤ bound
+        → IsSummedTree kind (lent_table links.now) sums.now (plug fs t) → length fs < 67 → done ≡ total kind (value_at sums.now) s → done ≤ bound
         → (position : Option Place) × (result ≡ Some position) × IsFirstBeyond kind (value_at sums.now) s bound (after fs) position }
     ensures within { (S : Place → Bool) → IsClosed seen_node (seen (lent_table links.now)) None S → S place ≡ true → IfSome result (λ position. IsIn S position) }
 {
-    if turns == 0 {
-        return None;
+    let mut place = place;
+    let mut done = done;
+    for _ in 0..TURNS {
+        let Some(above) = links.parent(place) else {
+            return Some(None);
+        };
+        if !links.is_child(place, above, Side::Right) {
+            let with_it = kind.combine(done, value_at(sums, above));
+            if bound < with_it {
+                return Some(Some(above));
+            }
+            let right = links.right(above);
+            let with_right = kind.combine(with_it, sum_below(sums, right));
+            if bound < with_right {
+                let next = right?;
+                let member = first_below(links, sums, kind, next, with_it, bound)?;
+                return Some(Some(member));
+            }
+            done = with_right;
+        }
+        place = above;
     }
-    let Some(above) = links.parent(place) else {
-        return Some(None);
-    };
-    if links.is_child(place, above, Side::Right) {
-        return first_above(links, sums, kind, above, done, bound, turns - 1);
-    }
-    let with_it = kind.combine(done, value_at(sums, above));
-    if bound < with_it {
-        return Some(Some(above));
-    }
-    let right = links.right(above);
-    let with_right = kind.combine(with_it, sum_below(sums, right));
-    if bound < with_right {
-        let next = right?;
-        let member = first_below(links, sums, kind, next, with_it, bound, TURNS)?;
-        return Some(Some(member));
-    }
-    first_above(links, sums, kind, above, with_right, bound, turns - 1)
+    None
 }
 
 // The root of the subtree that begins after `at`: its right child, and from none the root of all.
@@ -139,13 +139,13 @@ pub(crate) fn find(
     let done = sum_below(sums, below);
     if bound < done {
         let next = below?;
-        let member = first_below(links, sums, kind, next, 0, bound, TURNS)?;
+        let member = first_below(links, sums, kind, next, 0, bound)?;
         return Some(Some(member));
     }
     let Some(place) = at else {
         return Some(None);
     };
-    first_above(links, sums, kind, place, done, bound, TURNS)
+    first_above(links, sums, kind, place, done, bound)
 }
 
 // The first member after `at` whose interval overlaps `[from, to)`. The end of each interval is the value at its place.
@@ -184,25 +184,25 @@ fn sum_above(
     kind: Kind,
     place: Place,
     done: u64,
-    turns: u32,
 ) -> Option<u64>
     requires { has_place (lent_table links.now) place ≡ true }
     ensures { (fs : List Frame) (t : Tree) (s : List Place) → IsSubtree seen_node (seen (lent_table links.now)) fs t → top t ≡ Some place
-        → IsSummedTree kind (lent_table links.now) sums.now (plug fs t) → length fs < turns → done ≡ total kind (value_at sums.now) s
+        → IsSummedTree kind (lent_table links.now) sums.now (plug fs t) → length fs < 67 → done ≡ total kind (value_at sums.now) s
         → result ≡ Some (total kind (value_at sums.now) (before fs ++ s)) }
 {
-    if turns == 0 {
-        return None;
+    let mut place = place;
+    let mut done = done;
+    for _ in 0..TURNS {
+        let Some(above) = links.parent(place) else {
+            return Some(done);
+        };
+        if links.is_child(place, above, Side::Right) {
+            let with_it = kind.combine(value_at(sums, above), done);
+            done = kind.combine(sum_below(sums, links.left(above)), with_it);
+        }
+        place = above;
     }
-    let Some(above) = links.parent(place) else {
-        return Some(done);
-    };
-    if !links.is_child(place, above, Side::Right) {
-        return sum_above(links, sums, kind, above, done, turns - 1);
-    }
-    let with_it = kind.combine(value_at(sums, above), done);
-    let with_left = kind.combine(sum_below(sums, links.left(above)), with_it);
-    sum_above(links, sums, kind, above, with_left, turns - 1)
+    None
 }
 
 // What the values of the members before this one make together. It is `None` if the words lead to no end.
@@ -217,5 +217,5 @@ pub(crate) fn sum_before(
         → IsSummed kind (lent_table links.now) sums.now (front ++ member ∷ back) → result ≡ Some (total kind (value_at sums.now) front) }
 {
     let done = sum_below(sums, links.left(member));
-    sum_above(links, sums, kind, member, done, TURNS)
+    sum_above(links, sums, kind, member, done)
 }

@@ -12,9 +12,13 @@
 //! `OK`.
 #![tactic(auto)]
 
+pub mod edit_calls;
 mod find;
+mod noting;
 mod renew;
 pub mod sum_calls;
 mod sums;
+mod written;
 
 pub use sums::{Kind, RawSum};
+pub use written::Written;

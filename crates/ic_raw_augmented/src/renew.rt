@@ -1,22 +1,23 @@
 //! Sums that are joined anew, over a view of the table.
 //!
 //! ```text
-//! renew_up(&links, sums, kind, place, TURNS); // from a place up, as long as a sum changes
-//! renew_all(&links, sums, kind);              // from each place of the table
+//! renew_up(&links, sums, kind, place); // from a place up, as long as a sum changes
+//! renew_all(&links, sums, kind);       // from each place of the table
 //! ```
 
 ghost use Rattle.std.specs.Prelude.{◌≡◌, ◌≤◌, ◌+◌, Bool, true, Option, Some, List, length};
-ghost use Rattle.ic_unsafe_ref.specs.declared.place.Place.{Place};
-ghost use Rattle.ic_unsafe_ref.specs.Places.{index_of};
+ghost use Rattle.ic_link_ops.specs.Prelude.{Place, index_of};
 ghost use Rattle.ic_raw.specs.Seen.{also, has_place};
 ghost use Rattle.ic_raw.specs.Tree.{lent_table};
 ghost use Rattle.ic_raw.specs.WholeTree.{IsSeen};
-ghost use Rattle.ic_raw_augmented.specs.Sums.{IsNear, IsSummed, IsSummedBut, KeepsValues, StaysBeside, is_child_of, is_from};
+ghost use Rattle.ic_raw_augmented.specs.Written.{is_noted};
+ghost use Rattle.ic_raw_augmented.specs.Sums.{IsSummed, IsSummedBut, KeepsValues, StaysBeside, is_child_of, is_from};
 
 use crate::sums::{Kind, RawSum, joined, set_sum, sum_below};
+use crate::written::Written;
 use ic_link_ops::Side;
 use ic_raw::{RawTable, RawThree, place_in};
-use ic_rbtree::Nodes;
+use ic_rbtree::NodeStore;
 use ic_unsafe_ref::Place;
 
 /// So many turns are enough for every climb and descent in a tree of the right shape.
@@ -38,30 +39,29 @@ pub(crate) fn renew_up(
     sums: &mut [RawSum],
     kind: Kind,
     place: Place,
-    turns: u32,
 )
     requires inside { has_place (lent_table links.now) place ≡ true }
     requires enough { (lent_table links.now).extent.places ≤ length sums.old }
-    ensures right { (root : Option Place) (s : List Place) (but : Place → Bool) → IsSeen (lent_table links.now) root s → IsNear (lent_table links.now) turns place
+    ensures right { (root : Option Place) (s : List Place) (but : Place → Bool) → IsSeen (lent_table links.now) root s
         → IsSummedBut kind (lent_table links.now) sums.old s (also (Some place) but) → IsSummedBut kind (lent_table links.now) sums.new s but }
     ensures kept { KeepsValues sums.old sums.new }
     ensures beside { StaysBeside (lent_table links.now) sums.old sums.new place }
 {
-    if turns == 0 {
-        return;
+    let mut place = place;
+    for _ in 0..TURNS {
+        let sum = joined(links, &*sums, kind, place);
+        if sum_below(&*sums, Some(place)) == sum {
+            return;
+        }
+        set_sum(sums, place, sum);
+        let Some(above) = links.parent(place) else {
+            return;
+        };
+        if !is_below(links, place, above) {
+            return;
+        }
+        place = above;
     }
-    let sum = joined(links, &*sums, kind, place);
-    if sum_below(&*sums, Some(place)) == sum {
-        return;
-    }
-    set_sum(sums, place, sum);
-    let Some(above) = links.parent(place) else {
-        return;
-    };
-    if !is_below(links, place, above) {
-        return;
-    }
-    renew_up(links, sums, kind, above, turns - 1);
 }
 
 // Joins all sums of the table anew.
@@ -85,6 +85,22 @@ fn place_at(index: usize) -> Option<Place>
     place_in((index as u64).wrapping_add(1).wrapping_mul(8))
 }
 
+// Joins the sums anew from a place up, if there is one and the table has it.
+fn renew_from(links: &RawTable<'_, RawThree>, sums: &mut [RawSum], kind: Kind, place: Option<Place>)
+    requires enough { (lent_table links.now).extent.places ≤ length sums.old }
+    ensures right { (root : Option Place) (s : List Place) (but : Place → Bool) → IsSeen (lent_table links.now) root s
+        → IsSummedBut kind (lent_table links.now) sums.old s (also place but) → IsSummedBut kind (lent_table links.now) sums.new s but }
+    ensures kept { KeepsValues sums.old sums.new }
+{
+    let Some(place) = place else {
+        return;
+    };
+    if !links.covers(place) {
+        return;
+    }
+    renew_up(links, sums, kind, place);
+}
+
 // Joins the sums anew from the place with that index up.
 fn renew_index(links: &RawTable<'_, RawThree>, sums: &mut [RawSum], kind: Kind, index: usize)
     requires enough { (lent_table links.now).extent.places ≤ length sums.old }
@@ -92,11 +108,26 @@ fn renew_index(links: &RawTable<'_, RawThree>, sums: &mut [RawSum], kind: Kind, 
         → IsSummedBut kind (lent_table links.now) sums.old s (is_from index) → IsSummedBut kind (lent_table links.now) sums.new s (is_from (index + 1)) }
     ensures kept { KeepsValues sums.old sums.new }
 {
-    let Some(place) = place_at(index) else {
-        return;
-    };
-    if !links.covers(place) {
+    renew_from(links, sums, kind, place_at(index));
+}
+
+// Joins the sums anew from each place up whose children were written.
+pub(crate) fn renew_written(
+    links: &RawTable<'_, RawThree>,
+    sums: &mut [RawSum],
+    kind: Kind,
+    written: &Written,
+)
+    requires enough { (lent_table links.now).extent.places ≤ length sums.old }
+    ensures right { (root : Option Place) (s : List Place) → IsSeen (lent_table links.now) root s
+        → IsSummedBut kind (lent_table links.now) sums.old s (is_noted written.now) → IsSummed kind (lent_table links.now) sums.new s }
+    ensures kept { KeepsValues sums.old sums.new }
+{
+    if written.is_full {
+        renew_all(links, sums, kind);
         return;
     }
-    renew_up(links, sums, kind, place, TURNS);
+    for word in &written.words {
+        renew_from(links, sums, kind, place_in(*word));
+    }
 }

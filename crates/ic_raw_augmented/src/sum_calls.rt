@@ -8,16 +8,15 @@
 
 ghost use Rattle.std.specs.Prelude.{◌≡◌, ◌≢◌, ◌⊎◌, ◌≤◌, ◌∷◌, ◌++◌, [], List, Option, Some, None, true, length, map, filter};
 ghost use Rattle.std.specs.Ordering.{nat_cmp};
-ghost use Rattle.ic_unsafe_ref.specs.declared.place.Place.{Place};
-ghost use Rattle.ic_link_ops.specs.Sequences.{Cut, join, first, IsAfter};
+ghost use Rattle.ic_link_ops.specs.Prelude.{Place, Cut, join, first, IsAfter};
 ghost use Rattle.ic_rbtree.specs.Borders.{IsSorted};
 ghost use Rattle.ic_raw.specs.declared.status.TheConstants.{OK, NULL};
 ghost use Rattle.ic_raw.specs.Answers.{HandsOut, IsFound, IsAccepted, refusal};
-ghost use Rattle.ic_raw.specs.Gaps.{Stands};
+ghost use Rattle.ic_raw.specs.Gaps.{IsNoneOrLinked};
 ghost use Rattle.ic_raw.specs.Keys.{key_of, keys_fault};
 ghost use Rattle.ic_raw.specs.Seen.{HandsOutReached};
 ghost use Rattle.ic_raw.specs.Tables.{member_fault};
-ghost use Rattle.ic_raw.specs.Tree.{Shows, lent_table, root_in};
+ghost use Rattle.ic_raw.specs.Tree.{Represents, lent_table, root_in};
 ghost use Rattle.ic_raw.specs.Words.{is_linked_three, place_of};
 ghost use Rattle.ic_raw_augmented.specs.declared.sums.Kind.TheVariants.{Greatest};
 ghost use Rattle.ic_raw_augmented.specs.Find.{IsFirstBeyond, overlaps};
@@ -25,7 +24,7 @@ ghost use Rattle.ic_raw_augmented.specs.SumCalls.{BeforeCall, FindCall, OverlapC
 ghost use Rattle.ic_raw_augmented.specs.Sums.{IsSummed, sum_below, sums_fault, total, value_at};
 
 use crate::find as searches;
-use crate::renew::{TURNS, renew_all, renew_up};
+use crate::renew::{renew_all, renew_up};
 use crate::sums::{Kind, RawSum};
 use ic_raw::{
     BROKEN, NULL, OK, OUT_OF_RANGE, RawRoot, RawTable, RawThree, number_of, place_in, place_of,
@@ -41,10 +40,10 @@ fn is_searchable(
     at: Option<Place>,
 ) -> bool
     ensures enough { result ≡ true → (lent_table links.now).extent.places ≤ length sums.now }
-    ensures at { result ≡ true → Stands is_linked_three (lent_table links.now) at }
-    ensures root { result ≡ true → Stands is_linked_three (lent_table links.now) root }
-    ensures shown { (lent_table links.now).extent.places ≤ length sums.now → Stands is_linked_three (lent_table links.now) at
-        → Stands is_linked_three (lent_table links.now) root → result ≡ true }
+    ensures at { result ≡ true → IsNoneOrLinked is_linked_three (lent_table links.now) at }
+    ensures root { result ≡ true → IsNoneOrLinked is_linked_three (lent_table links.now) root }
+    ensures shown { (lent_table links.now).extent.places ≤ length sums.now → IsNoneOrLinked is_linked_three (lent_table links.now) at
+        → IsNoneOrLinked is_linked_three (lent_table links.now) root → result ≡ true }
 {
     if sums.len() < links.places() {
         return false;
@@ -108,13 +107,13 @@ fn look(
     found: &mut u32,
 ) -> u32
     ensures found { (cut : Cut) → (lent_table links.now).extent.places ≤ length sums.now → IsAfter cut (place_of at)
-        → Shows (lent_table links.now) (root_in tree.now) (join cut) → IsSummed kind (lent_table links.now) sums.now (join cut)
+        → Represents (lent_table links.now) (root_in tree.now) (join cut) → IsSummed kind (lent_table links.now) sums.now (join cut)
         → HandsOut (IsFirstBeyond kind (value_at sums.now) [] bound cut.back) result found.new }
     ensures reached { result ≡ OK → HandsOutReached (lent_table links.now) (root_in tree.now) (place_of at ∷ []) found.new }
     ensures ended { place_of at ≡ None → result ≡ NULL → sum_below sums.now (root_in tree.now) ≤ bound }
     ensures refused { result ≢ OK → found.new ≡ found.old }
     ensures looked { (result ≡ OK) ⊎ (result ≡ NULL) → ((lent_table links.now).extent.places ≤ length sums.now)
-        × Stands is_linked_three (lent_table links.now) (place_of at) × Stands is_linked_three (lent_table links.now) (root_in tree.now) }
+        × IsNoneOrLinked is_linked_three (lent_table links.now) (place_of at) × IsNoneOrLinked is_linked_three (lent_table links.now) (root_in tree.now) }
     ensures why { result ≢ OK → result ≢ NULL → result ≡ refusal (member_fault is_linked_three (lent_table links.now) (place_of at)
         ∷ sums_fault sums.now (lent_table links.now).extent.places ∷ []) }
 {
@@ -149,14 +148,14 @@ fn look_overlap(
     found: &mut u32,
 ) -> u32
     ensures found { (cut : Cut) → (lent_table links.now).extent.places ≤ length starts.now → (lent_table links.now).extent.places ≤ length sums.now
-        → IsAfter cut (place_of at) → Shows (lent_table links.now) (root_in tree.now) (join cut)
+        → IsAfter cut (place_of at) → Represents (lent_table links.now) (root_in tree.now) (join cut)
         → IsSummed Greatest (lent_table links.now) sums.now (join cut) → IsSorted nat_cmp (map (key_of starts.now) cut.back)
         → IsFound (first (filter (overlaps (key_of starts.now) (value_at sums.now) from to) cut.back)) result found.new }
     ensures reached { result ≡ OK → HandsOutReached (lent_table links.now) (root_in tree.now) (place_of at ∷ []) found.new }
     ensures refused { result ≢ OK → found.new ≡ found.old }
     ensures looked { (result ≡ OK) ⊎ (result ≡ NULL) → ((lent_table links.now).extent.places ≤ length starts.now)
         × ((lent_table links.now).extent.places ≤ length sums.now)
-        × Stands is_linked_three (lent_table links.now) (place_of at) × Stands is_linked_three (lent_table links.now) (root_in tree.now) }
+        × IsNoneOrLinked is_linked_three (lent_table links.now) (place_of at) × IsNoneOrLinked is_linked_three (lent_table links.now) (root_in tree.now) }
     ensures why { result ≢ OK → result ≢ NULL → result ≡ refusal (member_fault is_linked_three (lent_table links.now) (place_of at)
         ∷ keys_fault starts.now (lent_table links.now).extent.places ∷ sums_fault sums.now (lent_table links.now).extent.places ∷ []) }
 {
@@ -190,14 +189,14 @@ fn look_before(
     at: u32,
     sum: &mut u64,
 ) -> u32
-    ensures told { (root : Option Place) (front back : List Place) (p : Place) → place_of at ≡ Some p → (lent_table links.now).extent.places ≤ length sums.now
-        → Shows (lent_table links.now) root (front ++ p ∷ back) → IsSummed kind (lent_table links.now) sums.now (front ++ p ∷ back)
+    ensures links_back { (root : Option Place) (front back : List Place) (p : Place) → place_of at ≡ Some p → (lent_table links.now).extent.places ≤ length sums.now
+        → Represents (lent_table links.now) root (front ++ p ∷ back) → IsSummed kind (lent_table links.now) sums.now (front ++ p ∷ back)
         → IsAccepted result (sum.new ≡ total kind (value_at sums.now) front) }
     ensures null { result ≡ NULL → place_of at ≡ None }
     ensures none { place_of at ≡ None → result ≡ NULL }
     ensures refused { result ≢ OK → sum.new ≡ sum.old }
     ensures looked { result ≡ OK → ((lent_table links.now).extent.places ≤ length sums.now)
-        × Stands is_linked_three (lent_table links.now) (place_of at) }
+        × IsNoneOrLinked is_linked_three (lent_table links.now) (place_of at) }
     ensures why { result ≢ OK → result ≢ NULL → result ≡ refusal (member_fault is_linked_three (lent_table links.now) (place_of at)
         ∷ sums_fault sums.now (lent_table links.now).extent.places ∷ []) }
 {
@@ -250,8 +249,8 @@ pub fn before(table: &mut [RawThree], sums: &[RawSum], kind: Kind, at: u32, sum:
 /// [`NULL`] if there is none. The interval starts at the start of its place and ends at its value, which it does not contain. It writes nothing else.
 /// O(log n).
 ///
-/// There has to be a start and a sum for each place of the table. The sums are those of [`Kind::Greatest`], and from one member to the next the starts
-/// must not fall.
+/// There has to be a start and a sum for each place of the table. The sums are those of [`Kind::Greatest`], and from one member to the next the
+/// starts must not fall.
 #[inline]
 pub fn overlap(
     table: &mut [RawThree],
@@ -269,8 +268,8 @@ pub fn overlap(
     look_overlap(&links, starts, sums, tree, at, from, to, found)
 }
 
-/// Joins the sum at the member `at` anew, and those above it as far as they change, at [`NONE`](ic_raw::NONE) all sums of the table. O(log n), at none
-/// O(p log p) for p places.
+/// Joins the sum at the member `at` anew, and those above it as far as they change, at [`NONE`](ic_raw::NONE) all sums of the table. O(log n), at
+/// none O(p log p) for p places.
 ///
 /// There has to be a sum for each place of the table.
 pub fn renew(table: &mut [RawThree], sums: &mut [RawSum], kind: Kind, at: u32) -> u32
@@ -285,6 +284,6 @@ pub fn renew(table: &mut [RawThree], sums: &mut [RawSum], kind: Kind, at: u32) -
         renew_all(&links, sums, kind);
         return OK;
     };
-    renew_up(&links, sums, kind, member, TURNS);
+    renew_up(&links, sums, kind, member);
     OK
 }

@@ -5,14 +5,13 @@
 //! ```
 
 ghost use Rattle.std.specs.Prelude.{◌≡◌, ◌≢◌, ◌<◌, max, length, true};
-ghost use Rattle.ic_unsafe_ref.specs.declared.place.Place.{Place};
-ghost use Rattle.ic_unsafe_ref.specs.Places.{index_of};
+ghost use Rattle.ic_link_ops.specs.Prelude.{Place, index_of};
 ghost use Rattle.ic_raw.specs.Seen.{has_place};
 ghost use Rattle.ic_raw.specs.Tree.{lent_table};
 ghost use Rattle.ic_raw_augmented.specs.Sums.{KeepsValues, combined, joined_at, kind_of, sum_at, sum_below, value_at};
 
 use ic_raw::{RawTable, RawThree};
-use ic_rbtree::Nodes;
+use ic_rbtree::NodeStore;
 use ic_unsafe_ref::Place;
 
 /// What a caller keeps at a place beside its link: a value of the caller's, and what the values of the place and of all members below it

@@ -4,31 +4,29 @@ use Rattle.std.specs.List.{AllByRecursion}
 use Rattle.std.proofs.Math.Nat.{mod-lt}
 use Rattle.std.proofs.lemmas.Bool.Decides.{eqb_tells}
 use Rattle.std.proofs.lemmas.List.{reverse-reverse, get_or-set_same, get_or-set_other}
-use Rattle.ic_unsafe_ref.specs.declared.place.Place.{Place}
+use Rattle.ic_link_ops.specs.Prelude.{Place, first, IsAbsent, IsDisjoint, IsDistinct, IsMember, Table, ChangesOnly, ChangesOnlyIn}
 use Rattle.ic_link_ops.specs.Chains.{IsChain}
 use Rattle.ic_link_ops.specs.NumberedCollections.{with_at}
-use Rattle.ic_link_ops.specs.Sequences.{first, IsAbsent, IsDisjoint, IsDistinct, IsMember}
 use Rattle.ic_link_ops.specs.SinglyLinkedList.{Front, IsFollowed, Successor, list_from, successor_at}
-use Rattle.ic_link_ops.specs.Tables.{Table, ChangesOnly, KeepsBeside}
 use Rattle.ic_link_ops.proofs.Chains.{chain_kept}
 use Rattle.ic_link_ops.proofs.SequenceLemmas.{absent_left, absent_reverse, absent_right, absent_swap, disjoint_cons, disjoint_nothing, disjoint_sym, distinct_middle, fewer, first_is, none_not, nothing_first, reverse_cons, some_same, split_member}
-use Rattle.ic_link_ops.proofs.ShownLists.{shows_frame}
+use Rattle.ic_link_ops.proofs.RepresentedLists.{represents_frame}
 use Rattle.ic_raw.specs.declared.table.RawTable.{RawTable}
 use Rattle.ic_raw.specs.declared.words.RawFront.{RawFront}
 use Rattle.ic_raw.specs.declared.words.RawOne.{RawOne}
-use Rattle.ic_raw.specs.Gaps.{Stands}
+use Rattle.ic_raw.specs.Gaps.{IsNoneOrLinked}
 use Rattle.ic_raw.specs.Hash.{HoldsChains, bucket_at, chain_of, slot_of}
 use Rattle.ic_raw.specs.Keys.{key_of}
-use Rattle.ic_raw.specs.Singly.{Shows, ShowsList, front_of, lent_table, successor, table_of, word_of_front}
+use Rattle.ic_raw.specs.Singly.{Represents, RepresentsList, front_of, lent_table, successor, table_of, word_of_front}
 use Rattle.ic_raw.specs.Tables.{raw_entries}
 use Rattle.ic_raw.specs.Words.{is_linked_one, no_word}
 use Rattle.ic_raw.proofs.Entries.{place_kept}
 use Rattle.ic_raw.proofs.HashTables.{changes_chain, chain_written, holds_again}
-use Rattle.ic_raw.proofs.HashWalks.{shown_behind}
+use Rattle.ic_raw.proofs.HashWalks.{represented_after}
 use Rattle.ic_raw.proofs.Lists.{kept}
-use Rattle.ic_raw.proofs.Singly.{behind_any}
-use Rattle.ic_raw.proofs.Views.{frame_back, shown_back, viewed}
-use Rattle.ic_raw_keyed.specs.Growth.{LeadsToStanding, StaysOrGets, leading_to, slot_for}
+use Rattle.ic_raw.proofs.Singly.{after_any}
+use Rattle.ic_raw.proofs.Views.{frame_back, represented_back, viewed}
+use Rattle.ic_raw_keyed.specs.Growth.{LeadsToLinked, StaysOrGets, leading_to, slot_for}
 use Rattle.ic_raw_keyed.specs.Spreading.{Spreads, spread_over}
 
 -- A PLACE IS TURNED to the first member of a list, and begins that list now
@@ -37,22 +35,22 @@ module _ {u v : Table RawOne} {p : Place} (only : ChangesOnly u v p) where
   same_chain s out chain =
       chain_kept (IsFollowed successor) u.entry v.entry None s None (λ q member. only.others q (λ e. member (subst (λ (z : Place). IsAbsent z s) (sym e) out))) chain
 
-  pub turned_shows : {front : Option Place} (s : List Place) → successor_at successor v p ≡ record { linked = true; next = front } → Shows u (list_from front) s
-      → IsAbsent p s → Shows v (list_from (Some p)) (p ∷ s)
-  turned_shows {front} s set shown out = record {
+  pub turned_represents : {front : Option Place} (s : List Place) → successor_at successor v p ≡ record { linked = true; next = front } → Represents u (list_from front) s
+      → IsAbsent p s → Represents v (list_from (Some p)) (p ∷ s)
+  turned_represents {front} s set shown out = record {
     distinct = (out, shown.distinct);
     chain = (
       record { linked = ap (λ (x : Successor). x.linked) set; next = ap (λ (x : Successor). x.next) set ∙ shown.head },
-      behind_any v.entry None (Some p) s None (same_chain s out shown.chain),
+      after_any v.entry None (Some p) s None (same_chain s out shown.chain),
     );
     head = refl;
     tail = refl;
   }
 
   -- and what was after it is a list as before
-  pub turned_rest : (r : List Place) → Shows u (list_from (Some p)) (p ∷ r) → Shows v (list_from (successor_at successor u p).next) r
+  pub turned_rest : (r : List Place) → Represents u (list_from (Some p)) (p ∷ r) → Represents v (list_from (successor_at successor u p).next) r
   turned_rest r shown =
-      let rest = shown_behind [] p r shown in record { distinct = rest.distinct; chain = same_chain r shown.distinct.0 rest.chain; head = rest.head; tail = refl }
+      let rest = represented_after [] p r shown in record { distinct = rest.distinct; chain = same_chain r shown.distinct.0 rest.chain; head = rest.head; tail = refl }
 
 -- a list to which no step is left
 none_left : (w : List Place) → length w ≤ 0 → first w ≡ None
@@ -64,12 +62,12 @@ pub record Reverses (t u : Table RawOne) (s : List Place) (back at : Option Plac
   pub ahead : List Place
   pub rest : List Place
   pub parts : s ≡ reverse ahead ++ rest
-  pub turned : Shows u (list_from back) ahead
-  pub behind : Shows u (list_from at) rest
+  pub turned : Represents u (list_from back) ahead
+  pub behind : Represents u (list_from at) rest
   pub few : length rest ≤ left
-  pub frame : KeepsBeside t u s
+  pub frame : ChangesOnlyIn t u s
 
-pub reverse_none : {t : Table RawOne} {front : Option Place} {s : List Place} {left : ℕ} → Shows t (list_from front) s → length s ≤ left → Reverses t t s None front left
+pub reverse_none : {t : Table RawOne} {front : Option Place} {s : List Place} {left : ℕ} → Represents t (list_from front) s → length s ≤ left → Reverses t t s None front left
 reverse_none {s = s} shown few = record {
   ahead = [];
   rest = s;
@@ -87,7 +85,7 @@ reverse_more {t} {u} {v} {s} {back} {p} next {left} distinct k only set next_is 
     let r = drop 1 k.rest in
     let is : k.rest ≡ p ∷ r = first_is k.rest k.behind.head in
     let whole : s ≡ reverse k.ahead ++ p ∷ r = k.parts ∙ ap (λ (l : List Place). reverse k.ahead ++ l) is in
-    let here : Shows u (list_from (Some p)) (p ∷ r) = subst (λ (l : List Place). Shows u (list_from (Some p)) l) is k.behind in
+    let here : Represents u (list_from (Some p)) (p ∷ r) = subst (λ (l : List Place). Represents u (list_from (Some p)) l) is k.behind in
     let out : IsAbsent p (reverse k.ahead) = absent_left p (reverse k.ahead) r (distinct_middle (reverse k.ahead) r p (subst IsDistinct whole distinct)) in
     let away : IsAbsent p k.ahead = subst (IsAbsent p) (reverse-reverse k.ahead) (absent_reverse p (reverse k.ahead) out) in
     let less = fewer k.rest p k.behind.head in
@@ -96,8 +94,8 @@ reverse_more {t} {u} {v} {s} {back} {p} next {left} distinct k only set next_is 
       ahead = p ∷ k.ahead;
       rest = r;
       parts = whole ∙ sym (append_assoc (reverse k.ahead) (p ∷ []) r) ∙ ap (λ (l : List Place). l ++ r) (sym (reverse_cons p k.ahead));
-      turned = turned_shows only k.ahead set k.turned away;
-      behind = subst (λ (o : Option Place). Shows v (list_from o) r) (sym next_is) (turned_rest only r here);
+      turned = turned_represents only k.ahead set k.turned away;
+      behind = subst (λ (o : Option Place). Represents v (list_from o) r) (sym next_is) (turned_rest only r here);
       few = omega (arith, less, few);
       frame = record {
         extent = only.extent ∙ k.frame.extent;
@@ -108,11 +106,11 @@ reverse_more {t} {u} {v} {s} {back} {p} next {left} distinct k only set next_is 
 pub reverse_over : {t u : Table RawOne} {s : List Place} {back at : Option Place} {left : ℕ} → Reverses t u s back at left → left ≤ 0 → at ≡ None
 reverse_over k over = let few = k.few in k.behind.head ∙ none_left k.rest (omega (arith, few, over))
 
-pub reverse_done : {t u : Table RawOne} {s : List Place} {back at : Option Place} {left : ℕ} → Reverses t u s back at left → at ≡ None → Shows u (list_from back) (reverse s)
+pub reverse_done : {t u : Table RawOne} {s : List Place} {back at : Option Place} {left : ℕ} → Reverses t u s back at left → at ≡ None → Represents u (list_from back) (reverse s)
 reverse_done {u = u} {s} {back} k none =
     let nothing : k.rest ≡ [] = nothing_first k.rest (sym none ∙ k.behind.head) in
     let all : s ≡ reverse k.ahead = k.parts ∙ ap (λ (l : List Place). reverse k.ahead ++ l) nothing ∙ append-nil (reverse k.ahead) in
-    subst (λ (l : List Place). Shows u (list_from back) l) (sym (reverse-reverse k.ahead) ∙ ap (λ (l : List Place). reverse l) (sym all)) k.turned
+    subst (λ (l : List Place). Represents u (list_from back) l) (sym (reverse-reverse k.ahead) ∙ ap (λ (l : List Place). reverse l) (sym all)) k.turned
 
 -- one more member is spread last
 spread_push : (hashes : List ℕ) (n : ℕ) (chains : ℕ → List Place) (d : List Place) (p : Place)
@@ -136,14 +134,14 @@ spread_reversed hashes n chains (p ∷ s) i =
 -- buckets hold chains however these are named
 pub holds_as : {words : List RawOne} {buckets : List RawFront} {c d : ℕ → List Place} → ((i : ℕ) → c i ≡ d i) → HoldsChains words buckets c → HoldsChains words buckets d
 holds_as {words} {buckets} {c} {d} same h = record {
-  shown = λ i fits. subst (ShowsList words (bucket_at buckets i)) (same i) (h.shown i fits);
+  shown = λ i fits. subst (RepresentsList words (bucket_at buckets i)) (same i) (h.shown i fits);
   apart = λ i j fits fits' differ. subst (IsDisjoint (d i)) (same j) (subst (λ (l : List Place). IsDisjoint l (c j)) (same i) (h.apart i j fits fits' differ));
 }
 
 -- and where entries change that are none of their members'
 pub holds_beside : {es fs : List RawOne} {buckets : List RawFront} {chains : ℕ → List Place} (s : List Place) → HoldsChains es buckets chains
-    → KeepsBeside (table_of es) (table_of fs) s → ((i : ℕ) → i < length buckets → IsDisjoint (chains i) s) → HoldsChains fs buckets chains
-holds_beside s h frame away = record { shown = λ i fits. shows_frame s (h.shown i fits) (away i fits) frame.others; apart = h.apart }
+    → ChangesOnlyIn (table_of es) (table_of fs) s → ((i : ℕ) → i < length buckets → IsDisjoint (chains i) s) → HoldsChains fs buckets chains
+holds_beside s h frame away = record { shown = λ i fits. represents_frame s (h.shown i fits) (away i fits) frame.others; apart = h.apart }
 
 pub apart_reversed : (s t : List Place) → IsDisjoint s t → IsDisjoint s (reverse t)
 apart_reversed s t apart = absent_swap s t apart (reverse t) (λ q out. absent_reverse q t out)
@@ -153,15 +151,15 @@ pub record SpreadsTo (hashes : List ℕ) (t u : RawTable RawOne) (b c : List Raw
   pub done : List Place
   pub rest : List Place
   pub parts : r ≡ done ++ rest
-  pub behind : Shows (lent_table u) (list_from at) rest
+  pub behind : Represents (lent_table u) (list_from at) rest
   pub few : length rest ≤ left
-  pub frame : KeepsBeside (lent_table t) (lent_table u) r
+  pub frame : ChangesOnlyIn (lent_table t) (lent_table u) r
   pub holds : (chains : ℕ → List Place) → HoldsChains (raw_entries t) b chains → ((i : ℕ) → i < length b → IsDisjoint (chains i) r)
       → HoldsChains (raw_entries u) c (spread_over hashes (length b) chains done)
       × ((i : ℕ) → i < length b → IsDisjoint (spread_over hashes (length b) chains done i) rest)
   pub own : (i : ℕ) → StaysOrGets hashes b c r i
 
-pub spread_none : {hashes : List ℕ} (t : RawTable RawOne) {b : List RawFront} {r : List Place} {front : Option Place} {left : ℕ} → Shows (lent_table t) (list_from front) r
+pub spread_none : {hashes : List ℕ} (t : RawTable RawOne) {b : List RawFront} {r : List Place} {front : Option Place} {left : ℕ} → Represents (lent_table t) (list_from front) r
     → length r ≤ left → SpreadsTo hashes t t b b r front left
 spread_none t {r = r} shown few = record {
   done = [];
@@ -184,8 +182,8 @@ module _ {hashes : List ℕ} {t u : RawTable RawOne} (v : RawTable RawOne) {b c 
   whole : r ≡ k.done ++ p ∷ drop 1 k.rest
   whole = k.parts ∙ ap (λ (l : List Place). k.done ++ l) rest_is
 
-  here : Shows (lent_table u) (list_from (Some p)) (p ∷ drop 1 k.rest)
-  here = subst (λ (l : List Place). Shows (lent_table u) (list_from (Some p)) l) rest_is k.behind
+  here : Represents (lent_table u) (list_from (Some p)) (p ∷ drop 1 k.rest)
+  here = subst (λ (l : List Place). Represents (lent_table u) (list_from (Some p)) l) rest_is k.behind
 
   slot_b : i ≡ slot_for hashes (length b) p
   slot_b = slot ∙ ap (λ (n : ℕ). key_of hashes p % n) count
@@ -199,22 +197,22 @@ module _ {hashes : List ℕ} {t u : RawTable RawOne} (v : RawTable RawOne) {b c 
     fits_b = subst (λ (n : ℕ). i < n) count fits
 
     -- the chain in the bucket begins with the place,
-    begins : ShowsList (raw_entries v) (chain_of (slice_set c i (word_of_front (Some p))) (key_of hashes p)) (p ∷ chains i)
+    begins : RepresentsList (raw_entries v) (chain_of (slice_set c i (word_of_front (Some p))) (key_of hashes p)) (p ∷ chains i)
     begins =
-        let old : Shows (lent_table u) (list_from (front_of (bucket_at c i))) (chains i) = viewed no_word kept u refl (now.shown i fits) in
-        let new : ShowsList (raw_entries v) (word_of_front (Some p)) (p ∷ chains i) =
-        subst (λ (o : Option Place). Shows (table_of (raw_entries v)) (list_from o) (p ∷ chains i)) (sym (place_kept (Some p)))
-        (shown_back no_word kept v refl (turned_shows only (chains i) set old (away i fits_b).0)) in
-        subst (λ (w : RawFront). ShowsList (raw_entries v) w (p ∷ chains i)) (sym (chain_written c (key_of hashes p) i slot (word_of_front (Some p)) fits)) new
+        let old : Represents (lent_table u) (list_from (front_of (bucket_at c i))) (chains i) = viewed no_word kept u refl (now.shown i fits) in
+        let new : RepresentsList (raw_entries v) (word_of_front (Some p)) (p ∷ chains i) =
+        subst (λ (o : Option Place). Represents (table_of (raw_entries v)) (list_from o) (p ∷ chains i)) (sym (place_kept (Some p)))
+        (represented_back no_word kept v refl (turned_represents only (chains i) set old (away i fits_b).0)) in
+        subst (λ (w : RawFront). RepresentsList (raw_entries v) w (p ∷ chains i)) (sym (chain_written c (key_of hashes p) i slot (word_of_front (Some p)) fits)) new
 
     -- and the others stay
     spread_one : HoldsChains (raw_entries v) (slice_set c i (word_of_front (Some p))) (with_at chains i (p ∷ chains i))
     spread_one =
-        let only_p : KeepsBeside (lent_table u) (lent_table v) (p ∷ []) = record { extent = only.extent; others = λ q out. only.others q out.0 } in
+        let only_p : ChangesOnlyIn (lent_table u) (lent_table v) (p ∷ []) = record { extent = only.extent; others = λ q out. only.others q out.0 } in
         subst (λ (n : ℕ). HoldsChains (raw_entries v) (slice_set c i (word_of_front (Some p))) (with_at chains n (p ∷ chains n))) (sym slot)
         (holds_again now (key_of hashes p) (subst (λ (n : ℕ). n < length c) slot fits) (changes_chain c (key_of hashes p) i slot (word_of_front (Some p)))
         (p ∷ chains (slot_of c (key_of hashes p))) (p ∷ [])
-        (subst (λ (n : ℕ). ShowsList (raw_entries v) (chain_of (slice_set c i (word_of_front (Some p))) (key_of hashes p)) (p ∷ chains n)) slot begins)
+        (subst (λ (n : ℕ). RepresentsList (raw_entries v) (chain_of (slice_set c i (word_of_front (Some p))) (key_of hashes p)) (p ∷ chains n)) slot begins)
         (frame_back no_word u v only_p)
         (λ j fits' other.
         let out = (away j (subst (λ (n : ℕ). j < n) count fits')).0 in (
@@ -252,7 +250,7 @@ module _ {hashes : List ℕ} {t u : RawTable RawOne} (v : RawTable RawOne) {b c 
         done = k.done ++ p ∷ [];
         rest = drop 1 k.rest;
         parts = whole ∙ sym (append_assoc k.done (p ∷ []) (drop 1 k.rest));
-        behind = subst (λ (o : Option Place). Shows (lent_table v) (list_from o) (drop 1 k.rest)) (sym next_is) (turned_rest only (drop 1 k.rest) here);
+        behind = subst (λ (o : Option Place). Represents (lent_table v) (list_from o) (drop 1 k.rest)) (sym next_is) (turned_rest only (drop 1 k.rest) here);
         few = omega (arith, less, few);
         frame = record {
           extent = only.extent ∙ k.frame.extent;
@@ -285,24 +283,24 @@ spread_done {hashes} {t} {u} {b} {c} {r} k none =
     }
 
 -- the member to which the walk has come is linked
-pub shown_linked : {u : Table RawOne} {p : Place} (rest : List Place) → Shows u (list_from (Some p)) rest → is_linked_one (u.entry p) ≡ true
-shown_linked {u} {p} rest behind = (subst (λ (l : List Place). Shows u (list_from (Some p)) l) (first_is rest behind.head) behind).chain.0.linked
+pub represented_linked : {u : Table RawOne} {p : Place} (rest : List Place) → Represents u (list_from (Some p)) rest → is_linked_one (u.entry p) ≡ true
+represented_linked {u} {p} rest behind = (subst (λ (l : List Place). Represents u (list_from (Some p)) l) (first_is rest behind.head) behind).chain.0.linked
 
 -- the first member of a list is linked
-stand_front : {t : Table RawOne} {list : Front} (s : List Place) → Shows t list s → Stands is_linked_one t list.head
+stand_front : {t : Table RawOne} {list : Front} (s : List Place) → Represents t list s → IsNoneOrLinked is_linked_one t list.head
 stand_front [] shown q e = absurd (none_not q (sym shown.head ∙ e))
 stand_front {t} (x ∷ s) shown q e = subst (λ (z : Place). is_linked_one (t.entry z) ≡ true) (some_same (sym shown.head ∙ e)) shown.chain.0.linked
 
 -- so each bucket begins with none or a linked place
 pub all_stand : (hashes : List ℕ) (t : RawTable RawOne) {buckets : List RawFront} {chains : ℕ → List Place} → HoldsChains (raw_entries t) buckets chains → 1 ≤ length buckets
-    → (s : List Place) → AllByRecursion (LeadsToStanding (lent_table t) hashes buckets) s
+    → (s : List Place) → AllByRecursion (LeadsToLinked (lent_table t) hashes buckets) s
 all_stand hashes t holds any [] = tt
 all_stand hashes t {buckets} {chains} holds any (p ∷ s) =
     let within : slot_for hashes (length buckets) p < length buckets = mod-lt (key_of hashes p) (omega (arith, any)) in
     (stand_front (chains (slot_for hashes (length buckets) p)) (viewed no_word kept t refl (holds.shown (slot_for hashes (length buckets) p) within)), all_stand hashes t holds any s)
 
 -- what changes when a list is turned round, and its members are spread, are their entries
-pub both_frames : {t u v : Table RawOne} (s : List Place) → KeepsBeside t u s → KeepsBeside u v (reverse s) → KeepsBeside t v s
+pub both_frames : {t u v : Table RawOne} (s : List Place) → ChangesOnlyIn t u s → ChangesOnlyIn u v (reverse s) → ChangesOnlyIn t v s
 both_frames s one other = record { extent = other.extent ∙ one.extent; others = λ q out. other.others q (absent_reverse q s out) ∙ one.others q out }
 
 -- a bucket's word, by the members turned round
@@ -311,9 +309,9 @@ pub own_reversed : (hashes : List ℕ) (buckets buckets' : List RawFront) (s : L
 own_reversed hashes buckets buckets' s i k = elim k [ inl same ↦ inl same | inr gets ↦ inr (gets.0, (λ out. gets.1 (absent_reverse gets.0 s out)), gets.2, gets.3) ]
 
 -- what is so of a view is so of the words
-pub frame_words : (a b : RawTable RawOne) {es fs : List RawOne} {s : List Place} → raw_entries a ≡ es → fs ≡ raw_entries b → KeepsBeside (lent_table a) (lent_table b) s
-    → KeepsBeside (table_of es) (table_of fs) s
-frame_words a b {s = s} e f frame = let back : KeepsBeside (table_of (raw_entries a)) (table_of (raw_entries b)) s = frame_back no_word a b frame in rw (← e, f) back
+pub frame_words : (a b : RawTable RawOne) {es fs : List RawOne} {s : List Place} → raw_entries a ≡ es → fs ≡ raw_entries b → ChangesOnlyIn (lent_table a) (lent_table b) s
+    → ChangesOnlyIn (table_of es) (table_of fs) s
+frame_words a b {s = s} e f frame = let back : ChangesOnlyIn (table_of (raw_entries a)) (table_of (raw_entries b)) s = frame_back no_word a b frame in rw (← e, f) back
 
 pub holds_words : (b : RawTable RawOne) {fs : List RawOne} {buckets : List RawFront} {chains : ℕ → List Place} → fs ≡ raw_entries b → HoldsChains (raw_entries b) buckets chains
     → HoldsChains fs buckets chains

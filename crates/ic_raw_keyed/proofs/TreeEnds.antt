@@ -1,10 +1,9 @@
 -- The ends of a tree's sequence, as a member comes in, leaves, or is replaced.
 use Rattle.std.proofs.Common.{◌≡◌, ◌≢◌, ℕ, true, Option, Some, None, List, [], ◌∷◌, ◌++◌, refl, sym, ap, ◌∙◌, subst, append_assoc}
-use Rattle.ic_unsafe_ref.specs.declared.place.Place.{Place}
+use Rattle.ic_link_ops.specs.Prelude.{Place, index_of, Cut, join, insert, first, last, IsDistinct, Table, IsLinked}
 use Rattle.ic_link_ops.specs.declared.side.Side.{Side}
 use Rattle.ic_link_ops.specs.declared.side.Side.TheVariants.{Left, Right}
 use Rattle.ic_link_ops.specs.Frames.{across}
-use Rattle.ic_link_ops.specs.Sequences.{Cut, join, insert, first, last, IsDistinct}
 use Rattle.ic_link_ops.proofs.SequenceLemmas.{absent_left, distinct_middle, distinct_right, first_not, last_not, last_of_push, last_or-append, none_not, nothing_first, nothing_last, some_same}
 use Rattle.ic_rbtree.specs.Ends.{end_on}
 use Rattle.ic_rbtree.specs.Kept.{end_with, end_for, IsBelow}
@@ -12,17 +11,15 @@ use Rattle.ic_rbtree.specs.Sides.{IsBeside}
 use Rattle.ic_rbtree.proofs.EndsKept.{comes_first, comes_last, first_replaced, last_replaced}
 use Rattle.ic_raw.specs.declared.words.RawThree.{RawThree}
 use Rattle.ic_link_ops.specs.EntryLaws.{linked_in_range}
-use Rattle.ic_link_ops.specs.Tables.{Table, IsLinked}
 use Rattle.ic_rbtree.specs.Closed.{AreIn, IsIn}
-use Rattle.ic_unsafe_ref.specs.Places.{index_of}
 use Rattle.ic_rbtree.specs.StepsTo.{StepsTo}
 use Rattle.ic_raw.specs.declared.table.RawTable.{RawTable}
-use Rattle.ic_raw.specs.Gaps.{Stands}
+use Rattle.ic_raw.specs.Gaps.{IsNoneOrLinked}
 use Rattle.ic_raw.specs.Seen.{has_place, seen, seen_node, StepEndsIn}
 use Rattle.ic_raw.specs.Tables.{raw_entries}
 use Rattle.ic_raw.specs.SearchCalls.{PutCall}
 use Rattle.ic_raw.specs.declared.words.RawRoot.{RawRoot}
-use Rattle.ic_raw.specs.Tree.{IsHole, StandsIn, lent_table, root_in, table_of}
+use Rattle.ic_raw.specs.Tree.{IsInsertPos, IsNoneOrLinkedIn, lent_table, root_in, table_of}
 use Rattle.ic_raw.specs.Words.{is_linked_three, no_tree_words}
 use Rattle.ic_raw.proofs.Trees.{end_in}
 use Rattle.ic_raw_keyed.specs.Ends.{IsNextEnd}
@@ -48,7 +45,7 @@ inwards_other Right front p back distinct is same =
     last_not None front p (none_not p) (absent_left p front back (distinct_middle front back p distinct)) (sym is ∙ same)
 
 -- of a hole a place comes in below
-pub hole_below : (t : Table RawThree) (side : Side) (at : Option Place) (cut : Cut) → IsHole side t at cut → IsBelow at side cut
+pub hole_below : (t : Table RawThree) (side : Side) (at : Option Place) (cut : Cut) → IsInsertPos side t at cut → IsBelow at side cut
 hole_below t side None cut hole = hole
 hole_below t side (Some q) cut hole = hole.1
 
@@ -100,12 +97,12 @@ steps_back t root (Some p) side q view steps = let back : StepsTo seen_node (see
 -- WHERE A STEP INWARDS LEADS from an end, to a place that is none or another linked one
 pub is_next : (t : Table RawThree) (root : Option Place) (side : Side) (out : Place) (next : Option Place)
     → ((q : Place) → next ≡ Some q → StepsTo seen_node (seen t) root (across side) (Some out) q) → (next ≡ None → StepEndsIn t root (across side) (Some out))
-    → Stands is_linked_three t next → next ≢ Some out → IsNextEnd t root side out next
+    → IsNoneOrLinked is_linked_three t next → next ≢ Some out → IsNextEnd t root side out next
 is_next t root side out None steps ends stands other = ends refl
 is_next t root side out (Some q) steps ends stands other = (steps q refl, stands q refl, λ same. other (ap Some same))
 
 -- what stands among the words is a place of the table,
-pub stands_in : (es : List RawThree) (at : Option Place) → StandsIn es at → IsIn (has_place (table_of es)) at
+pub stands_in : (es : List RawThree) (at : Option Place) → IsNoneOrLinkedIn es at → IsIn (has_place (table_of es)) at
 stands_in es at stands = end_in (table_of es) (λ q on. linked_in_range is_linked_three no_tree_words refl es (index_of q) on) at stands
 
 -- and of a view of them

@@ -1,9 +1,7 @@
 -- The first and the last member of a red-black tree, in words that a caller keeps beside that of the tree.
 use Rattle.std.specs.Prelude.{◌≡◌, ◌≢◌, ◌⊎◌, List, Option, Some, None}
-use Rattle.ic_unsafe_ref.specs.declared.place.Place.{Place}
-use Rattle.ic_unsafe_ref.specs.Places.{word_of}
+use Rattle.ic_link_ops.specs.Prelude.{Place, word_of, Table, IsLinked}
 use Rattle.ic_link_ops.specs.Frames.{across}
-use Rattle.ic_link_ops.specs.Tables.{Table, IsLinked}
 use Rattle.ic_link_ops.specs.declared.side.Side.{Side}
 use Rattle.ic_link_ops.specs.declared.side.Side.TheVariants.{Left, Right}
 use Rattle.ic_rbtree.specs.Ends.{end_on}

@@ -1,9 +1,7 @@
 -- WHAT THE CALLS OF TREES THAT KEEP THEIR ENDS DO: each record is the whole contract of a call. Its field `call` is the contract of the same call
 -- of a tree without ends. The others say what becomes of the ends, first if they are right, and then whatever the words say.
 use Rattle.std.specs.Prelude.{◌≡◌, ◌≢◌, ◌↔◌, ◌<◌, ◌∷◌, ◌++◌, ℕ, List, Option, Some, None}
-use Rattle.ic_unsafe_ref.specs.declared.place.Place.{Place}
-use Rattle.ic_unsafe_ref.specs.Places.{index_of}
-use Rattle.ic_link_ops.specs.Sequences.{Cut, join, insert}
+use Rattle.ic_link_ops.specs.Prelude.{Place, index_of, Cut, join, insert}
 use Rattle.ic_link_ops.specs.declared.side.Side.{Side}
 use Rattle.ic_link_ops.specs.declared.side.Side.TheVariants.{Left}
 use Rattle.ic_rbtree.specs.Kept.{end_for, end_with}
@@ -12,19 +10,19 @@ use Rattle.ic_raw.specs.declared.words.RawRoot.{RawRoot}
 use Rattle.ic_raw.specs.declared.words.RawThree.{RawThree}
 use Rattle.ic_raw.specs.Answers.{IsAccepted, IsStatus}
 use Rattle.ic_raw.specs.SearchCalls as keyed
-use Rattle.ic_raw.specs.Tree.{ShowsTree, FreeIn, IsHole, root_in, table_of}
+use Rattle.ic_raw.specs.Tree.{RepresentsTree, FreeIn, IsInsertPos, root_in, table_of}
 use Rattle.ic_raw.specs.TreeCalls as trees
 use Rattle.ic_raw.specs.Words.{HasNumber}
 use Rattle.ic_raw_keyed.specs.declared.ends.RawTreeEnds.{RawTreeEnds}
 use Rattle.ic_raw_keyed.specs.Ends.{SaysEnds, IsWritten, EndWith, LosesEnd, end_in}
 
--- `old`, `new`: the words of the table before the call and after it. `tree`, `tree'`, `ends`, `ends'`: those of the tree and of its ends. `status`: what
--- the call returns
+-- `old`, `new`: the words of the table before the call and after it. `tree`, `tree'`, `ends`, `ends'`: those of the tree and of its ends. `status`:
+-- what the call returns
 module _ (old new : List RawThree) (tree tree' : RawRoot) (ends ends' : RawTreeEnds) (status : ℕ) where
   -- A PLACE GOES IN AS THE CHILD on this side of the member `at`, at none as the only member
   pub record InsertCall (side : Side) (at place : Option Place) : Type 0 where
     pub call : trees.InsertCall old new tree tree' status side at place
-    pub ends_kept : (cut : Cut) (p : Place) → IsHole side (table_of old) at cut → place ≡ Some p → ShowsTree old tree (join cut) → FreeIn old p
+    pub ends_kept : (cut : Cut) (p : Place) → IsInsertPos side (table_of old) at cut → place ≡ Some p → RepresentsTree old tree (join cut) → FreeIn old p
         → SaysEnds ends (join cut) → SaysEnds ends' (insert cut p)
     pub own : (p : Place) → place ≡ Some p → status ≡ OK → (d : Side) → end_in d ends' ≡ end_with d at side p (end_in d ends)
     pub words : status ≡ OK → IsWritten ends'
@@ -33,7 +31,7 @@ module _ (old new : List RawThree) (tree tree' : RawRoot) (ends ends' : RawTreeE
   -- A MEMBER LEAVES
   pub record RemoveCall (at : Option Place) : Type 0 where
     pub call : trees.RemoveCall old new tree tree' status at
-    pub ends_kept : (front back : List Place) (p : Place) → at ≡ Some p → ShowsTree old tree (front ++ p ∷ back) → SaysEnds ends (front ++ p ∷ back)
+    pub ends_kept : (front back : List Place) (p : Place) → at ≡ Some p → RepresentsTree old tree (front ++ p ∷ back) → SaysEnds ends (front ++ p ∷ back)
         → SaysEnds ends' (front ++ back)
     pub own : (p : Place) → at ≡ Some p → status ≡ OK → (d : Side) → LosesEnd (table_of old) (root_in tree) d p (end_in d ends) (end_in d ends')
     pub words : status ≡ OK → IsWritten ends'
@@ -42,7 +40,7 @@ module _ (old new : List RawThree) (tree tree' : RawRoot) (ends ends' : RawTreeE
   -- A PLACE STANDS WHERE A MEMBER DID, which leaves
   pub record ReplaceCall (at place : Option Place) : Type 0 where
     pub call : trees.ReplaceCall old new tree tree' status at place
-    pub ends_kept : (front back : List Place) (out p : Place) → at ≡ Some out → place ≡ Some p → ShowsTree old tree (front ++ out ∷ back) → FreeIn old p
+    pub ends_kept : (front back : List Place) (out p : Place) → at ≡ Some out → place ≡ Some p → RepresentsTree old tree (front ++ out ∷ back) → FreeIn old p
         → SaysEnds ends (front ++ out ∷ back) → SaysEnds ends' (front ++ p ∷ back)
     pub own : (out p : Place) → at ≡ Some out → place ≡ Some p → status ≡ OK → (d : Side) → end_in d ends' ≡ end_for out p (end_in d ends)
     pub words : status ≡ OK → IsWritten ends'
@@ -50,7 +48,7 @@ module _ (old new : List RawThree) (tree tree' : RawRoot) (ends ends' : RawTreeE
 
   -- THE FIRST MEMBER LEAVES, and its number is handed out, in words that said `was`
   pub record PopFirstCall (was popped : ℕ) : Type 0 where
-    pub taken : (s : List Place) (p : Place) → index_of p < 4294967295 → ShowsTree old tree (p ∷ s) → SaysEnds ends (p ∷ s) → IsAccepted status (SaysEnds ends' s)
+    pub taken : (s : List Place) (p : Place) → index_of p < 4294967295 → RepresentsTree old tree (p ∷ s) → SaysEnds ends (p ∷ s) → IsAccepted status (SaysEnds ends' s)
     pub removed : status ≡ OK → RemoveCall (end_in Left ends)
     pub handed : (p : Place) → end_in Left ends ≡ Some p → status ≡ OK → HasNumber p popped
     pub null : (status ≡ NULL) ↔ (end_in Left ends ≡ None)
@@ -63,7 +61,7 @@ module _ (keys : List ℕ) (old new : List RawThree) (tree tree' : RawRoot) (end
   -- A PLACE GOES IN AFTER ALL MEMBERS with no greater key than its own
   pub record PutCall (place : Option Place) : Type 0 where
     pub call : keyed.PutCall keys old new status tree tree' place
-    pub ends_kept : (cut : Cut) (p : Place) → place ≡ Some p → status ≡ OK → SaysEnds ends (join cut) → ShowsTree new tree' (insert cut p)
+    pub ends_kept : (cut : Cut) (p : Place) → place ≡ Some p → status ≡ OK → SaysEnds ends (join cut) → RepresentsTree new tree' (insert cut p)
         → SaysEnds ends' (insert cut p)
     pub own : status ≡ OK → (d : Side) → EndWith (table_of new) (root_in tree') d place (end_in d ends) (end_in d ends')
     pub words : status ≡ OK → IsWritten ends'

@@ -1,11 +1,9 @@
 -- Chains of a hash table whose members move to the buckets of another array.
 use Rattle.std.specs.Prelude.{◌≡◌, ◌⊎◌, ℕ, ◌%◌, eqb, cond, Some, List, [], ◌∷◌, length}
-use Rattle.ic_unsafe_ref.specs.declared.place.Place.{Place}
-use Rattle.ic_link_ops.specs.Sequences.{IsMember}
-use Rattle.ic_link_ops.specs.Tables.{Table}
+use Rattle.ic_link_ops.specs.Prelude.{Place, IsMember, Table}
 use Rattle.ic_raw.specs.declared.words.RawFront.{RawFront}
 use Rattle.ic_raw.specs.declared.words.RawOne.{RawOne}
-use Rattle.ic_raw.specs.Gaps.{Stands}
+use Rattle.ic_raw.specs.Gaps.{IsNoneOrLinked}
 use Rattle.ic_raw.specs.Hash.{bucket_at}
 use Rattle.ic_raw.specs.Keys.{key_of}
 use Rattle.ic_raw.specs.Singly.{front_of, word_of_front}
@@ -21,8 +19,8 @@ leading_to hashes count i [] = []
 leading_to hashes count i (p ∷ s) = cond (eqb (slot_for hashes count p) i) (p ∷ leading_to hashes count i s) (leading_to hashes count i s)
 
 -- the bucket where the hash of a place leads begins with none, or with a linked place
-abbrev pub LeadsToStanding : Table RawOne → (hashes : List ℕ) → List RawFront → Place → Type 0
-LeadsToStanding t hashes buckets p = Stands is_linked_one t (front_of (bucket_at buckets (slot_for hashes (length buckets) p)))
+abbrev pub LeadsToLinked : Table RawOne → (hashes : List ℕ) → List RawFront → Place → Type 0
+LeadsToLinked t hashes buckets p = IsNoneOrLinked is_linked_one t (front_of (bucket_at buckets (slot_for hashes (length buckets) p)))
 
 -- a bucket's word is as it was, or names a member of s whose hash leads there, as a call writes it
 abbrev pub StaysOrGets : (hashes : List ℕ) → (buckets buckets' : List RawFront) → List Place → ℕ → Type 0

@@ -1,33 +1,31 @@
 -- WHAT THE CALLS DO BY WHICH A HASH TABLE GROWS: each record is the whole contract of a call.
 use Rattle.std.specs.Prelude.{◌≡◌, ◌≢◌, ◌≤◌, ◌<◌, ◌∷◌, ◌++◌, ℕ, List, [], None, length}
 use Rattle.std.specs.List.{AllByRecursion}
-use Rattle.ic_unsafe_ref.specs.declared.place.Place.{Place}
-use Rattle.ic_link_ops.specs.Sequences.{IsDisjoint}
-use Rattle.ic_link_ops.specs.Tables.{KeepsBeside, KeepsLinked}
+use Rattle.ic_link_ops.specs.Prelude.{Place, IsDisjoint, ChangesOnlyIn, KeepsLinked}
 use Rattle.ic_raw.specs.declared.status.TheConstants.{OK}
 use Rattle.ic_raw.specs.declared.words.RawFront.{RawFront}
 use Rattle.ic_raw.specs.declared.words.RawOne.{RawOne}
 use Rattle.ic_raw.specs.Answers.{IsAccepted, IsStatus, refusal}
 use Rattle.ic_raw.specs.Hash.{HoldsChains, buckets_fault}
 use Rattle.ic_raw.specs.Keys.{keys_fault}
-use Rattle.ic_raw.specs.Singly.{ShowsList, table_of, word_of_front}
+use Rattle.ic_raw.specs.Singly.{RepresentsList, table_of, word_of_front}
 use Rattle.ic_raw.specs.Words.{is_linked_one}
-use Rattle.ic_raw_keyed.specs.Growth.{LeadsToStanding, StaysOrGets, leading_to}
+use Rattle.ic_raw_keyed.specs.Growth.{LeadsToLinked, StaysOrGets, leading_to}
 
--- `hashes`: those of the places. `old`, `new`: the words of the table before the call and after it. `chain`, `chain'`, `buckets`, `buckets'`: those of the
--- chain, and of the buckets to which its members move. `status`: what the call returns
+-- `hashes`: those of the places. `old`, `new`: the words of the table before the call and after it. `chain`, `chain'`, `buckets`, `buckets'`: those
+-- of the chain, and of the buckets to which its members move. `status`: what the call returns
 module _ (hashes : List ℕ) (old new : List RawOne) (chain chain' : RawFront) (buckets buckets' : List RawFront) (status : ℕ) where
   -- ALL MEMBERS OF A CHAIN MOVE, each to the front of the bucket where its hash leads. Those that come into one bucket keep their order
   pub record MoveChainCall : Type 0 where
-    pub moved : (s : List Place) (chains : ℕ → List Place) → length old ≤ length hashes → 1 ≤ length buckets → ShowsList old chain s
+    pub moved : (s : List Place) (chains : ℕ → List Place) → length old ≤ length hashes → 1 ≤ length buckets → RepresentsList old chain s
         → HoldsChains old buckets chains → ((i : ℕ) → i < length buckets → IsDisjoint (chains i) s)
         → IsAccepted status (HoldsChains new buckets' (λ i. leading_to hashes (length buckets) i s ++ chains i))
     pub looked : status ≡ OK → (length old ≤ length hashes) × (1 ≤ length buckets)
-    pub ended : status ≡ OK → (s : List Place) × ShowsList old chain s × AllByRecursion (LeadsToStanding (table_of old) hashes buckets) s
+    pub ended : status ≡ OK → (s : List Place) × RepresentsList old chain s × AllByRecursion (LeadsToLinked (table_of old) hashes buckets) s
     pub emptied : status ≡ OK → chain' ≡ word_of_front None
-    pub touched : (s : List Place) → ShowsList old chain s → KeepsBeside (table_of old) (table_of new) s
+    pub touched : (s : List Place) → RepresentsList old chain s → ChangesOnlyIn (table_of old) (table_of new) s
     pub links : KeepsLinked is_linked_one (table_of old) (table_of new)
-    pub own : (s : List Place) → ShowsList old chain s → (i : ℕ) → StaysOrGets hashes buckets buckets' s i
+    pub own : (s : List Place) → RepresentsList old chain s → (i : ℕ) → StaysOrGets hashes buckets buckets' s i
     pub count : length buckets' ≡ length buckets
     pub refused : status ≢ OK → (new ≡ old) × (chain' ≡ chain) × (buckets' ≡ buckets)
     pub why : status ≢ OK → status ≡ refusal (keys_fault hashes (length old) ∷ buckets_fault buckets ∷ [])

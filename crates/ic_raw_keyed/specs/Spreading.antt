@@ -1,9 +1,7 @@
 -- The members of a list, as they are moved to buckets, one after the other.
 use Rattle.std.specs.Prelude.{◌<◌, ℕ, List, [], ◌∷◌, length}
-use Rattle.ic_unsafe_ref.specs.declared.place.Place.{Place}
+use Rattle.ic_link_ops.specs.Prelude.{Place, IsDisjoint, ChangesOnlyIn}
 use Rattle.ic_link_ops.specs.NumberedCollections.{with_at}
-use Rattle.ic_link_ops.specs.Sequences.{IsDisjoint}
-use Rattle.ic_link_ops.specs.Tables.{KeepsBeside}
 use Rattle.ic_raw.specs.declared.table.RawTable.{RawTable}
 use Rattle.ic_raw.specs.declared.words.RawFront.{RawFront}
 use Rattle.ic_raw.specs.declared.words.RawOne.{RawOne}
@@ -22,5 +20,5 @@ spread_over hashes count chains (p ∷ r) =
 pub record Spreads (hashes : List ℕ) (t u : RawTable RawOne) (buckets buckets' : List RawFront) (r : List Place) : Type 0 where
   pub holds : (chains : ℕ → List Place) → HoldsChains (raw_entries t) buckets chains → ((i : ℕ) → i < length buckets → IsDisjoint (chains i) r)
       → HoldsChains (raw_entries u) buckets' (spread_over hashes (length buckets) chains r)
-  pub frame : KeepsBeside (lent_table t) (lent_table u) r
+  pub frame : ChangesOnlyIn (lent_table t) (lent_table u) r
   pub own : (i : ℕ) → StaysOrGets hashes buckets buckets' r i

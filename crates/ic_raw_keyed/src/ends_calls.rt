@@ -7,15 +7,14 @@
 
 ghost use Rattle.std.specs.Prelude.{◌≡◌, ◌≢◌, ◌↔◌, ◌++◌, ◌∷◌, [], List, Option, Some, None, true};
 ghost use Rattle.ic_link_ops.specs.declared.side.Side.{Side};
-ghost use Rattle.ic_unsafe_ref.specs.declared.place.Place.{Place};
+ghost use Rattle.ic_link_ops.specs.Prelude.{Place, Cut, join, insert};
 ghost use Rattle.ic_link_ops.specs.Frames.{across};
-ghost use Rattle.ic_link_ops.specs.Sequences.{Cut, join, insert};
 ghost use Rattle.ic_rbtree.specs.Closed.{AreIn, IsIn};
 ghost use Rattle.ic_rbtree.specs.Ends.{end_on};
 ghost use Rattle.ic_rbtree.specs.Sides.{IsBeside};
 ghost use Rattle.ic_rbtree.specs.StepsTo.{StepsTo};
 ghost use Rattle.ic_raw.specs.Seen.{has_place, seen, seen_node, StepEndsIn};
-ghost use Rattle.ic_raw.specs.Tree.{ShowsTree, StandsIn, lent_table, root_in, table_of};
+ghost use Rattle.ic_raw.specs.Tree.{RepresentsTree, IsNoneOrLinkedIn, lent_table, root_in, table_of};
 ghost use Rattle.ic_raw.specs.Words.{place_of};
 ghost use Rattle.ic_raw_keyed.specs.declared.ends.RawTreeEnds.{RawTreeEnds};
 ghost use Rattle.ic_raw_keyed.specs.Ends.{SaysEnds, IsWritten, EndWith, LosesEnd, end_in};
@@ -44,7 +43,7 @@ fn has(links: &RawTable<'_, RawThree>, place: Option<Place>) -> bool
 // What stands beside a place on this side, as the words are read. `None` if links come to an end, or the place or the root is none of the table.
 #[inline]
 fn beside(table: &mut [RawThree], tree: &RawRoot, side: Side, at: Place) -> Option<Place>
-    ensures leads { (cut : Cut) → ShowsTree table.old tree.now (join cut) → IsBeside side cut (Some at) → IsBeside (across side) cut result }
+    ensures leads { (cut : Cut) → RepresentsTree table.old tree.now (join cut) → IsBeside side cut (Some at) → IsBeside (across side) cut result }
     ensures reached { (q : Place) → result ≡ Some q → StepsTo seen_node (seen (table_of table.old)) (root_in tree.now) side (Some at) q }
     ensures ended { AreIn (has_place (table_of table.old)) (Some at ∷ root_in tree.now ∷ []) → result ≡ None
         → StepEndsIn (table_of table.old) (root_in tree.now) side (Some at) }
@@ -93,7 +92,7 @@ fn end_with(
     place: Place,
     end: Option<Place>,
 ) -> Option<Place>
-    ensures shown { (cut : Cut) → ShowsTree table.old tree.now (insert cut place) → end ≡ end_on side (join cut)
+    ensures shown { (cut : Cut) → RepresentsTree table.old tree.now (insert cut place) → end ≡ end_on side (join cut)
         → result ≡ end_on side (insert cut place) }
     ensures own { AreIn (has_place (table_of table.old)) (Some place ∷ root_in tree.now ∷ [])
         → EndWith (table_of table.old) (root_in tree.now) side (Some place) end result }
@@ -146,7 +145,7 @@ fn inwards(side: Side) -> Side
 // Whether the place is none, or a linked place of the table.
 #[inline]
 fn stands(table: &mut [RawThree], place: Option<Place>) -> bool
-    ensures stands { (result ≡ true) ↔ StandsIn table.old place }
+    ensures stands { (result ≡ true) ↔ IsNoneOrLinkedIn table.old place }
     ensures same { table.new ≡ table.old }
 {
     RawTable::new(table).stands(place)
@@ -162,8 +161,8 @@ fn end_without(
     member: Place,
     end: Option<Place>,
 ) -> Option<Option<Place>>
-    ensures accepted { (front back : List Place) → ShowsTree table.old tree.now (front ++ member ∷ back) → result ≢ None }
-    ensures shown { (front back : List Place) (after : Option Place) → ShowsTree table.old tree.now (front ++ member ∷ back)
+    ensures accepted { (front back : List Place) → RepresentsTree table.old tree.now (front ++ member ∷ back) → result ≢ None }
+    ensures shown { (front back : List Place) (after : Option Place) → RepresentsTree table.old tree.now (front ++ member ∷ back)
         → end ≡ end_on side (front ++ member ∷ back) → result ≡ Some after → after ≡ end_on side (front ++ back) }
     ensures own { (after : Option Place) → result ≡ Some after → AreIn (has_place (table_of table.old)) (Some member ∷ root_in tree.now ∷ [])
         → LosesEnd (table_of table.old) (root_in tree.now) side member end after }
@@ -190,8 +189,8 @@ fn ends_without(
     ends: &RawTreeEnds,
     member: Place,
 ) -> Option<RawTreeEnds>
-    ensures accepted { (front back : List Place) → ShowsTree table.old tree.now (front ++ member ∷ back) → result ≢ None }
-    ensures shown { (front back : List Place) (after : RawTreeEnds) → ShowsTree table.old tree.now (front ++ member ∷ back)
+    ensures accepted { (front back : List Place) → RepresentsTree table.old tree.now (front ++ member ∷ back) → result ≢ None }
+    ensures shown { (front back : List Place) (after : RawTreeEnds) → RepresentsTree table.old tree.now (front ++ member ∷ back)
         → SaysEnds ends.now (front ++ member ∷ back) → result ≡ Some after → SaysEnds after (front ++ back) }
     ensures own { (after : RawTreeEnds) → result ≡ Some after → AreIn (has_place (table_of table.old)) (Some member ∷ root_in tree.now ∷ [])
         → (side : Side) → LosesEnd (table_of table.old) (root_in tree.now) side member (end_in side ends.now) (end_in side after) }

@@ -7,14 +7,12 @@
 
 ghost use Rattle.std.specs.Prelude.{◌≡◌, ◌<◌, ◌≤◌, ◌%◌, ℕ, List, Option, Some, length, reverse, slice_set, true};
 ghost use Rattle.std.specs.List.{AllByRecursion};
-ghost use Rattle.ic_unsafe_ref.specs.declared.place.Place.{Place};
-ghost use Rattle.ic_unsafe_ref.specs.Places.{index_of};
+ghost use Rattle.ic_link_ops.specs.Prelude.{Place, index_of, ChangesOnly, IsLinked, ChangesOnlyIn, KeepsLinked};
 ghost use Rattle.ic_link_ops.specs.SinglyLinkedList.{list_from, successor_at};
-ghost use Rattle.ic_link_ops.specs.Tables.{ChangesOnly, IsLinked, KeepsBeside, KeepsLinked};
 ghost use Rattle.ic_raw.specs.Hash.{bucket_at};
-ghost use Rattle.ic_raw.specs.Singly.{Shows, front_of, lent_table, successor, word_of_front};
+ghost use Rattle.ic_raw.specs.Singly.{Represents, front_of, lent_table, successor, word_of_front};
 ghost use Rattle.ic_raw.specs.Words.{is_linked_one};
-ghost use Rattle.ic_raw_keyed.specs.Growth.{LeadsToStanding, slot_for};
+ghost use Rattle.ic_raw_keyed.specs.Growth.{LeadsToLinked, slot_for};
 ghost use Rattle.ic_raw_keyed.specs.Spreading.{Spreads};
 
 use ic_link_ops::singly_linked_list::SinglyLinkedListOps;
@@ -75,10 +73,10 @@ pub(crate) fn can_move(
 ) -> bool
     requires keys { (lent_table links.now).extent.places ≤ length hashes.now }
     requires any { 1 ≤ length buckets.now }
-    ensures ended { result ≡ true → (s : List Place) × Shows (lent_table links.now) (list_from front) s
-        × AllByRecursion (LeadsToStanding (lent_table links.now) hashes.now buckets.now) s }
-    ensures shown { (s : List Place) → Shows (lent_table links.now) (list_from front) s
-        → AllByRecursion (LeadsToStanding (lent_table links.now) hashes.now buckets.now) s → result ≡ true }
+    ensures ended { result ≡ true → (s : List Place) × Represents (lent_table links.now) (list_from front) s
+        × AllByRecursion (LeadsToLinked (lent_table links.now) hashes.now buckets.now) s }
+    ensures shown { (s : List Place) → Represents (lent_table links.now) (list_from front) s
+        → AllByRecursion (LeadsToLinked (lent_table links.now) hashes.now buckets.now) s → result ≡ true }
 {
     let mut current = front;
     let mut left = links.places();
@@ -100,10 +98,10 @@ pub(crate) fn can_move(
 
 // Turns a list round, and gives its first member then.
 pub(crate) fn reverse(links: &mut RawTable<'_, RawOne>, front: Option<Place>) -> Option<Place>
-    requires { (s : List Place) × Shows (lent_table links.old) (list_from front) s }
-    ensures reversed { (s : List Place) → Shows (lent_table links.old) (list_from front) s
-        → Shows (lent_table links.new) (list_from result) (reverse s) }
-    ensures frame { (s : List Place) → Shows (lent_table links.old) (list_from front) s → KeepsBeside (lent_table links.old) (lent_table links.new) s }
+    requires { (s : List Place) × Represents (lent_table links.old) (list_from front) s }
+    ensures reversed { (s : List Place) → Represents (lent_table links.old) (list_from front) s
+        → Represents (lent_table links.new) (list_from result) (reverse s) }
+    ensures frame { (s : List Place) → Represents (lent_table links.old) (list_from front) s → ChangesOnlyIn (lent_table links.old) (lent_table links.new) s }
     ensures links { KeepsLinked is_linked_one (lent_table links.old) (lent_table links.new) }
 {
     let mut back = None;
@@ -127,10 +125,10 @@ pub(crate) fn spread(
     front: Option<Place>,
     buckets: &mut [RawFront],
 )
-    requires shown { (r : List Place) × Shows (lent_table links.old) (list_from front) r }
+    requires shown { (r : List Place) × Represents (lent_table links.old) (list_from front) r }
     requires keys { (lent_table links.old).extent.places ≤ length hashes.now }
     requires any { 1 ≤ length buckets.old }
-    ensures spread { (r : List Place) → Shows (lent_table links.old) (list_from front) r → Spreads hashes.now links.old links.new buckets.old buckets.new r }
+    ensures spread { (r : List Place) → Represents (lent_table links.old) (list_from front) r → Spreads hashes.now links.old links.new buckets.old buckets.new r }
     ensures links { KeepsLinked is_linked_one (lent_table links.old) (lent_table links.new) }
     ensures count { length buckets.new ≡ length buckets.old }
 {

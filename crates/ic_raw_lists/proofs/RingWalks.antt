@@ -1,8 +1,6 @@
 -- A walk around a ring of whose words nobody vouches: each place that it passes leads to the next one, which leads back.
 use Rattle.std.proofs.Common.{◌≡◌, ◌≢◌, ℕ, ◌+◌, ◌<◌, Option, Some, None, List, [], ◌∷◌, ◌++◌, length, length-append, append_assoc, append-nil, true, refl, sym, ap, subst, ◌∙◌, arith}
-use Rattle.ic_unsafe_ref.specs.declared.place.Place.{Place}
-use Rattle.ic_link_ops.specs.Sequences.{IsAbsent, IsDistinct, first_or, last_or, last}
-use Rattle.ic_link_ops.specs.Tables.{Table, IsCovered}
+use Rattle.ic_link_ops.specs.Prelude.{Place, IsAbsent, IsDistinct, first_or, last_or, last, Table, IsCovered}
 use Rattle.ic_link_ops.specs.LinkedList.{Neighbors, neighbors_at, IsBetween, IsChain}
 use Rattle.ic_link_ops.proofs.SequenceLemmas.{absent_both, absent_right, distinct_insert, first_or-append, last_not, last_or-append, some_same}
 use Rattle.ic_link_ops.proofs.Chains.{chain_cut, chain_glue}

@@ -1,20 +1,15 @@
 -- A member of one list that goes into another one: no other member of either is touched but the neighbors.
 use Rattle.std.proofs.Common.{◌≡◌, ◌≢◌, Option, Some, List, [], ◌∷◌, ◌++◌, refl, ◌∙◌}
-use Rattle.ic_unsafe_ref.specs.declared.place.Place.{Place}
+use Rattle.ic_link_ops.specs.Prelude.{Place, Cut, join, insert, first, last, IsAbsent, IsAfter, IsBefore, IsDisjoint, Table}
 use Rattle.ic_link_ops.specs.Chains.{Ends}
-use Rattle.ic_link_ops.specs.Sequences.{Cut, join, insert, first, last, IsAbsent, IsAfter, IsBefore, IsDisjoint}
-use Rattle.ic_link_ops.specs.Tables.{Table}
 use Rattle.ic_link_ops.proofs.SequenceLemmas.{absent_left, absent_right, absent_without, disjoint_cons, disjoint_remove, disjoint_sym, distinct_middle, gap_not}
-use Rattle.ic_link_ops.proofs.ShownLists.{shows_frame}
-use Rattle.ic_raw.specs.declared.gap.Gap.{Gap}
+use Rattle.ic_link_ops.proofs.RepresentedLists.{represents_frame}
 use Rattle.ic_raw.specs.declared.table.RawTable.{RawTable}
-use Rattle.ic_raw.specs.declared.words.RawTwo.{RawTwo}
-use Rattle.ic_raw.specs.Doubly.{Shows, lent_table, table_of}
-use Rattle.ic_raw.specs.Gaps.{PutIn, TakenOut}
+use Rattle.ic_raw.specs.Doubly.{Represents}
+use Rattle.ic_raw.specs.LinkWords.{LinkWords, lent_table, table_of}
 use Rattle.ic_raw.specs.Tables.{raw_entries}
-use Rattle.ic_raw.specs.Words.{no_words}
 use Rattle.ic_raw.proofs.Lists.{kept}
-use Rattle.ic_raw.proofs.Views.{frame_back}
+use Rattle.ic_raw.proofs.LinkViews.{frame_back}
 use Rattle.ic_raw_lists.specs.TransferCalls.{Transfers}
 
 -- no member of a list is one of another list
@@ -23,26 +18,26 @@ apart_at [] p back u apart = apart.0
 apart_at (x ∷ front) p back u apart = apart_at front p back u apart.1
 
 -- the neighbors of p are turned to each other, and then p is put where the other list is cut
-pub transferred : {Names : Type 0} {old mid new : Table RawTwo} {list list' given given' : Ends} (cut : Cut) (front : List Place) (p : Place) (back : List Place)
+pub transferred : {W : Type 0} (words : LinkWords W) {Names : Type 0} {old mid new : Table W} {list list' given given' : Ends} (cut : Cut) (front : List Place) (p : Place) (back : List Place)
     {b a before behind : Option Place} → b ≡ last front → a ≡ first back → IsAfter cut before → IsBefore cut behind
-    → Shows old list (join cut) → Shows old given (front ++ p ∷ back) → IsDisjoint (front ++ p ∷ back) (join cut)
-    → ((front back : List Place) → Shows old given (front ++ p ∷ back) → b ≡ last front → a ≡ first back → Shows mid given' (front ++ back))
+    → Represents words old list (join cut) → Represents words old given (front ++ p ∷ back) → IsDisjoint (front ++ p ∷ back) (join cut)
+    → ((front back : List Place) → Represents words old given (front ++ p ∷ back) → b ≡ last front → a ≡ first back → Represents words mid given' (front ++ back))
     → mid.extent ≡ old.extent → ((q : Place) → b ≢ Some q → (Names → a ≢ Some q) → mid.entry q ≡ old.entry q)
-    → ((front back : List Place) → Shows mid list (front ++ back) → before ≡ last front → behind ≡ first back → IsAbsent p (front ++ back) → Shows new list' (front ++ p ∷ back))
+    → ((front back : List Place) → Represents words mid list (front ++ back) → before ≡ last front → behind ≡ first back → IsAbsent p (front ++ back) → Represents words new list' (front ++ p ∷ back))
     → new.extent ≡ mid.extent → ((q : Place) → before ≢ Some q → q ≢ p → (Names → behind ≢ Some q) → new.entry q ≡ mid.entry q)
-    → Transfers old new list' given' cut front p back
-transferred {old = old} {mid} {new} {list} {given' = given'} cut front p back is_b is_a after ahead shown given apart off extent others put extent' others' =
+    → Transfers words old new list' given' cut front p back
+transferred words {old = old} {mid} {new} {list} {given' = given'} cut front p back is_b is_a after ahead shown given apart off extent others put extent' others' =
     let out = apart_at front p back (join cut) apart in
     let rest = disjoint_remove front back (join cut) p apart in
     let first_edit : (q : Place) → IsAbsent q (front ++ back) → mid.entry q ≡ old.entry q =
     λ q away. let sides = gap_not front back is_b is_a away in others q sides.0 (λ _. sides.1) in
     let second_edit : (q : Place) → IsAbsent q (p ∷ join cut) → new.entry q ≡ mid.entry q =
     λ q away. let sides = gap_not cut.front cut.back after ahead away.1 in others' q sides.0 away.0 (λ _. sides.1) in
-    let between : Shows mid list (join cut) = shows_frame {new = mid} (front ++ back) shown (disjoint_sym (front ++ back) (join cut) rest) first_edit in
+    let between : Represents words mid list (join cut) = represents_frame {new = mid} (front ++ back) shown (disjoint_sym (front ++ back) (join cut) rest) first_edit in
     let own : IsAbsent p (front ++ back) = distinct_middle front back p given.distinct in
     record {
       shows = put cut.front cut.back between after ahead out;
-      keeps = shows_frame {new = new} (p ∷ join cut) (off front back given is_b is_a) (disjoint_cons p (front ++ back) (join cut) own rest) second_edit;
+      keeps = represents_frame {new = new} (p ∷ join cut) (off front back given is_b is_a) (disjoint_cons p (front ++ back) (join cut) own rest) second_edit;
       frame = record {
         extent = extent' ∙ extent;
         others = λ q away.
@@ -52,18 +47,11 @@ transferred {old = old} {mid} {new} {list} {given' = given'} cut front p back is
       };
     }
 
--- what an edit says of a list's own ends stays said where these are named otherwise
-pub put_same : {to to' : Gap} {p p' : Option Place} {old old' new new' : Ends} → to' ≡ to → p' ≡ p → old' ≡ old → new' ≡ new → PutIn to p old new → PutIn to' p' old' new'
-put_same a b c d put = rw (a, b, c, d) put
-
-pub taken_same : {from from' : Gap} {old old' new new' : Ends} → from' ≡ from → old' ≡ old → new' ≡ new → TakenOut from old new → TakenOut from' old' new'
-taken_same a b c taken = rw (a, b, c) taken
-
--- and what is done to the view is done to the words, once both lists are kept
-pub transfers_back : (a b : RawTable RawTwo) {es fs : List RawTwo} {h h' g g' : Ends} {cut : Cut} {front : List Place} {p : Place} {back : List Place}
-    → raw_entries a ≡ es → fs ≡ raw_entries b → h' ≡ h → g' ≡ g → Transfers (lent_table a) (lent_table b) h g cut front p back
-    → Transfers (table_of es) (table_of fs) h' g' cut front p back
-transfers_back a b {h = h} {g = g} {cut} {front} {p} {back} e f k l done =
-    let whole : Transfers (table_of (raw_entries a)) (table_of (raw_entries b)) h g cut front p back =
-    record { shows = kept _ _ _ _ done.shows (λ q. refl); keeps = kept _ _ _ _ done.keeps (λ q. refl); frame = frame_back no_words a b done.frame } in
+-- what is done to the view is done to the words, once both lists are kept
+pub transfers_back : {W : Type 0} (words : LinkWords W) (a b : RawTable W) {es fs : List W} {h h' g g' : Ends} {cut : Cut} {front : List Place} {p : Place} {back : List Place}
+    → raw_entries a ≡ es → fs ≡ raw_entries b → h' ≡ h → g' ≡ g → Transfers words (lent_table words a) (lent_table words b) h g cut front p back
+    → Transfers words (table_of words es) (table_of words fs) h' g' cut front p back
+transfers_back words a b {h = h} {g = g} {cut} {front} {p} {back} e f k l done =
+    let whole : Transfers words (table_of words (raw_entries a)) (table_of words (raw_entries b)) h g cut front p back =
+    record { shows = kept _ _ _ _ done.shows (λ q. refl); keeps = kept _ _ _ _ done.keeps (λ q. refl); frame = frame_back words a b done.frame } in
     rw (← e, f, k, l) whole

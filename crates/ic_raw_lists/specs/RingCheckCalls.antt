@@ -1,21 +1,21 @@
 -- WHAT A CHECK OF A RING DOES: the record is the whole contract of the call.
 use Rattle.std.specs.Prelude.{◌≡◌, ◌≢◌, ◌↔◌, ◌∷◌, ℕ, List, [], Option, None}
 use Rattle.ic_unsafe_ref.specs.declared.place.Place.{Place}
-use Rattle.ic_check.specs.Checked.{IsShown, ShowsNone}
+use Rattle.ic_check.specs.Checked.{IsRepresented, RepresentsNone}
 use Rattle.ic_raw.specs.declared.status.TheConstants.{OK, NULL}
 use Rattle.ic_raw.specs.declared.words.RawTwo.{RawTwo}
 use Rattle.ic_raw.specs.Answers.{IsStatus, refusal}
-use Rattle.ic_raw.specs.Doubly.{fault_at}
-use Rattle.ic_raw_lists.specs.RingOrders.{ShowsRing}
+use Rattle.ic_raw.specs.LinkWords.{fault_at, wide_words}
+use Rattle.ic_raw_lists.specs.RingOrders.{RepresentsRing}
 
 -- `old`, `new`: the words of the table before the call and after it
 module _ (old new : List RawTwo) (status : ℕ) where
-  -- THE MEMBERS OF A HEAD ARE COUNTED, without the head, if the words show a ring with it, in words that said `was`
+  -- THE MEMBERS OF A HEAD ARE COUNTED, without the head, if the words represent a ring with it, in words that said `was`
   pub record RingCheckCall (head : Option Place) (was members : ℕ) : Type 0 where
-    pub shown : status ≡ OK → IsShown (ShowsRing old head) members
-    pub not_shown : status ≢ OK → ShowsNone (ShowsRing old head)
+    pub shown : status ≡ OK → IsRepresented (RepresentsRing old head) members
+    pub not_represented : status ≢ OK → RepresentsNone (RepresentsRing old head)
     pub null : (status ≡ NULL) ↔ (head ≡ None)
     pub refused : status ≢ OK → members ≡ was
     pub same : new ≡ old
-    pub why : status ≢ OK → status ≢ NULL → status ≡ refusal (fault_at old head ∷ [])
+    pub why : status ≢ OK → status ≢ NULL → status ≡ refusal (fault_at wide_words old head ∷ [])
     pub is_status : IsStatus status

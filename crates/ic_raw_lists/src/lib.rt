@@ -3,7 +3,7 @@
 //! ```text
 //! stack_sort_calls::sort(table, keys, list)                             // OK: members with equal keys keep their order
 //! transfer_calls::transfer_at(table, list, Side::After, NONE, given, 7) // OK: 7 is the first member of `list`, and no longer one of `given`
-//! ring_check_calls::check(table, 64, &mut members)                      // OK, or BROKEN where the words show no ring with this head
+//! ring_check_calls::check(table, 64, &mut members)                      // OK, or BROKEN where the words represent no ring with this head
 //! ```
 //!
 //! Each module has what the calls for C do in the module of `ic_ffi` with the same name. Nothing requires anything of its arguments. Each

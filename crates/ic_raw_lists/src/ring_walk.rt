@@ -5,22 +5,22 @@
 //! ```
 
 ghost use Rattle.std.specs.Prelude.{MatchOption};
-ghost use Rattle.ic_check.specs.Checked.{IsShown, ShowsNone};
-ghost use Rattle.ic_raw.specs.Doubly.{lent_table};
+ghost use Rattle.ic_check.specs.Checked.{IsRepresented, RepresentsNone};
+ghost use Rattle.ic_raw.specs.LinkWords.{lent_table, wide_words};
 ghost use Rattle.ic_raw_lists.specs.RingOrders.{RingApart};
 
 use ic_raw::ring::beside;
 use ic_raw::{RawTable, RawTwo, Side};
 use ic_unsafe_ref::Place;
 
-// How many members the words show for the ring with this head, `None` if they show no such ring, or one in which the place `apart` is. At most
-// as many steps as the table has places.
+// How many members the words represent for the ring with this head, `None` if they represent no such ring, or one in which the place `apart` is. At
+// most as many steps as the table has places.
 pub(crate) fn count_members(
     links: &RawTable<'_, RawTwo>,
     head: Place,
     apart: Option<Place>,
 ) -> Option<usize>
-    ensures { MatchOption result (ShowsNone (RingApart (lent_table links.now) apart head)) (IsShown (RingApart (lent_table links.now) apart head)) }
+    ensures { MatchOption result (RepresentsNone (RingApart (lent_table wide_words links.now) apart head)) (IsRepresented (RingApart (lent_table wide_words links.now) apart head)) }
 {
     let mut at = head;
     let mut count: usize = 0;

@@ -6,45 +6,43 @@
 //! ```
 
 ghost use Rattle.std.specs.Prelude.{◌≡◌, ◌≢◌, ◌++◌, ◌∷◌, [], List, Option, Some, None};
-ghost use Rattle.ic_unsafe_ref.specs.declared.place.Place.{Place};
-ghost use Rattle.ic_link_ops.specs.Sequences.{Cut, join, IsDisjoint};
-ghost use Rattle.ic_link_ops.specs.Tables.{KeepsLinked};
+ghost use Rattle.ic_link_ops.specs.Prelude.{Place, Cut, join, IsDisjoint, KeepsLinked};
 ghost use Rattle.ic_raw.specs.declared.gap.Gap.{Gap};
 ghost use Rattle.ic_raw.specs.declared.gap.Side.TheVariants.{After, Before};
-ghost use Rattle.ic_raw.specs.Doubly.{Shows, TellsGap, around, gap_from, lent_table};
-ghost use Rattle.ic_raw.specs.Gaps.{IsApart, IsBeside, PutIn, Stands, StandBeside, TakenOut, gap_of};
+ghost use Rattle.ic_raw.specs.Doubly.{Represents, TellsGap, around, gap_from};
+ghost use Rattle.ic_raw.specs.Gaps.{IsApart, IsBeside, PutIn, IsNoneOrLinked, StandBeside, TakenOut, gap_of};
+ghost use Rattle.ic_raw.specs.LinkWords.{lent_table};
 ghost use Rattle.ic_raw.specs.Touches.{Touches, sides};
-ghost use Rattle.ic_raw.specs.Words.{is_linked_two};
 ghost use Rattle.ic_raw_lists.specs.TransferCalls.{Transfers};
 
 use ic_raw::gap::begin_alike;
 use ic_raw::list::{List, beside, gap_at};
-use ic_raw::{Gap, RawTable, RawTwo, Side};
+use ic_raw::{Gap, ListWords, RawTable, Side};
 use ic_unsafe_ref::Place;
 
 // The places on both sides of a member of the given list, and the gap beside one of the list, where the member is to go. None where the words
 // tell of no such member, or of no such gap, or of a gap that the member is beside, or where both lists begin with the same member.
 #[inline]
-pub(crate) fn gaps_to_transfer(
-    links: &RawTable<'_, RawTwo>,
+pub(crate) fn gaps_to_transfer<W: ListWords>(
+    links: &RawTable<'_, W>,
     list: &List,
     side: Side,
     at: Option<Place>,
     given: &List,
     member: Place,
 ) -> Option<(Gap, Gap)>
-    ensures shown { (cut : Cut) (front back : List Place) → Shows (lent_table links.now) list.now (join cut) → IsBeside side cut at
-        → Shows (lent_table links.now) given.now (front ++ member ∷ back) → IsDisjoint (front ++ member ∷ back) (join cut)
+    ensures shown { (cut : Cut) (front back : List Place) → Represents W.PrevPlace (lent_table W.PrevPlace links.now) list.now (join cut) → IsBeside side cut at
+        → Represents W.PrevPlace (lent_table W.PrevPlace links.now) given.now (front ++ member ∷ back) → IsDisjoint (front ++ member ∷ back) (join cut)
         → result ≡ Some (gap_of (record { front = front; back = back }), gap_of cut) }
-    ensures at { (from to : Gap) → result ≡ Some (from, to) → Stands is_linked_two (lent_table links.now) at }
-    ensures told { (from to : Gap) → result ≡ Some (from, to) → TellsGap side (lent_table links.now) list.now at }
-    ensures to { (from to : Gap) → result ≡ Some (from, to) → StandBeside is_linked_two (lent_table links.now) to }
-    ensures member { (from to : Gap) → result ≡ Some (from, to) → Stands is_linked_two (lent_table links.now) (Some member) }
-    ensures before { (from to : Gap) → result ≡ Some (from, to) → TellsGap Before (lent_table links.now) given.now (Some member) }
-    ensures behind { (from to : Gap) → result ≡ Some (from, to) → TellsGap After (lent_table links.now) given.now (Some member) }
-    ensures from { (from to : Gap) → result ≡ Some (from, to) → StandBeside is_linked_two (lent_table links.now) from }
+    ensures at { (from to : Gap) → result ≡ Some (from, to) → IsNoneOrLinked W.is_linked (lent_table W.PrevPlace links.now) at }
+    ensures links_back { (from to : Gap) → result ≡ Some (from, to) → TellsGap W.PrevPlace side (lent_table W.PrevPlace links.now) list.now at }
+    ensures to { (from to : Gap) → result ≡ Some (from, to) → StandBeside W.is_linked (lent_table W.PrevPlace links.now) to }
+    ensures member { (from to : Gap) → result ≡ Some (from, to) → IsNoneOrLinked W.is_linked (lent_table W.PrevPlace links.now) (Some member) }
+    ensures before { (from to : Gap) → result ≡ Some (from, to) → TellsGap W.PrevPlace Before (lent_table W.PrevPlace links.now) given.now (Some member) }
+    ensures behind { (from to : Gap) → result ≡ Some (from, to) → TellsGap W.PrevPlace After (lent_table W.PrevPlace links.now) given.now (Some member) }
+    ensures from { (from to : Gap) → result ≡ Some (from, to) → StandBeside W.is_linked (lent_table W.PrevPlace links.now) from }
     ensures sides { (from to : Gap) → result ≡ Some (from, to)
-        → (from ≡ around (lent_table links.now) given.now (Some member)) × (to ≡ gap_from side (lent_table links.now) list.now at) }
+        → (from ≡ around W.PrevPlace (lent_table W.PrevPlace links.now) given.now (Some member)) × (to ≡ gap_from W.PrevPlace side (lent_table W.PrevPlace links.now) list.now at) }
     ensures apart { (from to : Gap) (p : Place) → result ≡ Some (from, to) → given.now.head ≡ Some p → list.now.head ≢ Some p }
     ensures away { (from to : Gap) → result ≡ Some (from, to) → IsApart to member }
 {
@@ -65,26 +63,26 @@ pub(crate) fn gaps_to_transfer(
 
 // Moves a member of the given list, which is between these two places, into a gap of the list that it is not beside. It stays linked.
 #[inline]
-pub(crate) fn relocate(
-    links: &mut RawTable<'_, RawTwo>,
+pub(crate) fn relocate<W: ListWords>(
+    links: &mut RawTable<'_, W>,
     list: &mut List,
     given: &mut List,
     from: Gap,
     member: Place,
     to: Gap,
 )
-    requires member { Stands is_linked_two (lent_table links.old) (Some member) }
-    requires from { StandBeside is_linked_two (lent_table links.old) from }
-    requires to { StandBeside is_linked_two (lent_table links.old) to }
-    ensures moved { (cut : Cut) (front back : List Place) → Shows (lent_table links.old) list.old (join cut)
-        → Shows (lent_table links.old) given.old (front ++ member ∷ back) → IsDisjoint (front ++ member ∷ back) (join cut)
+    requires member { IsNoneOrLinked W.is_linked (lent_table W.PrevPlace links.old) (Some member) }
+    requires from { StandBeside W.is_linked (lent_table W.PrevPlace links.old) from }
+    requires to { StandBeside W.is_linked (lent_table W.PrevPlace links.old) to }
+    ensures moved { (cut : Cut) (front back : List Place) → Represents W.PrevPlace (lent_table W.PrevPlace links.old) list.old (join cut)
+        → Represents W.PrevPlace (lent_table W.PrevPlace links.old) given.old (front ++ member ∷ back) → IsDisjoint (front ++ member ∷ back) (join cut)
         → from ≡ gap_of (record { front = front; back = back }) → to ≡ gap_of cut
-        → Transfers (lent_table links.old) (lent_table links.new) list.new given.new cut front member back }
-    ensures linked { KeepsLinked is_linked_two (lent_table links.old) (lent_table links.new) }
-    ensures touched { Touches is_linked_two (lent_table links.old) (lent_table links.new) [] (Some member ∷ sides from ++ sides to) }
+        → Transfers W.PrevPlace (lent_table W.PrevPlace links.old) (lent_table W.PrevPlace links.new) list.new given.new cut front member back }
+    ensures linked { KeepsLinked W.is_linked (lent_table W.PrevPlace links.old) (lent_table W.PrevPlace links.new) }
+    ensures touched { Touches W.is_linked (lent_table W.PrevPlace links.old) (lent_table W.PrevPlace links.new) [] (Some member ∷ sides from ++ sides to) }
     ensures own { PutIn to (Some member) list.old list.new }
     ensures given { TakenOut from given.old given.new }
-    ensures extent { (lent_table links.new).extent ≡ (lent_table links.old).extent }
+    ensures extent { (lent_table W.PrevPlace links.new).extent ≡ (lent_table W.PrevPlace links.old).extent }
 {
     given.bypass(links, from.before, member, from.behind);
     list.insert_linked(links, to.before, member, to.behind);

@@ -10,7 +10,7 @@ ghost use Rattle.ic_raw_lists.specs.TransferCalls.{TransferCall};
 use crate::transfer::{gaps_to_transfer, relocate};
 use ic_raw::list_calls::{list_of, write_back};
 use ic_raw::number::place_of;
-use ic_raw::{NULL, OK, RawEnds, RawTable, RawTwo, Side};
+use ic_raw::{ListWords, NULL, OK, RawEnds, RawTable, Side};
 
 /// Moves the member `place` of the given list into the gap on this side of the member `at` of the list, at [`NONE`](ic_raw::NONE) to the end
 /// that the side means. It stays linked. O(1).
@@ -18,15 +18,15 @@ use ic_raw::{NULL, OK, RawEnds, RawTable, RawTwo, Side};
 /// It returns [`NULL`] where `place` is [`NONE`](ic_raw::NONE), and else the first fault of the two, or [`BROKEN`](ic_raw::BROKEN), as for lists
 /// that begin with the same member. A refused call leaves the words as they are.
 #[inline]
-pub fn transfer_at(
-    table: &mut [RawTwo],
+pub fn transfer_at<W: ListWords>(
+    table: &mut [W],
     list: &mut RawEnds,
     side: Side,
     at: u32,
     given: &mut RawEnds,
     place: u32,
 ) -> u32
-    ensures { TransferCall table.old table.new list.old list.new result side (place_of at) given.old given.new (place_of place) }
+    ensures { TransferCall W.PrevPlace table.old table.new list.old list.new result side (place_of at) given.old given.new (place_of place) }
 {
     let Some(member) = place_of(place) else {
         return NULL;

@@ -1,16 +1,13 @@
 -- What the checks of the words say.
 use Rattle.std.proofs.Common.{◌≡◌, ℕ, Bool, true, false, not, is_some, IsTrue, MatchOption, Option, Some, None, List, refl, sym, ◌∙◌, subst, true≢false}
-use Rattle.ic_unsafe_ref.specs.declared.place.Place.{Place}
-use Rattle.ic_link_ops.specs.Positions.{HasMember}
-use Rattle.ic_link_ops.specs.Sequences.{IsMember}
-use Rattle.ic_link_ops.specs.Tables.{Table}
+use Rattle.ic_link_ops.specs.Prelude.{Place, IsMember, Table, HasMember}
 use Rattle.ic_link_ops.specs.Walk.{is_end}
 use Rattle.ic_link_ops.proofs.SequenceLemmas.{member_split}
 use Rattle.ic_link_ops.proofs.Walks.{is_end_no, is_end_yes}
-use Rattle.ic_check.specs.Checked.{IsShown, ShowsNone}
+use Rattle.ic_check.specs.Checked.{IsRepresented, RepresentsNone}
 use Rattle.ic_check.specs.Subtrees.{AreApart}
 use Rattle.ic_raw.specs.declared.words.RawThree.{RawThree}
-use Rattle.ic_raw.specs.Tree.{Shows}
+use Rattle.ic_raw.specs.Tree.{Represents}
 
 -- a root is that of another tree, or it is not
 pub apart_by : (one given : Option Place) (p : Place) (same : Bool) → given ≡ Some p → same ≡ is_end one p
@@ -19,13 +16,13 @@ apart_by one given p true is e = (λ never. absurd (true≢false (sym never)), �
 apart_by one given p false is e = (λ yes q f g. is_end_no one p (sym e) (f ∙ (sym g ∙ is)), λ apart. refl)
 
 -- a check that hands out a count has found a sequence, and else there is none
-pub found : {shows : List Place → Type 0} (count : Option ℕ) (is : Bool) → is ≡ is_some count → MatchOption count (ShowsNone shows) (IsShown shows)
+pub found : {shows : List Place → Type 0} (count : Option ℕ) (is : Bool) → is ≡ is_some count → MatchOption count (RepresentsNone shows) (IsRepresented shows)
     → (IsTrue is → (s : List Place) × shows s) × (((s : List Place) × shows s) → IsTrue is)
 found None is e none = (λ yes. absurd (true≢false (sym yes ∙ e)), λ some. absurd (none some.0 some.1))
 found (Some n) is e shown = (λ yes. (shown.0, shown.1), λ some. e)
 
--- a member of what is shown
-pub member_of : {t : Table RawThree} {root : Option Place} {s : List Place} (p : Place) → Shows t root s → IsMember p s → HasMember (Shows t root) p
+-- a member of what is represented
+pub member_of : {t : Table RawThree} {root : Option Place} {s : List Place} (p : Place) → Represents t root s → IsMember p s → HasMember (Represents t root) p
 member_of {t} {root} {s} p shown member =
     let parts = member_split p s member in
-    record { front = parts.0; back = parts.1; shown = subst (Shows t root) parts.2 shown }
+    record { front = parts.0; back = parts.1; shown = subst (Represents t root) parts.2 shown }

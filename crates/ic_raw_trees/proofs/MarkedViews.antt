@@ -1,71 +1,66 @@
 -- What holds of a view of a tree's words holds of the words that were lent.
 use Rattle.std.proofs.Common.{◌≡◌, true, false, cond, is_some, nat_lt, List, [], ◌∷◌, ◌++◌, Option, Some, None, refl, sym, ap, ◌∙◌}
-use Rattle.ic_unsafe_ref.specs.declared.place.Place.{Place}
-use Rattle.ic_unsafe_ref.specs.Places.{index_of}
+use Rattle.ic_link_ops.specs.Prelude.{Place, index_of, Cut, ChangesOnlyIn, HasMember, LinkStep, TraceIs}
 use Rattle.ic_link_ops.specs.Edits.{Inserts, Splits}
-use Rattle.ic_link_ops.specs.LinkSteps.{LinkStep, Replays}
 use Rattle.ic_link_ops.specs.PlainTables.{entry_at}
-use Rattle.ic_link_ops.specs.Positions.{HasMember}
-use Rattle.ic_link_ops.specs.Sequences.{Cut}
-use Rattle.ic_link_ops.specs.StepLaws.{replays_within}
-use Rattle.ic_link_ops.specs.Tables.{KeepsBeside}
+use Rattle.ic_link_ops.specs.StepLaws.{trace_within}
 use Rattle.ic_link_ops.proofs.SequenceLemmas.{some_same, split_member}
-use Rattle.ic_link_ops.proofs.ShownTrees.{holds_linked}
-use Rattle.ic_rbtree.specs.Join.{Appends, ShowsParts}
+use Rattle.ic_link_ops.proofs.RepresentedTrees.{holds_linked}
+use Rattle.ic_rbtree.specs.Join.{Appends, RepresentsParts}
 use Rattle.ic_raw.specs.declared.marked_tree.MarkedTree.{MarkedTree}
 use Rattle.ic_raw.specs.declared.table.RawTable.{RawTable}
 use Rattle.ic_raw.specs.declared.words.RawThree.{RawThree}
 use Rattle.ic_raw.specs.MarkedTree.{marked_entries, marked_table}
 use Rattle.ic_raw.specs.Tables.{member_fault, place_fault, raw_entries}
-use Rattle.ic_raw.specs.Tree.{FreeIn, Shows, fault_at, fault_of, lent_table, table_of}
+use Rattle.ic_raw.specs.Tree.{FreeIn, Represents, fault_at, fault_of, lent_table, table_of}
 use Rattle.ic_raw.specs.Words.{is_linked_three, no_tree_words}
 use Rattle.ic_raw.proofs.Runs.{free_of}
 use Rattle.ic_raw.proofs.Trees.{kept}
 
--- a view of these words shows what they show, and the other way round
+-- a view of these words represents what they represent, and the other way round
 module _ (a : MarkedTree) {es : List RawThree} (e : marked_entries a ≡ es) where
-  pub viewed : {root : Option Place} {s : List Place} → Shows (table_of es) root s → Shows (marked_table a) root s
+  pub viewed : {root : Option Place} {s : List Place} → Represents (table_of es) root s → Represents (marked_table a) root s
   viewed shown = kept _ _ _ _ shown (λ q. ap (λ words. entry_at no_tree_words words q) e)
 
-  pub shown_back : {root : Option Place} {s : List Place} → Shows (marked_table a) root s → Shows (table_of es) root s
-  shown_back shown = kept _ _ _ _ shown (λ q. ap (λ words. entry_at no_tree_words words q) (sym e))
+  pub represented_back : {root : Option Place} {s : List Place} → Represents (marked_table a) root s → Represents (table_of es) root s
+  represented_back shown = kept _ _ _ _ shown (λ q. ap (λ words. entry_at no_tree_words words q) (sym e))
 
-  pub parts_viewed : {left right : Option Place} {gap : Cut} → ShowsParts Shows (table_of es) left right gap → ShowsParts Shows (marked_table a) left right gap
+  pub parts_viewed : {left right : Option Place} {gap : Cut} → RepresentsParts Represents (table_of es) left right gap → RepresentsParts Represents (marked_table a) left right gap
   parts_viewed parts = record { front = viewed parts.front; back = viewed parts.back; distinct = parts.distinct }
 
-  pub parts_back : {left right : Option Place} {gap : Cut} → ShowsParts Shows (marked_table a) left right gap → ShowsParts Shows (table_of es) left right gap
-  parts_back parts = record { front = shown_back parts.front; back = shown_back parts.back; distinct = parts.distinct }
+  pub parts_back : {left right : Option Place} {gap : Cut} → RepresentsParts Represents (marked_table a) left right gap → RepresentsParts Represents (table_of es) left right gap
+  parts_back parts = record { front = represented_back parts.front; back = represented_back parts.back; distinct = parts.distinct }
 
-  pub member_viewed : {root : Option Place} {p : Place} → HasMember (Shows (table_of es) root) p → HasMember (Shows (marked_table a) root) p
+  pub member_viewed : {root : Option Place} {p : Place} → HasMember (Represents (table_of es) root) p → HasMember (Represents (marked_table a) root) p
   member_viewed has = record { front = has.front; back = has.back; shown = viewed has.shown }
 
-  pub member_back : {root : Option Place} {p : Place} → HasMember (Shows (marked_table a) root) p → HasMember (Shows (table_of es) root) p
-  member_back has = record { front = has.front; back = has.back; shown = shown_back has.shown }
+  pub member_back : {root : Option Place} {p : Place} → HasMember (Represents (marked_table a) root) p → HasMember (Represents (table_of es) root) p
+  member_back has = record { front = has.front; back = has.back; shown = represented_back has.shown }
 
 -- what an edit does to the view it does to the words
 module _ (a b : MarkedTree) {es fs : List RawThree} (e : marked_entries a ≡ es) (f : fs ≡ marked_entries b) where
-  frame_back : {s : List Place} → KeepsBeside (marked_table a) (marked_table b) s → KeepsBeside (table_of es) (table_of fs) s
+  frame_back : {s : List Place} → ChangesOnlyIn (marked_table a) (marked_table b) s → ChangesOnlyIn (table_of es) (table_of fs) s
   frame_back {s} keeps =
-      let back : KeepsBeside (table_of (marked_entries a)) (table_of (marked_entries b)) s =
+      let back : ChangesOnlyIn (table_of (marked_entries a)) (table_of (marked_entries b)) s =
       record { extent = ap (λ x. record { places = x.places; identity = [] }) keeps.extent; others = keeps.others } in
       rw (← e, f) back
 
-  pub appends_back : {root root' : Option Place} {gap : Cut} → root' ≡ root → Appends Shows (marked_table a) (marked_table b) root gap
-      → Appends Shows (table_of es) (table_of fs) root' gap
-  appends_back same made = rw same (record { shows = shown_back b (sym f) made.shows; frame = frame_back made.frame })
+  pub appends_back : {root root' : Option Place} {gap : Cut} → root' ≡ root → Appends Represents (marked_table a) (marked_table b) root gap
+      → Appends Represents (table_of es) (table_of fs) root' gap
+  appends_back same made = rw same (record { shows = represented_back b (sym f) made.shows; frame = frame_back made.frame })
 
-  pub inserts_back : {root root' : Option Place} {gap : Cut} {p : Place} → root' ≡ root → Inserts Shows (marked_table a) (marked_table b) root gap p
-      → Inserts Shows (table_of es) (table_of fs) root' gap p
-  inserts_back same made = rw same (record { shows = shown_back b (sym f) made.shows; frame = frame_back made.frame })
+  pub inserts_back : {root root' : Option Place} {gap : Cut} {p : Place} → root' ≡ root → Inserts Represents (marked_table a) (marked_table b) root gap p
+      → Inserts Represents (table_of es) (table_of fs) root' gap p
+  inserts_back same made = rw same (record { shows = represented_back b (sym f) made.shows; frame = frame_back made.frame })
 
   pub splits_back : {root root' rest rest' : Option Place} {s t : List Place} → root' ≡ root → rest' ≡ rest
-      → Splits Shows (marked_table a) (marked_table b) root rest s t → Splits Shows (table_of es) (table_of fs) root' rest' s t
+      → Splits Represents (marked_table a) (marked_table b) root rest s t → Splits Represents (table_of es) (table_of fs) root' rest' s t
   splits_back same handed made =
-      rw (same, handed) (record { keeps = shown_back b (sym f) made.keeps; hands_out = shown_back b (sym f) made.hands_out; frame = frame_back made.frame })
+      rw (same, handed) (record { keeps = represented_back b (sym f) made.keeps; hands_out = represented_back b (sym f) made.hands_out; frame = frame_back made.frame })
 
-  pub steps_back : (steps : List LinkStep) → Replays is_linked_three (marked_table a) (marked_table b) steps → Replays is_linked_three (table_of es) (table_of fs) steps
+  pub steps_back : (steps : List LinkStep) → TraceIs is_linked_three (marked_table a) (marked_table b) steps → TraceIs is_linked_three (table_of es) (table_of fs) steps
   steps_back steps makes =
-      let back : Replays is_linked_three (table_of (marked_entries a)) (table_of (marked_entries b)) steps = replays_within is_linked_three _ _ steps _ _ makes in
+      let back : TraceIs is_linked_three (table_of (marked_entries a)) (table_of (marked_entries b)) steps = trace_within is_linked_three _ _ steps _ _ makes in
       rw (← e, f) back
 
 -- the fault of a place in a view of the table is that among the words
@@ -86,7 +81,7 @@ pub unlinked_viewed : (a : MarkedTree) {es : List RawThree} (p : Place) → mark
 unlinked_viewed a p same free = ap (λ words. is_linked_three (entry_at no_tree_words words p)) same ∙ free.unlinked
 
 -- a member has no fault
-pub member_faultless : (es : List RawThree) {root : Option Place} (front : List Place) (p : Place) (back : List Place) → Shows (table_of es) root (front ++ p ∷ back)
+pub member_faultless : (es : List RawThree) {root : Option Place} (front : List Place) (p : Place) (back : List Place) → Represents (table_of es) root (front ++ p ∷ back)
     → fault_at es (Some p) ≡ 0
 member_faultless es front p back shown =
     let linked : is_linked_three ((table_of es).entry p) ≡ true = holds_linked shown.held (split_member front p back) in

@@ -1,12 +1,10 @@
 -- Two trees of one table: they share no member if their roots differ, and else they are one.
 use Rattle.std.proofs.Common.{◌≡◌, ℕ, zero, suc, ◌+◌, ◌≤◌, Option, Some, None, List, [], ◌∷◌, ◌++◌, refl, sym, ◌∙◌, subst, inl, inr, arith}
-use Rattle.ic_unsafe_ref.specs.declared.place.Place.{Place}
+use Rattle.ic_link_ops.specs.Prelude.{Place, IsAbsent, IsDisjoint, IsDistinct, IsMember, Table}
 use Rattle.ic_unsafe_ref.proofs.PlaceLemmas.{same_or_not}
-use Rattle.ic_link_ops.specs.Sequences.{IsAbsent, IsDisjoint, IsDistinct, IsMember}
-use Rattle.ic_link_ops.specs.Tables.{Table}
-use Rattle.ic_link_ops.specs.RedBlackTree.{Node, Shows}
+use Rattle.ic_link_ops.specs.RedBlackTree.{Node, Represents}
 use Rattle.ic_link_ops.proofs.SequenceLemmas.{distinct_disjoint, distinct_splice}
-use Rattle.ic_link_ops.proofs.ShownTrees.{no_root, root_member}
+use Rattle.ic_link_ops.proofs.RepresentedTrees.{no_root, root_member}
 use Rattle.ic_check.specs.Subtrees.{AreApart}
 use Rattle.ic_rbtree.proofs.Climbed.{Climbs, at_root, climbs, starts}
 
@@ -30,7 +28,7 @@ each_outside s (y ∷ t) none = beside s none (each_outside s t (λ p member the
   beside (x ∷ u) out apart =
       ((λ same. out x (λ absent. absent.0 refl) (λ absent. absent.0 same), apart.0), beside u (λ p member. out p (λ absent. member absent.1)) apart.1)
 
-module _ {E : Type 0} (n : E → Node) {v : Table E} {a b : Option Place} {s t : List Place} (one : Shows n v a s) (other : Shows n v b t) where
+module _ {E : Type 0} (n : E → Node) {v : Table E} {a b : Option Place} {s t : List Place} (one : Represents n v a s) (other : Represents n v b t) where
   -- parents lead from a member to one root
   meets : (k steps : ℕ) (p : Place) → 66 ≤ steps + k → Climbs n v a p steps → Climbs n v b p steps → a ≡ b
   meets zero steps p far x y = absurd (omega (arith, far, x.few))
@@ -51,7 +49,7 @@ module _ {E : Type 0} (n : E → Node) {v : Table E} {a b : Option Place} {s t :
       distinct_splice [] s t other.held.distinct one.held.distinct (each_outside s t (λ p member there. rooted a refl p member (shared_root p member there)))
     where
       rooted : (o : Option Place) → a ≡ o → (p : Place) → IsMember p s → a ≡ b → ⊥
-      rooted None e p member same = member (subst (IsAbsent p) (sym (no_root (subst (λ o. Shows n v o s) e one))) tt)
+      rooted None e p member same = member (subst (IsAbsent p) (sym (no_root (subst (λ o. Represents n v o s) e one))) tt)
       rooted (Some q) e p member same = apart q e (sym same ∙ e)
 
   -- and trees that share none have different roots, or none

@@ -1,29 +1,26 @@
--- WHAT THE CALLS DO THAT MAKE ONE RED-BLACK TREE OF TWO, AND TWO OF ONE: each record is the whole contract of a call. A call is accepted exactly if the
--- table shows its trees, and its place fits. So links that show no tree are never edited.
+-- WHAT THE CALLS DO THAT MAKE ONE RED-BLACK TREE OF TWO, AND TWO OF ONE: each record is the whole contract of a call. A call is accepted exactly if
+-- the table represents its trees, and its place fits. So links that represent no tree are never edited.
 use Rattle.std.specs.Prelude.{◌≡◌, ◌≢◌, ◌↔◌, ◌++◌, ◌∷◌, ℕ, List, [], Option, Some, None}
-use Rattle.ic_unsafe_ref.specs.declared.place.Place.{Place}
+use Rattle.ic_link_ops.specs.Prelude.{Place, Cut, KeepsLinked, LinksAlso, HasMember}
 use Rattle.ic_link_ops.specs.Edits.{Inserts, Splits}
-use Rattle.ic_link_ops.specs.Positions.{HasMember}
-use Rattle.ic_link_ops.specs.Sequences.{Cut}
-use Rattle.ic_link_ops.specs.Tables.{KeepsLinked, LinksAlso}
-use Rattle.ic_rbtree.specs.Join.{Appends, ShowsParts}
+use Rattle.ic_rbtree.specs.Join.{Appends, RepresentsParts}
 use Rattle.ic_raw.specs.declared.status.TheConstants.{OK, NULL, BROKEN}
 use Rattle.ic_raw.specs.declared.words.RawRoot.{RawRoot}
 use Rattle.ic_raw.specs.declared.words.RawThree.{RawThree}
 use Rattle.ic_raw.specs.Answers.{IsStatus, IsAccepted, refusal}
-use Rattle.ic_raw.specs.Tree.{Shows, ShowsTree, FreeIn, IsWritten, root_in, word_of_root, table_of, fault_at, fault_of}
+use Rattle.ic_raw.specs.Tree.{Represents, RepresentsTree, FreeIn, IsWritten, root_in, word_of_root, table_of, fault_at, fault_of}
 use Rattle.ic_raw.specs.Words.{is_linked_three}
 
 -- THE WORDS SHOW TWO TREES that share no member: the front for the one, and the back for the other
-abbrev pub ShowsBoth : List RawThree → (tree given : RawRoot) → Cut → Type 0
-ShowsBoth words tree given = ShowsParts Shows (table_of words) (root_in tree) (root_in given)
+abbrev pub RepresentsBoth : List RawThree → (tree given : RawRoot) → Cut → Type 0
+RepresentsBoth words tree given = RepresentsParts Represents (table_of words) (root_in tree) (root_in given)
 
 -- `old`, `new`: the words of the table before the call and after it. `tree`, `tree'`: that of the tree. `status`: what the call returns
 module _ (old new : List RawThree) (tree tree' : RawRoot) (status : ℕ) where
   -- ALL MEMBERS OF ANOTHER TREE COME AFTER those of this one. `given`, `given'`: its word
   pub record AppendCall (given given' : RawRoot) : Type 0 where
-    pub appended : (gap : Cut) → ShowsBoth old tree given gap → IsAccepted status (Appends Shows (table_of old) (table_of new) (root_in tree') gap)
-    pub shown : status ≡ OK → (gap : Cut) × ShowsBoth old tree given gap
+    pub appended : (gap : Cut) → RepresentsBoth old tree given gap → IsAccepted status (Appends Represents (table_of old) (table_of new) (root_in tree') gap)
+    pub shown : status ≡ OK → (gap : Cut) × RepresentsBoth old tree given gap
     pub emptied : status ≡ OK → given' ≡ word_of_root None
     pub linked : KeepsLinked is_linked_three (table_of old) (table_of new)
     pub words : status ≡ OK → IsWritten tree'
@@ -33,9 +30,9 @@ module _ (old new : List RawThree) (tree tree' : RawRoot) (status : ℕ) where
 
   -- A PLACE COMES AFTER all members of this tree, and all of another one after the place
   pub record JoinCall (place : Option Place) (given given' : RawRoot) : Type 0 where
-    pub joined : (gap : Cut) (p : Place) → place ≡ Some p → ShowsBoth old tree given gap → FreeIn old p
-        → IsAccepted status (Inserts Shows (table_of old) (table_of new) (root_in tree') gap p)
-    pub shown : status ≡ OK → (gap : Cut) × ShowsBoth old tree given gap
+    pub joined : (gap : Cut) (p : Place) → place ≡ Some p → RepresentsBoth old tree given gap → FreeIn old p
+        → IsAccepted status (Inserts Represents (table_of old) (table_of new) (root_in tree') gap p)
+    pub shown : status ≡ OK → (gap : Cut) × RepresentsBoth old tree given gap
     pub free : (p : Place) → place ≡ Some p → status ≡ OK → FreeIn old p
     pub no_place : place ≡ None → status ≢ OK
     pub emptied : status ≡ OK → given' ≡ word_of_root None
@@ -48,9 +45,9 @@ module _ (old new : List RawThree) (tree tree' : RawRoot) (status : ℕ) where
   -- THE TREE IS CUT before the member `at`: it keeps what is before, and `at` and all after it are handed out, in a word that says no member. `rest`,
   -- `rest'`: this word
   pub record SplitCall (at : Option Place) (rest rest' : RawRoot) : Type 0 where
-    pub split : (front back : List Place) (p : Place) → at ≡ Some p → ShowsTree old tree (front ++ p ∷ back) → root_in rest ≡ None
-        → IsAccepted status (Splits Shows (table_of old) (table_of new) (root_in tree') (root_in rest') front (p ∷ back))
-    pub member : (p : Place) → at ≡ Some p → status ≡ OK → HasMember (ShowsTree old tree) p
+    pub split : (front back : List Place) (p : Place) → at ≡ Some p → RepresentsTree old tree (front ++ p ∷ back) → root_in rest ≡ None
+        → IsAccepted status (Splits Represents (table_of old) (table_of new) (root_in tree') (root_in rest') front (p ∷ back))
+    pub member : (p : Place) → at ≡ Some p → status ≡ OK → HasMember (RepresentsTree old tree) p
     pub null : (status ≡ NULL) ↔ (at ≡ None)
     pub empty : status ≡ OK → root_in rest ≡ None
     pub linked : KeepsLinked is_linked_three (table_of old) (table_of new)

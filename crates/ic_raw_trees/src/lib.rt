@@ -6,7 +6,7 @@
 //! tree_move_calls::split(table, tree, 7, rest) // OK: `tree` has the members before 7, and `rest` has 7 and all after it
 //! ```
 //!
-//! Nothing requires anything of its arguments. Each call checks first that the words show its trees, which takes O(n), and returns
+//! Nothing requires anything of its arguments. Each call checks first that the words represent its trees, which takes O(n), and returns
 //! [`BROKEN`](ic_raw::BROKEN) if they do not. Then it makes the edit of `ic_rbtree`, which takes O(log n). It returns a status as the calls of
 //! `ic_raw` do, and leaves all as it was if that is not [`OK`](ic_raw::OK).
 #![tactic(auto)]

@@ -1,21 +1,20 @@
-//! Whether the words show the trees that a call edits.
+//! Whether the words represent the trees that a call edits.
 //!
 //! ```text
-//! shows_both(&links, &tree, &given)  // two trees that share no member
+//! represents_both(&links, &tree, &given)  // two trees that share no member
 //! has_member(&links, &tree, place)   // a tree of which the place is a member
 //! ```
 
 ghost use Rattle.std.specs.Prelude.{◌≡◌, ◌↔◌, IsTrue};
 ghost use Rattle.ic_check.specs.Subtrees.{AreApart};
-ghost use Rattle.ic_link_ops.specs.Positions.{HasMember};
-ghost use Rattle.ic_link_ops.specs.RedBlackTree.{ShowsSome};
-ghost use Rattle.ic_link_ops.specs.Tables.{IsLinked};
+ghost use Rattle.ic_link_ops.specs.Prelude.{IsLinked, HasMember};
+ghost use Rattle.ic_link_ops.specs.RedBlackTree.{RepresentsSome};
 ghost use Rattle.ic_link_ops.specs.Walk.{is_end};
-ghost use Rattle.ic_rbtree.specs.Join.{ShowsPartsSome};
+ghost use Rattle.ic_rbtree.specs.Join.{RepresentsPartsSome};
 ghost use Rattle.ic_rbtree.specs.Members.{HasChild};
 ghost use Rattle.ic_rbtree.specs.Tree.{root_of};
 ghost use Rattle.ic_raw.specs.MarkedTree.{marked_table};
-ghost use Rattle.ic_raw.specs.Tree.{Shows, IsWritten, node, root_in};
+ghost use Rattle.ic_raw.specs.Tree.{Represents, IsWritten, node, root_in};
 ghost use Rattle.ic_raw.specs.Words.{is_linked_three};
 
 use ic_check::{TellsLinks, check_tree};
@@ -82,16 +81,16 @@ fn are_apart(one: Option<Place>, given: Option<Place>) -> bool
     }
 }
 
-// Whether the words show a tree.
+// Whether the words represent a tree.
 fn is_tree(links: &MarkedTree<'_>, tree: &Tree) -> bool
-    ensures { IsTrue result ↔ ShowsSome node (marked_table links.now) (root_of tree.now) }
+    ensures { IsTrue result ↔ RepresentsSome node (marked_table links.now) (root_of tree.now) }
 {
     check_tree(tree, links).is_some()
 }
 
-// Whether the words show two trees that share no member. Trees with different roots share none.
-pub(crate) fn shows_both(links: &MarkedTree<'_>, tree: &Tree, given: &Tree) -> bool
-    ensures { IsTrue result ↔ ShowsPartsSome Shows (marked_table links.now) (root_of tree.now) (root_of given.now) }
+// Whether the words represent two trees that share no member. Trees with different roots share none.
+pub(crate) fn represents_both(links: &MarkedTree<'_>, tree: &Tree, given: &Tree) -> bool
+    ensures { IsTrue result ↔ RepresentsPartsSome Represents (marked_table links.now) (root_of tree.now) (root_of given.now) }
 {
     if !are_apart(tree.root(), given.root()) {
         return false;
@@ -112,11 +111,11 @@ fn has_child(links: &MarkedTree<'_>, parent: Place, place: Place) -> bool
     is_at(links.left(parent), place) || is_at(links.right(parent), place)
 }
 
-// Whether parents lead from a linked place to the root of a tree that is shown, each of them with the one below as a child.
+// Whether parents lead from a linked place to the root of a tree that is represented, each of them with the one below as a child.
 fn climbs_to_root(links: &MarkedTree<'_>, tree: &Tree, place: Place) -> bool
     requires linked { IsLinked is_linked_three (marked_table links.now) place }
-    requires shown { ShowsSome node (marked_table links.now) (root_of tree.now) }
-    ensures { IsTrue result ↔ HasMember (Shows (marked_table links.now) (root_of tree.now)) place }
+    requires shown { RepresentsSome node (marked_table links.now) (root_of tree.now) }
+    ensures { IsTrue result ↔ HasMember (Represents (marked_table links.now) (root_of tree.now)) place }
 {
     let mut place = place;
     let mut steps = 0;
@@ -133,9 +132,9 @@ fn climbs_to_root(links: &MarkedTree<'_>, tree: &Tree, place: Place) -> bool
     false
 }
 
-// Whether the words show a tree of which the place is a member.
+// Whether the words represent a tree of which the place is a member.
 pub(crate) fn has_member(links: &MarkedTree<'_>, tree: &Tree, place: Place) -> bool
-    ensures { IsTrue result ↔ HasMember (Shows (marked_table links.now) (root_of tree.now)) place }
+    ensures { IsTrue result ↔ HasMember (Represents (marked_table links.now) (root_of tree.now)) place }
 {
     if !links.tells_linked(place) {
         return false;

@@ -10,21 +10,21 @@ ghost use Rattle.ic_raw.specs.Words.{place_of};
 ghost use Rattle.ic_raw_trees.specs.TreeMoveCalls.{AppendCall, JoinCall, SplitCall};
 
 use crate::faults::{member_fault, place_fault};
-use crate::shown::{has_member, shows_both, tree_of, write_back};
+use crate::shown::{has_member, represents_both, tree_of, write_back};
 use ic_raw::{BROKEN, MarkedTree, NULL, OK, OUT_OF_RANGE, RawRoot, RawThree, place_of};
 use ic_unsafe_ref::UnsafeRef;
 
 /// Moves all members of `given` after those of `tree`, in their order, and leaves `given` empty. O(n): it checks both trees first. In Rattle, where
 /// types vouch for the links, it takes O(log n).
 ///
-/// It looks at no key. If the words do not show two trees that share no member, it returns [`BROKEN`](ic_raw::BROKEN).
+/// It looks at no key. If the words do not represent two trees that share no member, it returns [`BROKEN`](ic_raw::BROKEN).
 pub fn append(table: &mut [RawThree], tree: &mut RawRoot, given: &mut RawRoot) -> u32
     ensures { AppendCall table.old table.new tree.old tree.new result given.old given.new }
 {
     let mut links = MarkedTree::new(table);
     let mut edited = tree_of(&*tree);
     let mut moved = tree_of(&*given);
-    if !shows_both(&links, &edited, &moved) {
+    if !represents_both(&links, &edited, &moved) {
         return BROKEN;
     }
     edited.append(&mut links, &mut moved);
@@ -33,10 +33,10 @@ pub fn append(table: &mut [RawThree], tree: &mut RawRoot, given: &mut RawRoot) -
     OK
 }
 
-/// Inserts a place after all members of `tree`, and moves all of `given` after it. `given` is empty then. O(n): it checks both trees first. In Rattle,
-/// where types vouch for the links, it takes O(log n).
+/// Inserts a place after all members of `tree`, and moves all of `given` after it. `given` is empty then. O(n): it checks both trees first. In
+/// Rattle, where types vouch for the links, it takes O(log n).
 ///
-/// It looks at no key. The place has to be one of the table, and not linked. If the words do not show two trees that share no member, it
+/// It looks at no key. The place has to be one of the table, and not linked. If the words do not represent two trees that share no member, it
 /// returns [`BROKEN`](ic_raw::BROKEN).
 pub fn join(table: &mut [RawThree], tree: &mut RawRoot, place: u32, given: &mut RawRoot) -> u32
     ensures { JoinCall table.old table.new tree.old tree.new result (place_of place) given.old given.new }
@@ -51,7 +51,7 @@ pub fn join(table: &mut [RawThree], tree: &mut RawRoot, place: u32, given: &mut 
     let mut links = MarkedTree::new(table);
     let mut edited = tree_of(&*tree);
     let mut later = tree_of(&*given);
-    if !shows_both(&links, &edited, &later) {
+    if !represents_both(&links, &edited, &later) {
         return BROKEN;
     }
     let _ = edited.join(&mut links, UnsafeRef::new(object), &mut later); // proved: it is not linked
@@ -63,7 +63,7 @@ pub fn join(table: &mut [RawThree], tree: &mut RawRoot, place: u32, given: &mut 
 /// Keeps the members before the member `at`, and moves `at` and all after it to `rest`, which has to be empty. At [`NONE`](ic_raw::NONE) it returns
 /// [`NULL`](ic_raw::NULL). O(n): it checks the tree first. In Rattle, where types vouch for the links, it takes O(log n).
 ///
-/// It looks at no key. If the words do not show a tree of which `at` is a member, or if `rest` has a root, it returns
+/// It looks at no key. If the words do not represent a tree of which `at` is a member, or if `rest` has a root, it returns
 /// [`BROKEN`](ic_raw::BROKEN).
 pub fn split(table: &mut [RawThree], tree: &mut RawRoot, at: u32, rest: &mut RawRoot) -> u32
     ensures { SplitCall table.old table.new tree.old tree.new result (place_of at) rest.old rest.new }

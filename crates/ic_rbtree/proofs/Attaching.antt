@@ -1,34 +1,32 @@
 -- A new member is put into a hole.
 use Rattle.std.proofs.Common.{◌≡◌, ◌≢◌, ◌+◌, ◌≤◌, Bool, true, false, Option, Some, None, List, [], ◌∷◌, ◌++◌, refl, sym, ap, ◌∙◌, subst, arith, append-nil, append_assoc, inl, inr}
-use Rattle.ic_unsafe_ref.specs.declared.place.Place.{Place}
+use Rattle.ic_link_ops.specs.Prelude.{Place, Cut, join, first, last_or, IsAbsent, Table, ChangesOnly, IsLinked, IsUnlinked}
 use Rattle.ic_unsafe_ref.proofs.PlaceLemmas.{same_or_not}
 use Rattle.ic_link_ops.specs.declared.color.Color.{Color}
 use Rattle.ic_link_ops.specs.declared.color.Color.TheVariants.{Red, Black}
 use Rattle.ic_link_ops.specs.declared.side.Side.{Side}
 use Rattle.ic_link_ops.specs.declared.side.Side.TheVariants.{Left, Right}
-use Rattle.ic_link_ops.specs.Sequences.{Cut, join, first, last_or, IsAbsent}
-use Rattle.ic_link_ops.specs.Tables.{Table, ChangesOnly, IsLinked, IsUnlinked}
 use Rattle.ic_link_ops.specs.Edits.{Inserts}
 use Rattle.ic_link_ops.specs.Trees.{Tree, leaf, fork, top, in_order}
 use Rattle.ic_link_ops.specs.Shape.{IsRight}
-use Rattle.ic_link_ops.specs.RedBlackTree.{Node, Holds, Shows}
+use Rattle.ic_link_ops.specs.RedBlackTree.{Node, Holds, Represents}
 use Rattle.ic_link_ops.specs.Frames.{child_on, Frame, frame, with_child, plug, above, before, after}
 use Rattle.ic_link_ops.proofs.SequenceLemmas.{none_not, some_same}
 use Rattle.ic_link_ops.proofs.Frames.{in_order_parts}
 use Rattle.ic_link_ops.specs.Times.{one_at, times, times_in}
 use Rattle.ic_link_ops.proofs.Times.{one_at_self, one_at_other, times_order, absent_times, times_append}
-use Rattle.ic_link_ops.proofs.ShownTrees.{holds_once, holds_out}
-use Rattle.ic_link_ops.proofs.ShownTrees.{free_absent, shows_beside}
+use Rattle.ic_link_ops.proofs.RepresentedTrees.{holds_once, holds_out}
+use Rattle.ic_link_ops.proofs.RepresentedTrees.{free_absent, represents_beside}
 use Rattle.ic_link_ops.proofs.Trees.{leaf_is}
-use Rattle.ic_rbtree.specs.Pieces.{Piece, cell, loose, below, around, Stands, Shown}
-use Rattle.ic_rbtree.specs.Insertion.{RedAt, IsHole}
+use Rattle.ic_rbtree.specs.Pieces.{Piece, cell, loose, below, around, ClimbState, Represented}
+use Rattle.ic_rbtree.specs.Insertion.{RedAt, IsInsertPos}
 use Rattle.ic_rbtree.proofs.Branches.{side_linked, top_leaf}
 use Rattle.ic_rbtree.proofs.Pieces.{regroup, node_set}
 use Rattle.ic_rbtree.proofs.Rotations.{changes_child_side, close_below}
 use Rattle.ic_rbtree.proofs.Zipper.{go_down}
 use Rattle.ic_rbtree.proofs.InsertionShapes.{red_not_black}
 use Rattle.ic_rbtree.proofs.RemovalShapes.{shape_open}
-use Rattle.ic_rbtree.proofs.Removing.{spot, shown_of, shows_of}
+use Rattle.ic_rbtree.proofs.Removing.{spot, represented_of, represents_of}
 
 begins : (s : List Place) (p : Place) → first s ≡ Some p → (rest : List Place) × (s ≡ p ∷ rest)
 begins [] p e = absurd (none_not p e)
@@ -44,28 +42,28 @@ ends o (x ∷ z ∷ s) p e h = let r = ends_on x z s p e in (x ∷ r.0, ap (λ (
 
 module _ {E : Type 0} (n : E → Node) where
   -- THE HOLE in the tree
-  pub record Hole (base v : Table E) (root : Option Place) (d : Side) (q : Place) (front back : List Place) (ps : List Piece) : Type 0 where
+  pub record InsertPos (base v : Table E) (root : Option Place) (d : Side) (q : Place) (front back : List Place) (ps : List Piece) : Type 0 where
     pub c : Color
     pub b : Tree
     pub fs : List Frame
-    pub stands : Stands n base v root (frame d c q b ∷ fs) leaf ps
+    pub stands : ClimbState n base v root (frame d c q b ∷ fs) leaf ps
     pub right : IsRight (plug (frame d c q b ∷ fs) leaf)
     pub front_is : before (frame d c q b ∷ fs) ≡ front
     pub back_is : after (frame d c q b ∷ fs) ≡ back
 
   pub hole : {base v : Table E} {root : Option Place} (parent : Option Place) (q : Place) (d : Side) (gap : Cut) {ps : List Piece} → parent ≡ Some q
-      → Shown n base v root (gap.front ++ gap.back) ps → IsHole n v parent d gap → Hole base v root d q gap.front gap.back ps
-  hole {base} {v} {root} parent q d gap {ps} is h at' = at_side d (subst (λ (o : Option Place). IsHole n v o d gap) is at') where
-    at_side : (d : Side) → IsHole n v (Some q) d gap → Hole base v root d q gap.front gap.back ps
+      → Represented n base v root (gap.front ++ gap.back) ps → IsInsertPos n v parent d gap → InsertPos base v root d q gap.front gap.back ps
+  hole {base} {v} {root} parent q d gap {ps} is h at' = at_side d (subst (λ (o : Option Place). IsInsertPos n v o d gap) is at') where
+    at_side : (d : Side) → IsInsertPos n v (Some q) d gap → InsertPos base v root d q gap.front gap.back ps
     at_side Left at =
         let r = begins gap.back q (sym at.1) in
-        let x = spot n gap.front q r.0 (subst (λ (s : List Place). Shown n base v root (gap.front ++ s) ps) r.1 h) in
+        let x = spot n gap.front q r.0 (subst (λ (s : List Place). Represented n base v root (gap.front ++ s) ps) r.1 h) in
         let none : x.a ≡ leaf = top_leaf x.a (sym x.stands.are.1.0.0.left ∙ at.0) in
         record {
           c = x.c;
           b = x.b;
           fs = x.fs;
-          stands = subst (λ (t : Tree). Stands n base v root (frame Left x.c q x.b ∷ x.fs) t ps) none (go_down n Left x.c q x.b x.a x.stands);
+          stands = subst (λ (t : Tree). ClimbState n base v root (frame Left x.c q x.b ∷ x.fs) t ps) none (go_down n Left x.c q x.b x.a x.stands);
           right = subst (λ (t : Tree). IsRight (plug (frame Left x.c q x.b ∷ x.fs) t)) none x.right;
           front_is = sym (append-nil (before x.fs)) ∙ (ap (λ (t : Tree). before x.fs ++ in_order t) (sym none) ∙ x.front_is);
           back_is = ap (λ (s : List Place). q ∷ s) x.back_is ∙ sym r.1;
@@ -73,13 +71,13 @@ module _ {E : Type 0} (n : E → Node) where
     at_side Right at =
         let r = ends None gap.front q (sym at.1) (none_not q) in
         let both : gap.front ++ gap.back ≡ r.0 ++ q ∷ gap.back = ap (λ (s : List Place). s ++ gap.back) r.1 ∙ append_assoc r.0 (q ∷ []) gap.back in
-        let x = spot n r.0 q gap.back (subst (λ (s : List Place). Shown n base v root s ps) both h) in
+        let x = spot n r.0 q gap.back (subst (λ (s : List Place). Represented n base v root s ps) both h) in
         let none : x.b ≡ leaf = top_leaf x.b (sym x.stands.are.1.0.0.right ∙ at.0) in
         record {
           c = x.c;
           b = x.a;
           fs = x.fs;
-          stands = subst (λ (t : Tree). Stands n base v root (frame Right x.c q x.a ∷ x.fs) t ps) none (go_down n Right x.c q x.a x.b x.stands);
+          stands = subst (λ (t : Tree). ClimbState n base v root (frame Right x.c q x.a ∷ x.fs) t ps) none (go_down n Right x.c q x.a x.b x.stands);
           right = subst (λ (t : Tree). IsRight (plug (frame Right x.c q x.a ∷ x.fs) t)) none x.right;
           front_is = sym (append_assoc (before x.fs) (in_order x.a) (q ∷ [])) ∙ (ap (λ (s : List Place). s ++ q ∷ []) x.front_is ∙ sym r.1);
           back_is = ap (λ (t : Tree). in_order t ++ after x.fs) (sym none) ∙ x.back_is;
@@ -88,11 +86,11 @@ module _ {E : Type 0} (n : E → Node) where
   -- the only member
   pub attached_first : {base v v4 : Table E} {root : Option Place} (parent : Option Place) (d : Side) (gap : Cut) (p : Place) {ps : List Piece}
       → n (v4.entry p) ≡ record (n (v.entry p)) { left = None; right = None; parent = None; color = Black } → ChangesOnly v v4 p
-      → parent ≡ None → Shown n base v root (gap.front ++ gap.back) (loose p ∷ ps) → IsHole n v parent d gap → Shown n base v4 (Some p) (gap.front ++ p ∷ gap.back) ps
+      → parent ≡ None → Represented n base v root (gap.front ++ gap.back) (loose p ∷ ps) → IsInsertPos n v parent d gap → Represented n base v4 (Some p) (gap.front ++ p ∷ gap.back) ps
   attached_first {base} {v} {v4} {root} parent d gap p {ps} set4 only4 is h at' =
-      let at = subst (λ (o : Option Place). IsHole n v o d gap) is at' in
+      let at = subst (λ (o : Option Place). IsInsertPos n v o d gap) is at' in
       let none : h.tree ≡ leaf = leaf_is h.tree (h.order ∙ (ap (λ (s : List Place). s ++ gap.back) at.0 ∙ at.1)) in
-      let st = subst (λ (t : Tree). Stands n base v root [] t (loose p ∷ ps)) none h.stands in
+      let st = subst (λ (t : Tree). ClimbState n base v root [] t (loose p ∷ ps)) none h.stands in
       let h0 = regroup n (loose p ∷ ps) st (λ q. omega arith) (st.are.1.1.0, st.are.1.1.1) in
       let h1 = node_set n set4 only4 h0 in
       let h2 = regroup n (cell Left p Black None None None ∷ below (Some p) leaf ∷ below (Some p) leaf ∷ ps) h1 (λ q. omega arith) (h1.are.0, (tt, (tt, h1.are.1))) in
@@ -107,7 +105,7 @@ module _ {E : Type 0} (n : E → Node) where
   -- below a parent, in red
   pub attached_red : {base v v4 v5 : Table E} {root : Option Place} (q : Place) (d : Side) (front back : List Place) (p : Place) {ps : List Piece}
       → n (v4.entry p) ≡ record (n (v.entry p)) { left = None; right = None; parent = Some q; color = Red } → ChangesOnly v v4 p → n (v5.entry q) ≡ with_child d (n (v4.entry q)) (Some p) → ChangesOnly v4 v5 q
-      → (x : Hole base v root d q front back (loose p ∷ ps)) → RedAt n v5 root p (record { base = base; sequence = front ++ p ∷ back; frames = frame d x.c q x.b ∷ x.fs; subtree = fork Red leaf p leaf; pieces = ps })
+      → (x : InsertPos base v root d q front back (loose p ∷ ps)) → RedAt n v5 root p (record { base = base; sequence = front ++ p ∷ back; frames = frame d x.c q x.b ∷ x.fs; subtree = fork Red leaf p leaf; pieces = ps })
   attached_red {base} {v} {v4} {v5} {root} q d front back p {ps} set4 only4 set only x =
       let gs : List Frame = frame d x.c q x.b ∷ x.fs in
       let h0 = regroup n (loose p ∷ around root gs None ∷ ps) x.stands (λ r. omega arith) (x.stands.are.1.1.0, (x.stands.are.0, x.stands.are.1.1.1)) in
@@ -125,11 +123,11 @@ module _ {E : Type 0} (n : E → Node) where
       }
 
   -- INTO THE PIECES, with the place that has just been linked
-  pub acquired_shown : (linked : E → Bool) → ((e : E) → (n e).linked ≡ linked e) → (old v : Table E) (root : Option Place) (s : List Place) (p : Place) → Shows n old root s
-      → IsUnlinked linked old p → IsLinked linked v p → ChangesOnly old v p → Shown n v v root s (loose p ∷ [])
-  acquired_shown linked alike old v root s p h was is only =
+  pub acquired_represented : (linked : E → Bool) → ((e : E) → (n e).linked ≡ linked e) → (old v : Table E) (root : Option Place) (s : List Place) (p : Place) → Represents n old root s
+      → IsUnlinked linked old p → IsLinked linked v p → ChangesOnly old v p → Represented n v v root s (loose p ∷ [])
+  acquired_represented linked alike old v root s p h was is only =
       let out : IsAbsent p s = free_absent h (alike (old.entry p) ∙ was) in
-      let k = shows_beside h out only.others in
+      let k = represents_beside h out only.others in
       record {
         tree = k.tree;
         stands = record {
@@ -151,10 +149,10 @@ module _ {E : Type 0} (n : E → Node) where
 
   -- THE WHOLE INSERT, in the words of edits
   pub inserts : (old v w : Table E) (root new_root : Option Place) (p : Place) (gap : Cut)
-      → ChangesOnly old v p → Shown n v w new_root (gap.front ++ p ∷ gap.back) []
-      → Inserts (Shows n) old w new_root gap p
+      → ChangesOnly old v p → Represented n v w new_root (gap.front ++ p ∷ gap.back) []
+      → Inserts (Represents n) old w new_root gap p
   inserts old v w root new_root p gap only h = record {
-    shows = shows_of n h;
+    shows = represents_of n h;
     frame = record {
       extent = h.stands.extent ∙ only.extent;
       others = λ q out. others q out.0 out.1;
@@ -167,14 +165,14 @@ module _ {E : Type 0} (n : E → Node) where
         let c : times q h.tree ≡ 0 = sym (times_order q h.tree) ∙ (ap (λ (s : List Place). times_in q s) h.order ∙ b) in
         h.stands.beside q (omega arith) ∙ only.others q k
 
-  pub hole_linked : {base v : Table E} {root : Option Place} {d : Side} {q : Place} {front back : List Place} {ps : List Piece} → Hole base v root d q front back ps → (n (v.entry q)).linked ≡ true
+  pub hole_linked : {base v : Table E} {root : Option Place} {d : Side} {q : Place} {front back : List Place} {ps : List Piece} → InsertPos base v root d q front back ps → (n (v.entry q)).linked ≡ true
   hole_linked {base} {v} {root} {d} {q} x = side_linked n v.entry d q x.c None (top x.b) (above x.fs) x.stands.are.0.0.0
 
   -- linking another place keeps the hole
-  pub hole_kept : (linked : E → Bool) → ((e : E) → (n e).linked ≡ linked e) → (old v : Table E) (root parent : Option Place) (d : Side) (gap : Cut) (p : Place) → Shows n old root (join gap)
-      → IsUnlinked linked old p → ChangesOnly old v p → IsHole n old parent d gap → IsHole n v parent d gap
+  pub hole_kept : (linked : E → Bool) → ((e : E) → (n e).linked ≡ linked e) → (old v : Table E) (root parent : Option Place) (d : Side) (gap : Cut) (p : Place) → Represents n old root (join gap)
+      → IsUnlinked linked old p → ChangesOnly old v p → IsInsertPos n old parent d gap → IsInsertPos n v parent d gap
   hole_kept linked alike old v root None d gap p h was only at = at
   hole_kept linked alike old v root (Some q) d gap p h was only at =
-      let l = hole_linked (hole (Some q) q d gap refl (shown_of n h) at) in
+      let l = hole_linked (hole (Some q) q d gap refl (represented_of n h) at) in
       let other : q ≢ p = λ e. let m : true ≡ false = sym l ∙ (alike (old.entry q) ∙ (ap (λ (z : Place). linked (old.entry z)) e ∙ was)) in cc in
       (ap (λ (e : E). child_on d (n e)) (only.others q other) ∙ at.0, at.1)

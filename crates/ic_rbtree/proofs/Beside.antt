@@ -1,25 +1,22 @@
--- From a position in a shown tree to the member beside it, and to the hole between them.
+-- From a position in a represented tree to the member beside it, and to the hole between them.
 use Rattle.std.proofs.Common.{◌≡◌, ◌<◌, Option, Some, None, List, [], ◌∷◌, refl, sym, ap, ◌∙◌, subst}
-use Rattle.ic_unsafe_ref.specs.declared.place.Place.{Place}
+use Rattle.ic_link_ops.specs.Prelude.{Place, Cut, join, Table, HasMember}
 use Rattle.ic_link_ops.specs.declared.color.Color.{Color}
 use Rattle.ic_link_ops.specs.declared.side.Side.{Side}
 use Rattle.ic_link_ops.specs.declared.side.Side.TheVariants.{Left, Right}
-use Rattle.ic_link_ops.specs.Sequences.{Cut, join}
-use Rattle.ic_link_ops.specs.Tables.{Table}
 use Rattle.ic_link_ops.specs.Trees.{Tree, leaf, fork, top, in_order}
-use Rattle.ic_link_ops.specs.RedBlackTree.{Node, Shows}
+use Rattle.ic_link_ops.specs.RedBlackTree.{Node, Represents}
 use Rattle.ic_link_ops.specs.Shape.{IsRight}
 use Rattle.ic_link_ops.specs.Frames.{frame, across, child_on, branch, plug}
-use Rattle.ic_link_ops.specs.Positions.{HasMember}
-use Rattle.ic_link_ops.proofs.ShownTrees.{no_root}
+use Rattle.ic_link_ops.proofs.RepresentedTrees.{no_root}
 use Rattle.ic_rbtree.specs.Height.{height, turns}
-use Rattle.ic_rbtree.specs.Pieces.{Stands}
-use Rattle.ic_rbtree.specs.Sides.{IsBeside, beyond, nearest, StandsAt, IsOutermost, IsNearestAbove, IsOutermostWithin, IsNearestAboveWithin}
-use Rattle.ic_rbtree.specs.Insertion.{IsHole}
+use Rattle.ic_rbtree.specs.Pieces.{ClimbState}
+use Rattle.ic_rbtree.specs.Sides.{IsBeside, beyond, nearest, IsInTree, IsOutermost, IsNearestAbove, IsOutermostWithin, IsNearestAboveWithin}
+use Rattle.ic_rbtree.specs.Insertion.{IsInsertPos}
 use Rattle.ic_rbtree.proofs.Nearest.{nearest_or, choose, is_beside, nearest_there, nearest_plain, nearest_around, beside_member, beside_null, nearest_nothing, nothing_both}
-use Rattle.ic_rbtree.proofs.Low.{shown_low}
+use Rattle.ic_rbtree.proofs.Low.{represented_low}
 use Rattle.ic_rbtree.proofs.Zipper.{go_down}
-use Rattle.ic_rbtree.proofs.Removing.{Spot, spot, shown_of}
+use Rattle.ic_rbtree.proofs.Removing.{PositionWithNext, spot, represented_of}
 use Rattle.ic_rbtree.proofs.Branches.{top_leaf}
 
 -- a tree at one of its members, from a side
@@ -40,37 +37,37 @@ module _ {E : Type 0} (n : E → Node) where
   nearest_here v d h base root fs t ps s e low = h base root fs t ps s e
 
   module _ {v : Table E} {root : Option Place} where
-    -- the root of a shown tree
-    pub root_can : {s : List Place} {r : Place} → Shows n v root s → root ≡ Some r → StandsAt n v r
-    root_can h is = let k = shown_of n h in (v, root, [], k.tree, [], k.stands, sym k.stands.are.0.1 ∙ is)
+    -- the root of a represented tree
+    pub root_can : {s : List Place} {r : Place} → Represents n v root s → root ≡ Some r → IsInTree n v r
+    root_can h is = let k = represented_of n h in (v, root, [], k.tree, [], k.stands, sym k.stands.are.0.1 ∙ is)
 
-    pub root_end : {s : List Place} {r : Place} (d : Side) {y : Place} → Shows n v root s → root ≡ Some r → IsOutermostWithin n v r d y → (nearest (across d) s ≡ Some y) × (child_on d (n (v.entry y)) ≡ None)
+    pub root_end : {s : List Place} {r : Place} (d : Side) {y : Place} → Represents n v root s → root ≡ Some r → IsOutermostWithin n v r d y → (nearest (across d) s ≡ Some y) × (child_on d (n (v.entry y)) ≡ None)
     root_end d h is outermost =
-        let k = shown_of n h in
-        let e = outermost v root [] k.tree [] k.stands (sym k.stands.are.0.1 ∙ is) (shown_low n k.stands k.shape) in
+        let k = represented_of n h in
+        let e = outermost v root [] k.tree [] k.stands (sym k.stands.are.0.1 ∙ is) (represented_low n k.stands k.shape) in
         (sym (ap (nearest (across d)) k.order) ∙ e.nearest_is, e.childless)
 
     -- a member, and its subtree on a side
-    pub member_spot : {p : Place} → HasMember (Shows n v root) p → (front : List Place) × (back : List Place) × Spot n v v root front p back []
-    member_spot {p} m = (m.front, m.back, spot n m.front p m.back (shown_of n m.shown))
+    pub member_spot : {p : Place} → HasMember (Represents n v root) p → (front : List Place) × (back : List Place) × PositionWithNext n v v root front p back []
+    member_spot {p} m = (m.front, m.back, spot n m.front p m.back (represented_of n m.shown))
 
-    module _ {front back : List Place} {p : Place} (x : Spot n v v root front p back []) where
-      pub spot_can : StandsAt n v p
+    module _ {front back : List Place} {p : Place} (x : PositionWithNext n v v root front p back []) where
+      pub spot_can : IsInTree n v p
       spot_can = (v, root, x.fs, fork x.c x.a p x.b, [], x.stands, refl)
 
       child_is : (d : Side) → child_on d (n (v.entry p)) ≡ top (choose d x.a x.b)
       child_is Left = x.stands.are.1.0.0.left
       child_is Right = x.stands.are.1.0.0.right
 
-      below_stands : (d : Side) → Stands n v v root (frame d x.c p (choose (across d) x.a x.b) ∷ x.fs) (choose d x.a x.b) []
+      below_stands : (d : Side) → ClimbState n v v root (frame d x.c p (choose (across d) x.a x.b) ∷ x.fs) (choose d x.a x.b) []
       below_stands d =
           go_down n d x.c p (choose (across d) x.a x.b) (choose d x.a x.b)
-          (subst (λ t. Stands n v v root x.fs t []) (fork_branch d x.c x.a p x.b) x.stands)
+          (subst (λ t. ClimbState n v v root x.fs t []) (fork_branch d x.c x.a p x.b) x.stands)
 
       below_low : (d : Side) → height (plug (frame d x.c p (choose (across d) x.a x.b) ∷ x.fs) (choose d x.a x.b)) < turns
-      below_low d = shown_low n (below_stands d) (subst (λ t. IsRight (plug x.fs t)) (fork_branch d x.c x.a p x.b) x.right)
+      below_low d = represented_low n (below_stands d) (subst (λ t. IsRight (plug x.fs t)) (fork_branch d x.c x.a p x.b) x.right)
 
-      pub below_can : (d : Side) {q : Place} → child_on d (n (v.entry p)) ≡ Some q → StandsAt n v q
+      pub below_can : (d : Side) {q : Place} → child_on d (n (v.entry p)) ≡ Some q → IsInTree n v q
       below_can d is = (v, root, frame d x.c p (choose (across d) x.a x.b) ∷ x.fs, choose d x.a x.b, [], below_stands d, sym (child_is d) ∙ is)
 
       -- beside it is the outermost member below its child there,
@@ -91,42 +88,42 @@ module _ {E : Type 0} (n : E → Node) where
       above_end : (d : Side) {r : Option Place} → child_on d (n (v.entry p)) ≡ None → IsNearestAboveWithin n v p d r → r ≡ nearest d (choose d front back)
       above_end d none nearest_above =
           let bare : choose d x.a x.b ≡ leaf = top_leaf (choose d x.a x.b) (sym (child_is d) ∙ none) in
-          nearest_above v root x.fs (fork x.c x.a p x.b) [] x.stands refl (shown_low n x.stands x.right)
+          nearest_above v root x.fs (fork x.c x.a p x.b) [] x.stands refl (represented_low n x.stands x.right)
           ∙ sym (nearest_nothing d (nearest d (beyond d x.fs)))
           ∙ ap (λ t. nearest_or d (in_order t) (nearest d (beyond d x.fs))) (sym bare)
           ∙ sym (nearest_around d x.fs x.a x.b front back x.front_is x.back_is)
 
     -- A STEP, beside a gap: from null to the end of the tree on the other side,
-    module _ (d : Side) (gap : Cut) (shown : Shows n v root (join gap)) where
+    module _ (d : Side) (gap : Cut) (shown : Represents n v root (join gap)) where
       pub null_step : {o : Option Place} → IsBeside d gap None → o ≡ nearest d (join gap) → IsBeside (across d) gap o
       null_step {o} here end = is_beside d gap o (end ∙ sym (ap (nearest d) (beside_null d gap here)))
 
-      -- in front of which there is a hole,
-      pub null_end : {k : Side} {r y : Place} → k ≡ across d → IsBeside d gap None → root ≡ Some r → IsOutermostWithin n v r k y → IsHole n v (Some y) k gap
+      -- before which there is a hole,
+      pub null_end : {k : Side} {r y : Place} → k ≡ across d → IsBeside d gap None → root ≡ Some r → IsOutermostWithin n v r k y → IsInsertPos n v (Some y) k gap
       null_end {k} {r} {y} other here is outermost =
           let e = root_end (across d) shown is (subst (λ z. IsOutermostWithin n v r z y) other outermost) in
-          subst (λ z. IsHole n v (Some y) z gap) (sym other)
+          subst (λ z. IsInsertPos n v (Some y) z gap) (sym other)
           (e.1, is_beside d gap (Some y) (sym (ap (nearest d) (beside_null d gap here) ∙ sym (nearest_twice d (join gap)) ∙ e.0)))
 
       -- from a member the outermost one below its child,
-      pub member_end : {k : Side} (p : Place) {q y : Place} → k ≡ across d → IsBeside d gap (Some p) → child_on d (n (v.entry p)) ≡ Some q → IsOutermostWithin n v q k y → IsHole n v (Some y) k gap
+      pub member_end : {k : Side} (p : Place) {q y : Place} → k ≡ across d → IsBeside d gap (Some p) → child_on d (n (v.entry p)) ≡ Some q → IsOutermostWithin n v q k y → IsInsertPos n v (Some y) k gap
       member_end {k} p {q} {y} other here is outermost =
           let m = beside_member d gap p here in
-          let x = spot n m.0 p m.1 (shown_of n (subst (λ s. Shows n v root s) m.2 shown)) in
+          let x = spot n m.0 p m.1 (represented_of n (subst (λ s. Represents n v root s) m.2 shown)) in
           let e = below_end x d is (subst (λ z. IsOutermostWithin n v q z y) other outermost) in
-          subst (λ z. IsHole n v (Some y) z gap) (sym other) (e.1, is_beside d gap (Some y) (sym (ap (nearest d) m.3 ∙ e.0)))
+          subst (λ z. IsInsertPos n v (Some y) z gap) (sym other) (e.1, is_beside d gap (Some y) (sym (ap (nearest d) m.3 ∙ e.0)))
 
       -- or the nearest above
       pub member_above : (p : Place) {r : Option Place} → IsBeside d gap (Some p) → child_on d (n (v.entry p)) ≡ None → IsNearestAboveWithin n v p d r → IsBeside (across d) gap r
       member_above p {r} here none nearest_above =
           let m = beside_member d gap p here in
-          let x = spot n m.0 p m.1 (shown_of n (subst (λ s. Shows n v root s) m.2 shown)) in
+          let x = spot n m.0 p m.1 (represented_of n (subst (λ s. Represents n v root s) m.2 shown)) in
           is_beside d gap r (above_end x d none nearest_above ∙ sym (ap (nearest d) m.3))
 
       -- in an empty tree null is beside null,
       pub null_alone : IsBeside d gap None → root ≡ None → IsBeside (across d) gap None
-      null_alone here is = null_step here (sym (ap (nearest d) (no_root (subst (λ o. Shows n v o (join gap)) is shown)) ∙ nearest_plain d [] ∙ nearest_nothing d None))
+      null_alone here is = null_step here (sym (ap (nearest d) (no_root (subst (λ o. Represents n v o (join gap)) is shown)) ∙ nearest_plain d [] ∙ nearest_nothing d None))
 
       -- and there is a hole
-      pub null_hole : IsBeside d gap None → root ≡ None → IsHole n v None d gap
-      null_hole here is = nothing_both gap.front gap.back (no_root (subst (λ o. Shows n v o (join gap)) is shown))
+      pub null_hole : IsBeside d gap None → root ≡ None → IsInsertPos n v None d gap
+      null_hole here is = nothing_both gap.front gap.back (no_root (subst (λ o. Represents n v o (join gap)) is shown))

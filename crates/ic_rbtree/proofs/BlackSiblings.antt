@@ -1,17 +1,16 @@
 -- A black sibling: one of its children comes up, or it turns red.
 use Rattle.std.proofs.Common.{◌≡◌, ◌⊎◌, inl, inr, Bool, true, false, ◌||◌, Option, Some, List, ◌∷◌, refl, sym, ap, ◌∙◌, subst}
-use Rattle.ic_unsafe_ref.specs.declared.place.Place.{Place}
+use Rattle.ic_link_ops.specs.Prelude.{Place, Table, ChangesOnly}
 use Rattle.ic_link_ops.specs.declared.color.Color.{Color}
 use Rattle.ic_link_ops.specs.declared.color.Color.TheVariants.{Red, Black}
 use Rattle.ic_link_ops.specs.declared.side.Side.{Side}
 use Rattle.ic_link_ops.specs.declared.side.Side.TheVariants.{Left, Right}
-use Rattle.ic_link_ops.specs.Tables.{Table, ChangesOnly}
 use Rattle.ic_link_ops.specs.Trees.{Tree, leaf, fork, top, in_order}
 use Rattle.ic_link_ops.specs.Shape.{top_color}
 use Rattle.ic_link_ops.specs.RedBlackTree.{Node, IsTree}
 use Rattle.ic_link_ops.specs.Frames.{Frame, frame, branch, plug, above, IsAtSide, across, child_on}
 use Rattle.ic_link_ops.proofs.SequenceLemmas.{none_not, some_same}
-use Rattle.ic_rbtree.specs.Pieces.{Stands}
+use Rattle.ic_rbtree.specs.Pieces.{ClimbState}
 use Rattle.ic_rbtree.specs.Focus.{Focus, IsRestored}
 use Rattle.ic_rbtree.specs.Steps.{Rotates}
 use Rattle.ic_rbtree.specs.Shortage.{IsShort}
@@ -131,11 +130,11 @@ module _ {E : Type 0} (n : E → Node) where
         near_open = subst (λ (x : Tree). ShortAt n v root q d c (branch d Black x w sib_open.1) k)
             (near_red.3 ∙ ap (λ (x : Place). branch d Red near_red.0 x near_red.2) is) opened
 
-        ready : Stands n k.base v root (frame (across d) c q k.subtree ∷ k.frames) (branch (across d) Black sib_open.1 w (branch (across d) Red near_red.2 z near_red.0)) k.pieces
+        ready : ClimbState n k.base v root (frame (across d) c q k.subtree ∷ k.frames) (branch (across d) Black sib_open.1 w (branch (across d) Red near_red.2 z near_red.0)) k.pieces
         ready =
             let r = near_red in
             let b = sib_open.1 in
-            subst (λ (x : Tree). Stands n k.base v root (frame (across d) c q k.subtree ∷ k.frames) x k.pieces)
+            subst (λ (x : Tree). ClimbState n k.base v root (frame (across d) c q k.subtree ∷ k.frames) x k.pieces)
             (sym (branch_across d Black (branch d Red r.0 z r.2) w b) ∙ ap (λ (x : Tree). branch (across d) Black b w x) (sym (branch_across d Red r.0 z r.2)))
             (go_across n near_open.stands)
 
@@ -150,9 +149,9 @@ module _ {E : Type 0} (n : E → Node) where
             let up : List Frame = frame (across d) c q k.subtree ∷ k.frames in
             let back : branch (across d) Black (branch (across d) Red b w r.2) z r.0 ≡ low =
             branch_across d Black r.0 z (branch (across d) Red b w r.2) ∙ ap (λ (x : Tree). branch d Black r.0 z x) (branch_across d Red r.2 w b) in
-            let h1 = go_across n (subst (λ (x : Tree). Stands n k.base y new_root up x k.pieces) back (rot k.base up (turn Black b Red r.2 z r.0) k.pieces refl ready)) in
+            let h1 = go_across n (subst (λ (x : Tree). ClimbState n k.base y new_root up x k.pieces) back (rot k.base up (turn Black b Red r.2 z r.0) k.pieces refl ready)) in
             let whole : ShortAt n y new_root q d c low k = record {
-              stands = subst (λ (x : Side). Stands n k.base y new_root (frame x c q low ∷ k.frames) k.subtree k.pieces) (across_twice d) h1;
+              stands = subst (λ (x : Side). ClimbState n k.base y new_root (frame x c q low ∷ k.frames) k.subtree k.pieces) (across_twice d) h1;
               short = short_turned k.frames d c q r.0 z r.2 w b k.subtree near_open.short (black_is (top_color b) far);
               order = order_plug k.frames (branch d c k.subtree q low) (branch d c k.subtree q (branch d Black (branch d Red r.0 z r.2) w b))
                   (order_branch d c c k.subtree k.subtree q low (branch d Black (branch d Red r.0 z r.2) w b) refl order) ∙ near_open.order;
@@ -175,13 +174,13 @@ module _ {E : Type 0} (n : E → Node) where
         (subst (λ (y : Option Place). IsAtSide n v.entry d q c (top k.subtree) y (above k.frames)) (top_branch d Black l.near w (far_child Red)) (parent_at n l.at))
 
     module _ {v1 : Table E} (g : Place) (eg : g ≡ l.far) (set1 : n (v1.entry g) ≡ record (n (v.entry g)) { color = Black }) (only1 : ChangesOnly v v1 g) where
-      far_ready : Stands n k.base v1 root k.frames (branch d c k.subtree q (branch d Black l.near w (far_child Black))) k.pieces
+      far_ready : ClimbState n k.base v1 root k.frames (branch d c k.subtree q (branch d Black l.near w (far_child Black))) k.pieces
       far_ready =
           let up : List Frame = frame (across d) c q k.subtree ∷ k.frames in
           let h1 = go_across n (go_down n d Black w (far_child Red) l.near (go_across n l.at.stands)) in
           let h2 = painted_top n Left Red l.left l.far l.right eg refl set1 only1 h1 in
-          let h3 = subst (λ (y : Tree). Stands n k.base v1 root up y k.pieces) (branch_across d Black l.near w (far_child Black)) (go_up n h2) in
-          subst (λ (y : Tree). Stands n k.base v1 root k.frames y k.pieces) (branch_across d c k.subtree q (branch d Black l.near w (far_child Black))) (go_up n h3)
+          let h3 = subst (λ (y : Tree). ClimbState n k.base v1 root up y k.pieces) (branch_across d Black l.near w (far_child Black)) (go_up n h2) in
+          subst (λ (y : Tree). ClimbState n k.base v1 root k.frames y k.pieces) (branch_across d c k.subtree q (branch d Black l.near w (far_child Black))) (go_up n h3)
 
       pub far_rotated : {y : Table E} {new_root : Option Place} (x : Color) → x ≡ c → Rotates n v1 y root new_root q w d Black x → IsRestored n y new_root k
       far_rotated {y} {new_root} x ex rot' =
@@ -204,13 +203,13 @@ module _ {E : Type 0} (n : E → Node) where
         let r = none_red d Black o.0 w o.1 (ap red_child (sym o.2) ∙ none) in (black_is (top_color o.0) r.0, black_is (top_color o.1) r.1)
 
     module _ {v1 : Table E} (set1 : n (v1.entry w) ≡ record (n (v.entry w)) { color = Red }) (only1 : ChangesOnly v v1 w) where
-      reddened : Stands n k.base v1 root (frame d c q (branch d Red (sib_open h).0 w (sib_open h).1) ∷ k.frames) k.subtree k.pieces
+      reddened : ClimbState n k.base v1 root (frame d c q (branch d Red (sib_open h).0 w (sib_open h).1) ∷ k.frames) k.subtree k.pieces
       reddened =
           let o = sib_open h in
           let h1 = go_across n (opened h).stands in
           let h2 = painted_top n d Black o.0 w o.1 refl refl set1 only1 h1 in
           let h3 = go_across n h2 in
-          subst (λ (x : Side). Stands n k.base v1 root (frame x c q (branch d Red o.0 w o.1) ∷ k.frames) k.subtree k.pieces) (across_twice d) h3
+          subst (λ (x : Side). ClimbState n k.base v1 root (frame x c q (branch d Red o.0 w o.1) ∷ k.frames) k.subtree k.pieces) (across_twice d) h3
 
       pub color_then : (r : Bool) → r ≡ red_at n v1 (Some q) → r ≡ is_red c
       color_then r e = let o = sib_open h in

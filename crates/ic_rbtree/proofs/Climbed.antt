@@ -1,28 +1,25 @@
 -- Membership by a climb: a path down a tree is short, and what a member's readings name is a member.
 use Rattle.std.proofs.Common.{◌≡◌, ℕ, ◌+◌, ◌^◌, ◌≤◌, true, Option, Some, None, List, [], ◌∷◌, length, refl, sym, ap, ◌∙◌, subst, arith, inl, inr, ◌⊎◌, eq-eqb}
-use Rattle.ic_unsafe_ref.specs.declared.place.Place.{Place}
-use Rattle.ic_unsafe_ref.specs.Places.{index_of}
+use Rattle.ic_link_ops.specs.Prelude.{Place, index_of, IsMember, Table, IsCovered}
 use Rattle.ic_link_ops.specs.declared.color.Color.{Color}
-use Rattle.ic_link_ops.specs.Sequences.{IsMember}
-use Rattle.ic_link_ops.specs.Tables.{Table, IsCovered}
 use Rattle.ic_link_ops.specs.Walk.{is_end}
 use Rattle.ic_link_ops.specs.Trees.{Tree, fork, top, in_order}
 use Rattle.ic_link_ops.specs.Shape.{IsRight}
-use Rattle.ic_link_ops.specs.RedBlackTree.{Node, Shows}
+use Rattle.ic_link_ops.specs.RedBlackTree.{Node, Represents}
 use Rattle.ic_link_ops.specs.Frames.{Frame, frame, branch, plug, above, child_on}
 use Rattle.ic_link_ops.specs.declared.side.Side.{Side}
 use Rattle.ic_link_ops.specs.declared.side.Side.TheVariants.{Left, Right}
 use Rattle.ic_link_ops.proofs.SequenceLemmas.{none_not, member_split}
-use Rattle.ic_link_ops.proofs.ShownTrees.{left_member, right_member}
+use Rattle.ic_link_ops.proofs.RepresentedTrees.{left_member, right_member}
 use Rattle.ic_link_ops.proofs.Trees.{top_parent}
 use Rattle.ic_link_ops.proofs.Walks.{few_places}
 use Rattle.ic_rbtree.specs.Height.{height}
 use Rattle.ic_rbtree.specs.Members.{HasChild}
-use Rattle.ic_rbtree.specs.Pieces.{Stands}
+use Rattle.ic_rbtree.specs.Pieces.{ClimbState}
 use Rattle.ic_rbtree.proofs.Heights.{looks_few, exponent_small}
 use Rattle.ic_rbtree.proofs.Outermost.{framed}
 use Rattle.ic_rbtree.proofs.Branches.{top_branch}
-use Rattle.ic_rbtree.proofs.Removing.{spot, shown_of, order_around}
+use Rattle.ic_rbtree.proofs.Removing.{spot, represented_of, order_around}
 
 -- an end is where it is
 pub is_end_there : {end : Option Place} {p : Place} → end ≡ Some p → is_end end p ≡ true
@@ -33,11 +30,11 @@ module _ {E : Type 0} (n : E → Node) where
   pub record Climbs (v : Table E) (root : Option Place) (p : Place) (steps : ℕ) : Type 0 where
     pub fs : List Frame
     pub t : Tree
-    pub stands : Stands n v v root fs t []
+    pub stands : ClimbState n v v root fs t []
     pub top_is : top t ≡ Some p
     pub few : length fs + steps ≤ 65
 
-  module _ {v : Table E} {root : Option Place} {s : List Place} (shown : Shows n v root s) where
+  module _ {v : Table E} {root : Option Place} {s : List Place} (shown : Represents n v root s) where
     -- NO PATH IS LONG
     pub path_few : (fs : List Frame) (t : Tree) (looks : ℕ) → plug fs t ≡ shown.tree → looks ≤ length fs + height t → looks ≤ 66
     path_few fs t looks same high =
@@ -50,8 +47,8 @@ module _ {E : Type 0} (n : E → Node) where
     pub starts : {p : Place} → IsMember p s → Climbs v root p 0
     starts {p} member =
         let m = member_split p s member in
-        let h = subst (λ z. Shows n v root z) m.2 shown in
-        let x = spot n m.0 p m.1 (shown_of n h) in
+        let h = subst (λ z. Represents n v root z) m.2 shown in
+        let x = spot n m.0 p m.1 (represented_of n h) in
         let few : length x.fs + 1 ≤ 66 = long x.fs x.c x.a x.b x.right (order_around x.fs x.c x.a p x.b m.0 m.1 x.front_is x.back_is ∙ sym m.2) in
         record { fs = x.fs; t = fork x.c x.a p x.b; stands = x.stands; top_is = refl; few = omega (arith, few) }
       where
@@ -85,6 +82,6 @@ module _ {E : Type 0} (n : E → Node) where
     -- a member without a parent is the root
     pub at_root : {p : Place} {steps : ℕ} → Climbs v root p steps → (n (v.entry p)).parent ≡ None → root ≡ Some p
     at_root {p} k none = by k.fs k.stands (sym (top_parent n v.entry (above k.fs) k.t p k.stands.are.1.0 k.top_is) ∙ none) where
-      by : (fs : List Frame) → Stands n v v root fs k.t [] → above fs ≡ None → root ≡ Some p
+      by : (fs : List Frame) → ClimbState n v v root fs k.t [] → above fs ≡ None → root ≡ Some p
       by [] h e = h.are.0.1 ∙ k.top_is
       by (frame d c q b ∷ fs) h e = absurd (none_not q (sym e))

@@ -1,16 +1,14 @@
 -- A tree is cut at a hole, from there up.
 use Rattle.std.proofs.Common.{◌≡◌, ℕ, ◌+◌, ◌-◌, ◌<◌, Option, Some, None, List, [], ◌∷◌, ◌++◌, refl, sym, ap, ◌∙◌, subst, arith, append-nil, append_assoc}
-use Rattle.ic_unsafe_ref.specs.declared.place.Place.{Place}
+use Rattle.ic_link_ops.specs.Prelude.{Place, Cut, join, Table, ChangesOnly}
 use Rattle.ic_link_ops.specs.declared.color.Color.{Color}
 use Rattle.ic_link_ops.specs.declared.color.Color.TheVariants.{Black}
 use Rattle.ic_link_ops.specs.declared.side.Side.{Side}
 use Rattle.ic_link_ops.specs.declared.side.Side.TheVariants.{Left, Right}
 use Rattle.ic_link_ops.specs.Edits.{Splits}
 use Rattle.ic_link_ops.specs.Frames.{Frame, frame, above, before, after, across, child_on, IsAround}
-use Rattle.ic_link_ops.specs.RedBlackTree.{Node, Shows}
-use Rattle.ic_link_ops.specs.Sequences.{Cut, join}
+use Rattle.ic_link_ops.specs.RedBlackTree.{Node, Represents}
 use Rattle.ic_link_ops.specs.Shape.{weight, NoRedPair, IsEven, IsRight}
-use Rattle.ic_link_ops.specs.Tables.{Table, ChangesOnly}
 use Rattle.ic_link_ops.specs.Times.{times, times_in, times_around}
 use Rattle.ic_link_ops.specs.Trees.{Tree, leaf, fork, top, in_order}
 use Rattle.ic_link_ops.proofs.SequenceLemmas.{none_not, some_same}
@@ -19,10 +17,10 @@ use Rattle.ic_link_ops.proofs.Trees.{leaf_is}
 use Rattle.ic_rbtree.specs.Closed.{IsNode, IsNamed}
 use Rattle.ic_rbtree.specs.Cuts.{CutUp, IsCutUp, IsCutBelow, IsCutting, Detaches, AreCutApart}
 use Rattle.ic_rbtree.specs.Height.{turns}
-use Rattle.ic_rbtree.specs.Insertion.{blackened, IsHole}
+use Rattle.ic_rbtree.specs.Insertion.{blackened, IsInsertPos}
 use Rattle.ic_rbtree.specs.declared.join.roots.Measured.{Measured}
 use Rattle.ic_rbtree.specs.Join.{IsMeasured, Pair, AreMeasured, IsJoined}
-use Rattle.ic_rbtree.specs.Pieces.{Piece, loose, below, around, Held, Stands, Shown}
+use Rattle.ic_rbtree.specs.Pieces.{Piece, loose, below, around, Held, ClimbState, Represented}
 use Rattle.ic_rbtree.specs.Removal.{IsOn}
 use Rattle.ic_rbtree.specs.Steps.{IsSideOf}
 use Rattle.ic_rbtree.proofs.Attaching.{hole}
@@ -32,7 +30,7 @@ use Rattle.ic_rbtree.proofs.Spine.{weight_small, at_root}
 use Rattle.ic_rbtree.proofs.Pieces.{regroup, set_parent_and_color}
 use Rattle.ic_rbtree.proofs.RemovalShapes.{shape_open}
 use Rattle.ic_rbtree.proofs.InsertionShapes.{red_not_black}
-use Rattle.ic_rbtree.proofs.Removing.{shows_of}
+use Rattle.ic_rbtree.proofs.Removing.{represents_of}
 use Rattle.ic_rbtree.proofs.Rotations.{below_linked, around_linked, open_below, close_below, times_top}
 
 -- a black root changes neither the members nor their root
@@ -224,11 +222,11 @@ module _ {E : Type 0} (n : E → Node) where
     next_side i tells = side_there v fs i p here.held.are.0.0.2 (omega (arith, here.held.once p, one_at_self p)) tells
 
   -- FROM A HOLE of a tree
-  pub begins : {base v : Table E} {root : Option Place} {d : Side} {gap : Cut} {ps : List Piece} (parent : Option Place) → Shown n base v root (join gap) ps → IsHole n v parent d gap
+  pub begins : {base v : Table E} {root : Option Place} {d : Side} {gap : Cut} {ps : List Piece} (parent : Option Place) → Represented n base v root (join gap) ps → IsInsertPos n v parent d gap
       → IsCutting n base v root parent d 0 nothing nothing gap ps turns
   begins {base} {v} {root} {d} {gap} {ps} None h at =
       let none : h.tree ≡ leaf = leaf_is h.tree (h.order ∙ (ap (λ (s : List Place). s ++ gap.back) at.0 ∙ at.1)) in
-      let st = subst (λ (t : Tree). Stands n base v root [] t ps) none h.stands in (
+      let st = subst (λ (t : Tree). ClimbState n base v root [] t ps) none h.stands in (
         [],
         None,
         0,
@@ -298,11 +296,11 @@ module _ {E : Type 0} (n : E → Node) where
     }
     at (frame i c p b ∷ fs) x = absurd (none_not p (sym is ∙ x.parent_is))
 
-  -- and both are shown
-  pub splits : {v w : Table E} {root left right : Option Place} {gap : Cut} → Shows n v root (join gap) → AreCutApart n v w left right gap [] → Splits (Shows n) v w left right gap.front gap.back
+  -- and both are represented
+  pub splits : {v w : Table E} {root left right : Option Place} {gap : Cut} → Represents n v root (join gap) → AreCutApart n v w left right gap [] → Splits (Represents n) v w left right gap.front gap.back
   splits {v} {w} {root} {left} {right} {gap} h x = record {
-    keeps = shows_of n front_shown;
-    hands_out = shows_of n back_shown;
+    keeps = represents_of n front_represented;
+    hands_out = represents_of n back_represented;
     frame = record {
       extent = x.held.extent;
       others = λ q out.
@@ -311,16 +309,16 @@ module _ {E : Type 0} (n : E → Node) where
           x.held.beside q (omega (arith, a, b, times_append q gap.front gap.back, absent_times q (gap.front ++ gap.back) out));
     };
   } where
-    front_shown : Shown n v w left gap.front (below None x.back ∷ [])
-    front_shown = record {
+    front_represented : Represented n v w left gap.front (below None x.back ∷ [])
+    front_represented = record {
       tree = x.front;
       stands = regroup n (around left [] (top x.front) ∷ below None x.front ∷ below None x.back ∷ []) x.held (λ q. omega arith) ((tt, x.left_is), x.held.are);
       order = x.front_is;
       shape = x.front_right;
     }
 
-    back_shown : Shown n v w right gap.back (below None x.front ∷ [])
-    back_shown = record {
+    back_represented : Represented n v w right gap.back (below None x.front ∷ [])
+    back_represented = record {
       tree = x.back;
       stands = regroup n (around right [] (top x.back) ∷ below None x.back ∷ below None x.front ∷ []) x.held (λ q. omega arith)
           ((tt, x.right_is), (x.held.are.1.0, (x.held.are.0, tt)));

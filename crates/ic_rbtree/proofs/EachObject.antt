@@ -4,12 +4,8 @@ use Rattle.std.proofs.lemmas.Cmp.{nat_cmp_total}
 use Rattle.std.proofs.lemmas.List.Elements.{filter_map-append}
 use Rattle.std.specs.List.{AllByRecursion, cons_option}
 use Rattle.std.specs.Ordering.{nat_cmp}
-use Rattle.ic_unsafe_ref.specs.declared.place.Place.{Place}
-use Rattle.ic_unsafe_ref.specs.Objects.{Objects, Places, Frees, object_at, is_placed}
+use Rattle.ic_link_ops.specs.Prelude.{Place, Objects, Places, Frees, object_at, is_placed, IsAbsent, IsLinked, IsUnlinked, LinksAlso, Unlinks, ArePlaced, RepresentsPlaced, StandAt, values_at}
 use Rattle.ic_unsafe_ref.proofs.Placing.{placed_there, others_placed, gone_there, others_left}
-use Rattle.ic_link_ops.specs.PlacedObjects.{ArePlaced, ShowsPlaced, StandAt, values_at}
-use Rattle.ic_link_ops.specs.Sequences.{IsAbsent}
-use Rattle.ic_link_ops.specs.Tables.{IsLinked, IsUnlinked, LinksAlso, Unlinks}
 use Rattle.ic_link_ops.proofs.Each.{all_back, all_without}
 use Rattle.ic_link_ops.proofs.LinkedSets.{everywhere}
 use Rattle.ic_link_ops.proofs.PlacedValues.{all_beside, values_beside, stand_put}
@@ -17,7 +13,7 @@ use Rattle.ic_link_ops.proofs.SequenceLemmas.{absent_left, absent_right, absent_
 use Rattle.ic_rbtree.specs.Borders.{IsSorted}
 use Rattle.ic_rbtree.specs.Comparing.{compared, own_order}
 use Rattle.ic_rbtree.specs.Ordered.{InsertsInOrder}
-use Rattle.ic_rbtree.specs.PlainTrees.{TreeLinkOps, ShowsTree, PlainShows, is_linked, plain_table}
+use Rattle.ic_rbtree.specs.PlainTrees.{TreeLinkOps, RepresentsTree, PlainRepresents, is_linked, plain_table}
 use Rattle.ic_rbtree.specs.SortedValues.{HasSorted, InsertsValue}
 use Rattle.ic_rbtree.proofs.PlainTrees.{plain_trees}
 use Rattle.ic_rbtree.proofs.SortedValues.{has_none, has_covered, has_beside, has_inserted}
@@ -41,13 +37,13 @@ module _ {V A : Type 0} {key_of : V → ℕ} {w : TreeLinkOps A} {root : Option 
     pub vacant_free : (p : Place) → object_at objects p ≡ None → IsUnlinked is_linked (plain_table w) p
     vacant_free p vacant = each.exact p ∙ ap is_some vacant
 
-    pub each_ready : {more : Objects V} {p : Place} {r : V} → Places objects more p r → ShowsPlaced (PlainShows w root) more
+    pub each_ready : {more : Objects V} {p : Place} {r : V} → Places objects more p r → RepresentsPlaced (PlainRepresents w root) more
     each_ready {more} {p} places =
         let has = has_beside plain_trees nat_cmp_total each.sorted {new = more} (vacant_free p places.vacant) (others_placed places) in record { members = has.members; shown = has.shown; placed = has.stand.placed }
 
     -- A NEW OBJECT, inserted in order
     pub each_new : {more : Objects V} {p : Place} {r : V} {v : TreeLinkOps A} {top : Option Place} → Places objects more p r
-        → ((s : List Place) → PlainShows w root s → InsertsInOrder ShowsTree (compared (own_order nat_cmp key_of more p) more) (plain_table w) (plain_table v) top s p)
+        → ((s : List Place) → PlainRepresents w root s → InsertsInOrder RepresentsTree (compared (own_order nat_cmp key_of more p) more) (plain_table w) (plain_table v) top s p)
         → LinksAlso is_linked (plain_table w) (plain_table v) p → (all : List V) × InsertsValue nat_cmp key_of values r all × HasEach key_of v top more all
     each_new {more} {p} {r} {v} {top} places put also =
         let a = has_inserted plain_trees nat_cmp_total each.sorted places put also in (
@@ -77,7 +73,7 @@ module _ {V A : Type 0} {key_of : V → ℕ} {w : TreeLinkOps A} {root : Option 
       at_each P all = let m = each_member in (all_back P (values_at objects m.0) (out ∷ values_at objects m.1) (subst (AllByRecursion P) (each_value m.0 m.1 m.2) all)).0
 
       -- TAKEN OUT
-      module _ {new : Objects V} {v : TreeLinkOps A} {top : Option Place} (removed : (front back : List Place) → PlainShows w root (front ++ p ∷ back) → PlainShows v top (front ++ back))
+      module _ {new : Objects V} {v : TreeLinkOps A} {top : Option Place} (removed : (front back : List Place) → PlainRepresents w root (front ++ p ∷ back) → PlainRepresents v top (front ++ back))
           (off : Unlinks is_linked (plain_table w) (plain_table v) p) (frees : Frees objects new p) where
         pub each_taken : (front : List V) × (back : List V) × (values ≡ front ++ out ∷ back) × HasEach key_of v top new (front ++ back)
         each_taken = by each_member.0 each_member.1 each_member.2 where
@@ -95,10 +91,10 @@ module _ {V A : Type 0} {key_of : V → ℕ} {w : TreeLinkOps A} {root : Option 
             is : values ≡ values_at objects front ++ out ∷ values_at objects back
             is = each_value front back at
 
-            less : HasSorted nat_cmp key_of ShowsTree is_linked (plain_table v) top objects (values_at objects front ++ values_at objects back)
+            less : HasSorted nat_cmp key_of RepresentsTree is_linked (plain_table v) top objects (values_at objects front ++ values_at objects back)
             less = record {
               members = front ++ back;
-              shown = removed front back (subst (PlainShows w root) at each.sorted.shown);
+              shown = removed front back (subst (PlainRepresents w root) at each.sorted.shown);
               stand = record {
                 placed = all_without (λ q. IsSome (object_at objects q)) front p back (subst (ArePlaced objects) at each.sorted.stand.placed);
                 are = filter_map-append (object_at objects) front back;
@@ -121,7 +117,7 @@ module _ {V A : Type 0} {key_of : V → ℕ} {w : TreeLinkOps A} {root : Option 
             λ rises. record {
               sorted = record {
                 members = front ++ p ∷ back;
-                shown = subst (PlainShows w root) at each.sorted.shown;
+                shown = subst (PlainRepresents w root) at each.sorted.shown;
                 stand = subst (λ (l : List V). StandAt new (front ++ p ∷ back) (l ++ r ∷ values_at objects back)) (values_beside objects new p others front (absent_left p front back out_of))
                     (subst (λ (l : List V). StandAt new (front ++ p ∷ back) (values_at new front ++ r ∷ l)) (values_beside objects new p others back (absent_right p front back out_of)) (stand_put new p is front back placed));
                 sorted = rises;
@@ -131,7 +127,7 @@ module _ {V A : Type 0} {key_of : V → ℕ} {w : TreeLinkOps A} {root : Option 
             },
           ) where
             out_of : IsAbsent p (front ++ back)
-            out_of = distinct_middle front back p (plain_trees.distinct (plain_table w) root (front ++ p ∷ back) (subst (PlainShows w root) at each.sorted.shown))
+            out_of = distinct_middle front back p (plain_trees.distinct (plain_table w) root (front ++ p ∷ back) (subst (PlainRepresents w root) at each.sorted.shown))
 
             placed : ArePlaced new (front ++ back)
             placed = all_beside objects new p others IsSome (front ++ back) out_of (all_without (λ q. IsSome (object_at objects q)) front p back (subst (ArePlaced objects) at each.sorted.stand.placed))

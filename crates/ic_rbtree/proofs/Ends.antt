@@ -1,12 +1,10 @@
 -- A tree between its two ends: the member at one of them is taken off, and its child comes up in its place.
 use Rattle.std.proofs.Common.{◌≡◌, ◌+◌, true, Option, Some, None, List, [], ◌∷◌, ◌++◌, drop, refl, sym, ap, ◌∙◌, subst, arith, append-nil}
 use Rattle.std.specs.Option.{option_and}
-use Rattle.ic_unsafe_ref.specs.declared.place.Place.{Place}
+use Rattle.ic_link_ops.specs.Prelude.{Place, first, last, but_last, IsAbsent, Table, ChangesOnly, ChangesOnlyIn}
 use Rattle.ic_link_ops.specs.declared.color.Color.{Color}
 use Rattle.ic_link_ops.specs.declared.side.Side.{Side}
 use Rattle.ic_link_ops.specs.declared.side.Side.TheVariants.{Left, Right}
-use Rattle.ic_link_ops.specs.Sequences.{first, last, but_last, IsAbsent}
-use Rattle.ic_link_ops.specs.Tables.{Table, ChangesOnly, KeepsBeside}
 use Rattle.ic_link_ops.specs.Trees.{Tree, leaf, fork, top, in_order}
 use Rattle.ic_link_ops.specs.RedBlackTree.{Node, Holds}
 use Rattle.ic_link_ops.specs.Frames.{Frame, frame, with_child, branch, plug, above, topmost, across, child_on, before, after}
@@ -14,10 +12,10 @@ use Rattle.ic_link_ops.specs.Times.{one_at, times, times_in, times_around}
 use Rattle.ic_link_ops.proofs.Times.{one_at_self, apart, times_order, times_distinct, times_absent, absent_times, times_plug, times_branch}
 use Rattle.ic_link_ops.proofs.Frames.{focus, in_order_parts}
 use Rattle.ic_link_ops.proofs.SequenceLemmas.{none_not, some_same, first_is, split_last, last_some, but_last_of_none, first_or-append, last_or-append}
-use Rattle.ic_link_ops.proofs.ShownTrees.{holds_beside}
+use Rattle.ic_link_ops.proofs.RepresentedTrees.{holds_beside}
 use Rattle.ic_link_ops.proofs.Trees.{leaf_is}
-use Rattle.ic_rbtree.specs.Ends.{end_on, others_on, ShowsFrom, Hangs, CanDescend, IsOuter}
-use Rattle.ic_rbtree.specs.Pieces.{cell, loose, below, around, Held, Stands}
+use Rattle.ic_rbtree.specs.Ends.{end_on, others_on, RepresentsFrom, Hangs, CanDescend, IsOuter}
+use Rattle.ic_rbtree.specs.Pieces.{cell, loose, below, around, Held, ClimbState}
 use Rattle.ic_rbtree.specs.Removal.{IsOn}
 use Rattle.ic_rbtree.specs.Sides.{IsOutermost, beyond, nearest}
 use Rattle.ic_rbtree.specs.Steps.{Adopts}
@@ -111,7 +109,7 @@ module _ {E : Type 0} (n : E → Node) where
     pub fs : List Frame
     pub c : Color
     pub b : Tree
-    pub stands : Stands n v v root fs (branch d c leaf p b) []
+    pub stands : ClimbState n v v root fs (branch d c leaf p b) []
     pub bare : beyond d fs ≡ []
     pub order : in_order (plug fs (branch d c leaf p b)) ≡ w
     pub rest : in_order (plug fs b) ≡ others_on d w
@@ -127,7 +125,7 @@ module _ {E : Type 0} (n : E → Node) where
         fs = f.0;
         c = f.1;
         b = f.3;
-        stands = go_into n (top tree) f.0 (fork f.1 leaf p f.3) [] (subst (λ (x : Tree). Stands n v v (top tree) [] x []) (sym all) (stands_of n h));
+        stands = go_into n (top tree) f.0 (fork f.1 leaf p f.3) [] (subst (λ (x : Tree). ClimbState n v v (top tree) [] x []) (sym all) (stands_of n h));
         bare = none.0;
         order = ap in_order all ∙ h.order;
         rest = in_order_parts f.0 f.3 ∙ ap (λ (s : List Place). s ++ (in_order f.3 ++ after f.0)) none.0 ∙ f.6 ∙ append-nil (drop 1 w);
@@ -144,24 +142,24 @@ module _ {E : Type 0} (n : E → Node) where
         fs = f.0;
         c = f.1;
         b = f.2;
-        stands = go_into n (top tree) f.0 (fork f.1 f.2 p leaf) [] (subst (λ (x : Tree). Stands n v v (top tree) [] x []) (sym all) (stands_of n h));
+        stands = go_into n (top tree) f.0 (fork f.1 f.2 p leaf) [] (subst (λ (x : Tree). ClimbState n v v (top tree) [] x []) (sym all) (stands_of n h));
         bare = none.1;
         order = ap in_order all ∙ h.order;
         rest = in_order_parts f.0 f.2 ∙ ap (λ (s : List Place). before f.0 ++ (in_order f.2 ++ s)) none.1
             ∙ ap (λ (s : List Place). before f.0 ++ s) (append-nil (in_order f.2)) ∙ f.5;
       }
 
-  pub at_end : (v : Table E) (d : Side) (near far : Option Place) (p : Place) (w : List Place) → near ≡ Some p → ShowsFrom n d v near far w → AtEnd v d p w
+  pub at_end : (v : Table E) (d : Side) (near far : Option Place) (p : Place) (w : List Place) → near ≡ Some p → RepresentsFrom n d v near far w → AtEnd v d p w
   at_end v Left near far p w is h = at_front h.tree p w h.held (sym is ∙ h.starts)
   at_end v Right near far p w is h = at_back h.tree p w h.held (sym h.ends ∙ is)
 
   -- the near end is the member at that end
-  pub near_is : (v : Table E) (d : Side) (near far : Option Place) (w : List Place) → ShowsFrom n d v near far w → near ≡ end_on d w
+  pub near_is : (v : Table E) (d : Side) (near far : Option Place) (w : List Place) → RepresentsFrom n d v near far w → near ≡ end_on d w
   near_is v Left near far w h = h.starts
   near_is v Right near far w h = h.ends
 
-  pub none_left : (v : Table E) (d : Side) (near far : Option Place) (w : List Place) → near ≡ None → ShowsFrom n d v near far w → ShowsFrom n d v near far (others_on d w)
-  none_left v d near far w is h = subst (λ (s : List Place). ShowsFrom n d v near far s) (sym (none_others d w (sym (near_is v d near far w h) ∙ is))) h
+  pub none_left : (v : Table E) (d : Side) (near far : Option Place) (w : List Place) → near ≡ None → RepresentsFrom n d v near far w → RepresentsFrom n d v near far (others_on d w)
+  none_left v d near far w is h = subst (λ (s : List Place). RepresentsFrom n d v near far s) (sym (none_others d w (sym (near_is v d near far w h) ∙ is))) h
 
   module _ {v : Table E} {d : Side} {p : Place} {w : List Place} (x : AtEnd v d p w) where
     open_end : Held n v v (cell d p x.c None (top x.b) (above x.fs) ∷ below (Some p) leaf ∷ below (Some p) x.b ∷ around x.root x.fs (Some p) ∷ [])
@@ -184,7 +182,7 @@ module _ {E : Type 0} (n : E → Node) where
 
     -- THE WRITES of taking it off
     module _ {v1 v2 : Table E} {child parent : Option Place} (ec : child ≡ top x.b) (ep : parent ≡ above x.fs) (f1 : Adopts n v v1 child parent) (f2 : Hangs n v1 v2 parent d child) where
-      pub off : Stands n v v2 (topmost x.fs (top x.b)) x.fs x.b (loose p ∷ [])
+      pub off : ClimbState n v v2 (topmost x.fs (top x.b)) x.fs x.b (loose p ∷ [])
       off =
           let h0 = open_end in
           let h1 = regroup n (below (Some p) x.b ∷ loose p ∷ around x.root x.fs (Some p) ∷ []) h0 (λ q. omega arith) (h0.are.1.1.0, (end_linked, h0.are.1.1.1)) in
@@ -198,7 +196,7 @@ module _ {E : Type 0} (n : E → Node) where
       pub off_next : (next : Option Place) → IsOuter n v2 child parent d next → next ≡ end_on d (others_on d w)
       off_next next is = is v (topmost x.fs (top x.b)) x.fs x.b (loose p ∷ []) off ec ep x.bare ∙ ap (end_on d) x.rest
 
-      off_whole : Stands n v v2 (topmost x.fs (top x.b)) [] (plug x.fs x.b) (loose p ∷ [])
+      off_whole : ClimbState n v v2 (topmost x.fs (top x.b)) [] (plug x.fs x.b) (loose p ∷ [])
       off_whole = go_top n off
 
       pub off_holds : {v3 : Table E} → ChangesOnly v2 v3 p → Holds n v3 (plug x.fs x.b) (others_on d w)
@@ -212,7 +210,7 @@ module _ {E : Type 0} (n : E → Node) where
           times_absent p (in_order (plug x.fs x.b)) (omega (arith, off_whole.once p, one_at_self p, times_order p (plug x.fs x.b))) in
           subst (λ (s : List Place). Holds n v3 (plug x.fs x.b) s) x.rest (holds_beside h out only.others)
 
-      pub off_frame : {v3 : Table E} → ChangesOnly v2 v3 p → KeepsBeside v v3 w
+      pub off_frame : {v3 : Table E} → ChangesOnly v2 v3 p → ChangesOnlyIn v v3 w
       off_frame {v3} only = record {
         extent = only.extent ∙ off.extent;
         others = λ q out. others q out;
@@ -226,7 +224,7 @@ module _ {E : Type 0} (n : E → Node) where
             only.others q (apart q p (omega (arith, all, parts, here))) ∙ off.beside q (omega (arith, all, parts, here))
 
   -- WHAT IS LEFT between the new ends
-  pub taken_off : {v w : Table E} (tree : Tree) (d : Side) (near far next here there : Option Place) (s : List Place) → ShowsFrom n d v near far s
-      → Holds n w tree (others_on d s) → next ≡ end_on d (others_on d s) → here ≡ next → there ≡ option_and next far → ShowsFrom n d w here there (others_on d s)
+  pub taken_off : {v w : Table E} (tree : Tree) (d : Side) (near far next here there : Option Place) (s : List Place) → RepresentsFrom n d v near far s
+      → Holds n w tree (others_on d s) → next ≡ end_on d (others_on d s) → here ≡ next → there ≡ option_and next far → RepresentsFrom n d w here there (others_on d s)
   taken_off tree Left near far next here there s h held is eh et = record { tree = tree; held = held; starts = eh ∙ is; ends = et ∙ far_front s next far is h.ends }
   taken_off tree Right near far next here there s h held is eh et = record { tree = tree; held = held; starts = et ∙ far_back s next far is h.starts; ends = eh ∙ is }

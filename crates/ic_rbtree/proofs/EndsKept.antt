@@ -1,15 +1,12 @@
 -- The ends of a sequence of which a member is taken out, or into which one is put.
 use Rattle.std.proofs.Common.{◌≡◌, ◌≢◌, true, false, cond, Option, Some, None, List, [], ◌∷◌, ◌++◌, refl, sym, ap, ◌∙◌, subst, append-nil, append_assoc, eqb-true, drop}
 use Rattle.std.specs.Option.{option_or, option_and}
-use Rattle.ic_unsafe_ref.specs.declared.place.Place.{Place}
-use Rattle.ic_unsafe_ref.specs.Places.{index_of}
+use Rattle.ic_link_ops.specs.Prelude.{Place, index_of, Cut, join, insert, first, last, but_last, IsAbsent, IsDistinct, Table}
 use Rattle.ic_unsafe_ref.proofs.PlaceLemmas.{same_index}
 use Rattle.ic_link_ops.specs.declared.side.Side.{Side}
 use Rattle.ic_link_ops.specs.declared.side.Side.TheVariants.{Left, Right}
 use Rattle.ic_link_ops.specs.Frames.{across}
-use Rattle.ic_link_ops.specs.RedBlackTree.{Node, Shows}
-use Rattle.ic_link_ops.specs.Sequences.{Cut, join, insert, first, last, but_last, IsAbsent, IsDistinct}
-use Rattle.ic_link_ops.specs.Tables.{Table}
+use Rattle.ic_link_ops.specs.RedBlackTree.{Node, Represents}
 use Rattle.ic_link_ops.specs.Walk.{is_end}
 use Rattle.ic_link_ops.proofs.SequenceLemmas.{none_not, some_same, absent_right, distinct_right, first_is, split_last, last_not, last_or-append, last_of_push, last_some}
 use Rattle.ic_link_ops.proofs.Walks.{is_end_not}
@@ -23,27 +20,27 @@ ends_there : (end : Option Place) (p : Place) → is_end end p ≡ true → end 
 ends_there None p e = cc
 ends_there (Some q) p e = ap (λ (z : Place). Some z) (same_index q p (eqb-true (index_of q) (index_of p) e))
 
--- nothing stands in front of the first, and nothing behind the last
+-- nothing stands before the first, and nothing after the last
 none_before : (front back : List Place) (p : Place) → IsDistinct (front ++ p ∷ back) → Some p ≡ first (front ++ p ∷ back) → front ≡ []
 none_before [] back p d e = refl
 none_before (x ∷ front) back p d e = absurd ((absent_right x front (p ∷ back) d.0).0 (sym (some_same e)))
 
-none_behind : (front back : List Place) (p : Place) → IsDistinct (front ++ p ∷ back) → Some p ≡ last (front ++ p ∷ back) → back ≡ []
-none_behind front [] p d e = refl
-none_behind front (y ∷ back) p d e =
+none_after : (front back : List Place) (p : Place) → IsDistinct (front ++ p ∷ back) → Some p ≡ last (front ++ p ∷ back) → back ≡ []
+none_after front [] p d e = refl
+none_after front (y ∷ back) p d e =
     let out : IsAbsent p (y ∷ back) = (distinct_right front (p ∷ y ∷ back) d).0 in
     absurd (last_not (Some y) back p (λ k. out.0 (sym (some_same k))) out.1 (sym (last_or-append None front (p ∷ y ∷ back)) ∙ sym e))
 
 -- THE END WAS TAKEN OUT: a step inwards leads to the new one
 pub end_steps : {E : Type 0} {n : E → Node} {v : Table E} {root : Option Place} (d : Side) (front back : List Place) (p : Place) {end result : Option Place}
-    → Shows n v root (front ++ p ∷ back) → end ≡ end_on d (front ++ p ∷ back) → is_end end p ≡ true
-    → ((gap : Cut) → Shows n v root (join gap) → IsBeside (across d) gap (Some p) → IsBeside (across (across d)) gap result) → result ≡ end_on d (front ++ back)
+    → Represents n v root (front ++ p ∷ back) → end ≡ end_on d (front ++ p ∷ back) → is_end end p ≡ true
+    → ((gap : Cut) → Represents n v root (join gap) → IsBeside (across d) gap (Some p) → IsBeside (across (across d)) gap result) → result ≡ end_on d (front ++ back)
 end_steps {n = n} {v} {root} Left front back p {end} h is there leads =
     let none : front ≡ [] = none_before front back p h.held.distinct (sym (ends_there end p there) ∙ is) in
-    leads (record { front = front ++ p ∷ []; back = back }) (subst (λ s. Shows n v root s) (sym (append_assoc front (p ∷ []) back)) h) (sym (last_of_push front p))
+    leads (record { front = front ++ p ∷ []; back = back }) (subst (λ s. Represents n v root s) (sym (append_assoc front (p ∷ []) back)) h) (sym (last_of_push front p))
     ∙ ap (λ f. first (f ++ back)) (sym none)
 end_steps {n = n} {v} {root} Right front back p {end} h is there leads =
-    let none : back ≡ [] = none_behind front back p h.held.distinct (sym (ends_there end p there) ∙ is) in
+    let none : back ≡ [] = none_after front back p h.held.distinct (sym (ends_there end p there) ∙ is) in
     leads (record { front = front; back = p ∷ back }) h refl ∙ ap (λ s. last s) (sym (append-nil front)) ∙ ap (λ b. last (front ++ b)) (sym none)
 
 -- another member was: the end stays
@@ -61,7 +58,7 @@ first_left (x ∷ front) back q p {end} at d is =
     let out : IsAbsent x (q ∷ drop 1 back) = subst (IsAbsent x) (first_is back at) (absent_right x front back d.0) in
     ap (λ b. cond b (Some p) end) (is_end_not end q (λ e. out.0 (some_same (sym is ∙ e)))) ∙ is
 
--- behind a member, and is not
+-- after a member, and is not
 first_right : (front back : List Place) (q p : Place) {end : Option Place} → Some q ≡ last front → end ≡ first (front ++ back) → end ≡ first (front ++ p ∷ back)
 first_right [] back q p at is = absurd (none_not q (sym at))
 first_right (x ∷ front) back q p at is = is
@@ -84,7 +81,7 @@ last_right front (y ∷ back) q p {end} at d is =
     ap (λ b. cond b (Some p) end) (is_end_not end q (λ e. last_not (Some y) back q (λ k. out.0 (sym (some_same k))) out.1 (sym there ∙ e)))
     ∙ (is ∙ last_or-append None front (y ∷ back) ∙ sym (last_or-append None front (p ∷ y ∷ back)))
 
--- in front of a member, and is not
+-- before a member, and is not
 last_left : (front back : List Place) (q p : Place) {end : Option Place} → Some q ≡ first back → end ≡ last (front ++ back) → end ≡ last (front ++ p ∷ back)
 last_left front [] q p at is = absurd (none_not q (sym at))
 last_left front (y ∷ back) q p at is = is ∙ last_or-append None front (y ∷ back) ∙ sym (last_or-append None front (p ∷ y ∷ back))
@@ -129,7 +126,7 @@ pub last_around : (s t : List Place) (p : Place) {a : Option Place} → a ≡ la
 last_around s [] p e = ap (λ z. option_or z (Some p)) e ∙ sym (last_of_push s p)
 last_around s (y ∷ t) p e = ap (λ z. option_or z (Some p)) e ∙ (or_last y t (Some p) ∙ sym (last_or-append None s (p ∷ y ∷ t)))
 
--- A SEQUENCE IS SPLIT: the first of what is in front of p, and the last of p and what is behind it
+-- A SEQUENCE IS SPLIT: the first of what is before p, and the last of p and what is after it
 first_kept : (s t : List Place) (p : Place) → option_and (last s) (first (s ++ p ∷ t)) ≡ first s
 first_kept [] t p = refl
 first_kept (x ∷ s) t p = by (last (x ∷ s)) refl where
@@ -137,8 +134,8 @@ first_kept (x ∷ s) t p = by (last (x ∷ s)) refl where
   by None e = absurd (last_some x s e)
   by (Some q) e = refl
 
-pub first_in_front : (s t : List Place) (p : Place) {a b : Option Place} → a ≡ last s → b ≡ first (s ++ p ∷ t) → option_and a b ≡ first s
-first_in_front s t p {a} {b} e f = ap (λ z. option_and z b) e ∙ ap (λ z. option_and (last s) z) f ∙ first_kept s t p
+pub first_before : (s t : List Place) (p : Place) {a b : Option Place} → a ≡ last s → b ≡ first (s ++ p ∷ t) → option_and a b ≡ first s
+first_before s t p {a} {b} e f = ap (λ z. option_and z b) e ∙ ap (λ z. option_and (last s) z) f ∙ first_kept s t p
 
 pub last_handed : (s t : List Place) (p : Place) → last (s ++ p ∷ t) ≡ last (p ∷ t)
 last_handed s t p = last_or-append None s (p ∷ t)

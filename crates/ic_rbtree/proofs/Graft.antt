@@ -1,11 +1,10 @@
 -- A place comes into a tree with another tree below it, write by write.
 use Rattle.std.proofs.Common.{◌≡◌, ◌+◌, Bool, true, Option, Some, None, List, [], ◌∷◌, ◌++◌, refl, sym, ap, ◌∙◌, subst, arith}
-use Rattle.ic_unsafe_ref.specs.declared.place.Place.{Place}
+use Rattle.ic_link_ops.specs.Prelude.{Place, Table, ChangesOnly}
 use Rattle.ic_link_ops.specs.declared.color.Color.{Color}
 use Rattle.ic_link_ops.specs.declared.color.Color.TheVariants.{Red, Black}
 use Rattle.ic_link_ops.specs.declared.side.Side.{Side}
 use Rattle.ic_link_ops.specs.declared.side.Side.TheVariants.{Left, Right}
-use Rattle.ic_link_ops.specs.Tables.{Table, ChangesOnly}
 use Rattle.ic_link_ops.specs.Trees.{Tree, top, in_order}
 use Rattle.ic_link_ops.specs.Shape.{blacks, IsRight}
 use Rattle.ic_link_ops.specs.RedBlackTree.{Node}
@@ -15,7 +14,7 @@ use Rattle.ic_link_ops.proofs.Trees.{top_parent}
 use Rattle.ic_rbtree.specs.Closed.{IsNode, IsNamed, IsSafe}
 use Rattle.ic_rbtree.specs.Insertion.{RedAt}
 use Rattle.ic_rbtree.specs.Join.{Graft, IsGraft}
-use Rattle.ic_rbtree.specs.Pieces.{Piece, cell, loose, below, around, Held, Stands, Shown}
+use Rattle.ic_rbtree.specs.Pieces.{Piece, cell, loose, below, around, Held, ClimbState, Represented}
 use Rattle.ic_rbtree.specs.Removal.{IsOn}
 use Rattle.ic_rbtree.specs.Shortage.{EvenAround}
 use Rattle.ic_rbtree.specs.Steps.{Adopts}
@@ -25,7 +24,7 @@ use Rattle.ic_rbtree.proofs.Pieces.{regroup, set_near, set_far, set_up, set_tint
 use Rattle.ic_rbtree.proofs.Removing.{order_around}
 use Rattle.ic_rbtree.proofs.InsertionShapes.{top_color_branch, blacks_branch, even_branch, pairs_branch, red_not_black, through, blacks_plug}
 use Rattle.ic_rbtree.proofs.RemovalShapes.{shape_open}
-use Rattle.ic_rbtree.proofs.ShownClosed.{among, among_there, stands_closed}
+use Rattle.ic_rbtree.proofs.RepresentedClosed.{among, among_there, stands_closed}
 use Rattle.ic_rbtree.proofs.Rotations.{below_linked, around_linked, close_below, changes_child_side}
 use Rattle.ic_rbtree.proofs.Zipper.{go_top}
 
@@ -51,7 +50,7 @@ module _ {E : Type 0} (n : E → Node) where
     pub parent_named : IsNamed n v parent
     parent_named q e = around_linked n v.entry k.frames (top k.near) q x.held.are.1.0.0 (sym x.parent_is ∙ e)
 
-    pub graft_stands : Stands n k.base v root k.frames k.near (loose p ∷ below None k.far ∷ k.pieces)
+    pub graft_stands : ClimbState n k.base v root k.frames k.near (loose p ∷ below None k.far ∷ k.pieces)
     graft_stands =
         regroup n (around root k.frames (top k.near) ∷ below (above k.frames) k.near ∷ loose p ∷ below None k.far ∷ k.pieces) x.held (λ q. omega arith)
         (x.held.are.1.0, (x.held.are.1.1.0, (x.held.are.0, x.held.are.1.1.1)))
@@ -98,10 +97,10 @@ module _ {E : Type 0} (n : E → Node) where
 
       -- at the root
       pub graft_top : c ≡ Black → parent ≡ None
-          → (h : Shown n k.base v6 (Some p) (in_order (plug k.frames (branch d Red k.far p k.near))) k.pieces) × (blacks h.tree ≡ blacks (plug k.frames k.near) + 1)
+          → (h : Represented n k.base v6 (Some p) (in_order (plug k.frames (branch d Red k.far p k.near))) k.pieces) × (blacks h.tree ≡ blacks (plug k.frames k.near) + 1)
       graft_top black none = by k.frames (sym x.parent_is ∙ none) x.right (subst (λ z. Held n k.base v6 (below (above k.frames) (branch d z k.far p k.near) ∷ around root k.frames (top k.near) ∷ k.pieces)) black graft_written) where
         by : (fs : List Frame) → above fs ≡ None → IsRight (plug fs k.near) → Held n k.base v6 (below (above fs) (branch d Black k.far p k.near) ∷ around root fs (top k.near) ∷ k.pieces)
-            → (h : Shown n k.base v6 (Some p) (in_order (plug fs (branch d Red k.far p k.near))) k.pieces) × (blacks h.tree ≡ blacks (plug fs k.near) + 1)
+            → (h : Represented n k.base v6 (Some p) (in_order (plug fs (branch d Red k.far p k.near))) k.pieces) × (blacks h.tree ≡ blacks (plug fs k.near) + 1)
         by (frame i y q b ∷ fs) e r h = absurd (none_not q (sym e))
         by [] e r h = (
           record {

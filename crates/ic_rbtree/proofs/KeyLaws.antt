@@ -6,17 +6,14 @@ use Rattle.std.specs.List.{AllByRecursion, filter, cons_option}
 use Rattle.std.specs.declared.cmp.Ordering.{Ordering}
 use Rattle.std.specs.declared.cmp.Ordering.TheVariants.{Less, Equal, Greater}
 use Rattle.std.specs.Ordering.{is_eq, is_lt, is_le, is_gt, ordering_reverse}
-use Rattle.ic_unsafe_ref.specs.declared.place.Place.{Place}
-use Rattle.ic_unsafe_ref.specs.Objects.{Objects, object_at}
-use Rattle.ic_link_ops.specs.PlacedObjects.{ArePlaced, values_at}
-use Rattle.ic_link_ops.specs.Sequences.{Cut, join, insert, first, last}
+use Rattle.ic_link_ops.specs.Prelude.{Place, Objects, object_at, Cut, join, insert, first, last, ArePlaced, values_at}
 use Rattle.ic_link_ops.proofs.SequenceLemmas.{none_not}
 use Rattle.ic_link_ops.proofs.Each.{all_both, all_map}
 use Rattle.ic_rbtree.specs.declared.keys.key_adapter.Bound.{Bound}
 use Rattle.ic_rbtree.specs.Borders.{IsBorder, IsLowerBorder, IsUpperBorder, Finds, IsSorted, IsSortedFor, equal_at, at_most_at, less_at, if_passes}
 use Rattle.ic_rbtree.specs.Comparing.{answer_at, compared, order_of, meets_lower, meets_upper, is_beyond}
 
--- a test cuts the sequence: it fails in front of a gap, and passes behind
+-- a test cuts the sequence: it fails before a gap, and passes after
 pub record Cuts (test : Place → Bool) (s : List Place) : Type 0 where
   pub front : List Place
   pub back : List Place
@@ -129,7 +126,7 @@ module _ {V K : Type 0} {cmp : K → K → Ordering} (total : IsTotalOrder cmp) 
   not_greater Equal h = refl
   not_greater Greater h = absurd (h refl)
 
-  -- no key behind a member's is less
+  -- no key after a member's is less
   follows : (k l : K) → is_gt (cmp k l) ≡ false → (o : Option V) → is_gt (answer_at (order_of cmp key_of l) o) ≡ false → is_gt (answer_at (order_of cmp key_of k) o) ≡ false
   follows k l h None e = refl
   follows k l h (Some v) e = upto total k l (key_of v) h e
@@ -144,7 +141,7 @@ module _ {V K : Type 0} {cmp : K → K → Ordering} (total : IsTotalOrder cmp) 
         all_map (λ q h. follows k (key_of v.0) here (object_at objects q) h) s (none_less (key_of v.0) s placed.1 all.1),
       )
 
-  -- what stands behind a member that is not less than the key
+  -- what stands after a member that is not less than the key
   less_on : (k l : K) → cmp k l ≡ Less → (o : Option V) → is_gt (answer_at (order_of cmp key_of l) o) ≡ false → answer_at (order_of cmp key_of k) o ≡ Less
   less_on k l h None e = refl
   less_on k l h (Some v) e = by (cmp l (key_of v)) refl e where

@@ -1,12 +1,11 @@
--- For callers: the shape of a shown tree, and how long its paths are.
+-- For callers: the shape of a represented tree, and how long its paths are.
 use Rattle.std.proofs.Common.{◌≡◌, ◌+◌, ◌^◌, ◌≤◌, Option, Some, None, List, [], ◌∷◌, length, sym, ◌∙◌, subst, arith, inl, inr}
 use Rattle.std.proofs.Math.Nat.{le_trans, le-max_left, le-max_right, pow-le-pow_right}
-use Rattle.ic_unsafe_ref.specs.declared.place.Place.{Place}
+use Rattle.ic_link_ops.specs.Prelude.{Place, Table}
 use Rattle.ic_link_ops.specs.declared.color.Color.TheVariants.{Black}
-use Rattle.ic_link_ops.specs.Tables.{Table}
 use Rattle.ic_link_ops.specs.Trees.{Tree, leaf, fork, top}
 use Rattle.ic_link_ops.specs.Shape.{top_color, IsEven, NoRedPair}
-use Rattle.ic_link_ops.specs.RedBlackTree.{Node, IsTree, Holds, Shows}
+use Rattle.ic_link_ops.specs.RedBlackTree.{Node, IsTree, Holds, Represents}
 use Rattle.ic_link_ops.proofs.SequenceLemmas.{none_not, some_same}
 use Rattle.ic_rbtree.specs.Height.{height}
 use Rattle.ic_rbtree.specs.Members.{IsPathDown}
@@ -23,7 +22,7 @@ module _ {E : Type 0} (n : E → Node) where
     pub no_red_child_of_a_red_member : NoRedPair tree
     pub equally_many_black_members : IsEven tree
 
-  pub shape : {t : Table E} {root : Option Place} {s : List Place} → Shows n t root s → HasShape t root s
+  pub shape : {t : Table E} {root : Option Place} {s : List Place} → Represents n t root s → HasShape t root s
   shape h = record {
     tree = h.tree;
     held = h.held;
@@ -49,7 +48,7 @@ module _ {E : Type 0} (n : E → Node) where
       ]
 
   -- PATHS ARE SHORT: one of v members from the root down, in a tree of m members, has 2 ^ v <= (m + 1) ^ 2
-  pub paths_are_short : {t : Table E} {root : Option Place} {s : List Place} (path : List Place) → Shows n t root s → IsPathDown n t root path → 2 ^ length path ≤ (length s + 1) ^ 2
+  pub paths_are_short : {t : Table E} {root : Option Place} {s : List Place} (path : List Place) → Represents n t root s → IsPathDown n t root path → 2 ^ length path ≤ (length s + 1) ^ 2
   paths_are_short {t} {root} {s} path h down =
       let low : 2 ^ height h.tree ≤ (length s + 1) ^ 2 = subst (λ (z : List Place). 2 ^ height h.tree ≤ (length z + 1) ^ 2) h.held.order (height_few h.tree h.shape) in
       le_trans (pow-le-pow_right (omega arith) (path_in_height t None root h.tree path h.held.entries h.starts down)) low

@@ -22,7 +22,7 @@ pub mod SidedEdits
 pub mod RedPairs
 pub mod Attaching
 pub mod Replacing
-pub mod ShownClosed
+pub mod RepresentedClosed
 pub mod Graft
 pub mod Spine
 pub mod Pairs

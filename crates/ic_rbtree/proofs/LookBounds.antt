@@ -4,15 +4,12 @@ use Rattle.std.proofs.Math.Nat.{pow-le-pow_left, pow-suc}
 use Rattle.std.proofs.Math.Pow.{pow_mono}
 use Rattle.std.specs.declared.cmp.Ordering.{Ordering}
 use Rattle.std.specs.Prelude.{IfSome, not}
-use Rattle.ic_unsafe_ref.specs.declared.place.Place.{Place}
-use Rattle.ic_unsafe_ref.specs.Objects.{Objects, is_placed}
-use Rattle.ic_link_ops.specs.PlacedObjects.{ArePlaced}
-use Rattle.ic_link_ops.specs.Sequences.{last}
+use Rattle.ic_link_ops.specs.Prelude.{Place, Objects, is_placed, last, ArePlaced}
 use Rattle.ic_link_ops.proofs.PlacedEnds.{last_placed}
 use Rattle.ic_link_ops.proofs.SequenceLemmas.{none_not, nothing_last}
 use Rattle.ic_rbtree.specs.Borders.{less_at}
-use Rattle.ic_rbtree.specs.Comparing.{HasRoom, FewLooks, Looks, compared}
-use Rattle.ic_rbtree.specs.Holes.{behind_there, looks_there}
+use Rattle.ic_rbtree.specs.Comparing.{HasRoom, WithinComparisonBound, Looks, compared}
+use Rattle.ic_rbtree.specs.Holes.{after_there, looks_there}
 use Rattle.ic_rbtree.specs.Kept.{Kept, alone, ended, last_kept, TellsEnds, HasRoomFor, InsertLooks}
 
 -- there is a member, if there is a last one
@@ -52,25 +49,25 @@ square : (s : List Place) → 1 ≤ length s → 2 ^ 2 ≤ (length s + 1) ^ 2
 square s some = let k : 2 ≤ length s + 1 = omega (arith, some) in pow-le-pow_left k 2
 
 -- THE LOOK AT THE LAST MEMBER is few,
-pub few_last : (s : List Place) (o : Option Place) → o ≡ last s → FewLooks (looks_there o) s
-few_last s None is = subst (λ z. FewLooks 0 z) (sym (nothing_last s is)) (record { few = omega arith; some = λ k. omega (arith, k) })
+pub few_last : (s : List Place) (o : Option Place) → o ≡ last s → WithinComparisonBound (looks_there o) s
+few_last s None is = subst (λ z. WithinComparisonBound 0 z) (sym (nothing_last s is)) (record { few = omega arith; some = λ k. omega (arith, k) })
 few_last s (Some p) is = record { few = omega (arith, square s (has_some s is)); some = λ k. omega arith }
 
 -- and so are two at a hint,
 pub few_there : (s : List Place) (k : ℕ) → 1 ≤ length s → k ≤ 2 → 2 ^ k ≤ 2 * (length s + 1) ^ 2
 few_there s k some most = let a : 2 ^ k ≤ 2 ^ 2 = pow_mono most in let b = square s some in omega (arith, a, b)
 
--- with those of a descent behind them
-pub few_behind : (s : List Place) (k looks : ℕ) → k ≤ 2 → 2 ^ (looks + 1) ≤ (length s + 1) ^ 2 → 2 ^ (k + looks) ≤ 2 * (length s + 1) ^ 2
-few_behind s k looks most fewer =
+-- with those of a descent after them
+pub few_after : (s : List Place) (k looks : ℕ) → k ≤ 2 → 2 ^ (looks + 1) ≤ (length s + 1) ^ 2 → 2 ^ (k + looks) ≤ 2 * (length s + 1) ^ 2
+few_after s k looks most fewer =
     let a : 2 ^ (k + looks) ≤ 2 ^ suc (looks + 1) = pow_mono (omega (arith, most)) in
     let b : 2 ^ suc (looks + 1) ≡ 2 ^ (looks + 1) * 2 = pow-suc 2 (looks + 1) in
     omega (arith, a, b, fewer)
 
 -- A MEMBER IS THERE, and what is searched is not less
-pub behind_some : (at : Place → Ordering) (o : Option Place) → behind_there at o ≡ true → (p : Place) × (o ≡ Some p) × (less_at at p ≡ false)
-behind_some at None e = cc
-behind_some at (Some p) e = (p, refl, not_true (less_at at p) e) where
+pub after_some : (at : Place → Ordering) (o : Option Place) → after_there at o ≡ true → (p : Place) × (o ≡ Some p) × (less_at at p ≡ false)
+after_some at None e = cc
+after_some at (Some p) e = (p, refl, not_true (less_at at p) e) where
   not_true : (b : Bool) → not b ≡ true → b ≡ false
   not_true true e = cc
   not_true false e = refl
@@ -81,38 +78,38 @@ kept_is_last k s None is ends = tt
 kept_is_last (alone root) s (Some p) is ends = absurd (none_not p (sym is))
 kept_is_last (ended h) s (Some p) is ends = sym ends.1 ∙ sym is
 
--- a probe with room for an insert has it for a descent behind the look at an end that is kept
+-- a probe with room for an insert has it for a descent after the look at an end that is kept
 pub room_below : (k : Kept) (o : Option Place) (count : ℕ) {now : ℕ} → o ≡ last_kept k → HasRoomFor k count → now ≡ count + looks_there o → HasRoom now
 room_below (alone root) None count kept room is = omega (arith, room, is)
 room_below (alone root) (Some p) count kept room is = absurd (none_not p (sym kept))
 room_below (ended e) None count kept room is = omega (arith, room, is)
 room_below (ended e) (Some p) count kept room is = omega (arith, room, is)
 
--- what is not behind the last member makes no claim on the looks
-not_behind : (at : Place → Ordering) (s : List Place) (o : Option Place) {looks : ℕ} → o ≡ last s → behind_there at o ≡ false → behind_there at (last s) ≡ true → looks ≡ 1
-not_behind at s o is away there = absurd (true≢false (sym there ∙ (ap (behind_there at) (sym is) ∙ away)))
+-- what is not after the last member makes no claim on the looks
+not_after : (at : Place → Ordering) (s : List Place) (o : Option Place) {looks : ℕ} → o ≡ last s → after_there at o ≡ false → after_there at (last s) ≡ true → looks ≡ 1
+not_after at s o is away there = absurd (true≢false (sym there ∙ (ap (after_there at) (sym is) ∙ away)))
 
 module _ {P V : Type 0} (order : P → V → Ordering) (count : P → ℕ) (objects : Objects V) where
-  -- THE LOOKS OF AN INSERT that ends behind the last member,
-  pub looks_behind : (k : Kept) (s : List Place) (o : Option Place) {old new : P} → o ≡ last_kept k → TellsEnds k s → behind_there (compared (order old) objects) o ≡ true
+  -- THE LOOKS OF AN INSERT that ends after the last member,
+  pub looks_after : (k : Kept) (s : List Place) (o : Option Place) {old new : P} → o ≡ last_kept k → TellsEnds k s → after_there (compared (order old) objects) o ≡ true
       → count new ≡ count old + looks_there o → order new ≡ order old → InsertLooks order count k objects old new s
-  looks_behind (alone root) s None kept ends behind counted same = cc
-  looks_behind (alone root) s (Some p) kept ends behind counted same = absurd (none_not p (sym kept))
-  looks_behind (ended e) s None kept ends behind counted same = cc
-  looks_behind (ended e) s (Some p) kept ends behind counted same = record { looks = 1; counted = counted; few = few_last s (Some p) (kept ∙ ends.1); at_last = λ _. refl; order_is = same }
+  looks_after (alone root) s None kept ends behind counted same = cc
+  looks_after (alone root) s (Some p) kept ends behind counted same = absurd (none_not p (sym kept))
+  looks_after (ended e) s None kept ends behind counted same = cc
+  looks_after (ended e) s (Some p) kept ends behind counted same = record { looks = 1; counted = counted; few = few_last s (Some p) (kept ∙ ends.1); at_last = λ _. refl; order_is = same }
 
   -- and of one that descends
-  pub looks_below : (k : Kept) (s : List Place) (o : Option Place) {old mid new : P} → o ≡ last_kept k → TellsEnds k s → behind_there (compared (order old) objects) o ≡ false
+  pub looks_below : (k : Kept) (s : List Place) (o : Option Place) {old mid new : P} → o ≡ last_kept k → TellsEnds k s → after_there (compared (order old) objects) o ≡ false
       → count mid ≡ count old + looks_there o → order mid ≡ order old → Looks order count mid new s → InsertLooks order count k objects old new s
   looks_below (alone root) s None kept ends away counted same x =
       record { looks = x.looks; counted = omega (arith, x.counted, counted); few = x.few; fewer = x.fewer; order_is = x.order_is ∙ same }
   looks_below (alone root) s (Some p) kept ends away counted same x = absurd (none_not p (sym kept))
   looks_below (ended e) s None kept ends away counted same x =
-      record { looks = x.looks; counted = omega (arith, x.counted, counted); few = x.few; at_last = not_behind _ s None (kept ∙ ends.1) away; order_is = x.order_is ∙ same }
+      record { looks = x.looks; counted = omega (arith, x.counted, counted); few = x.few; at_last = not_after _ s None (kept ∙ ends.1) away; order_is = x.order_is ∙ same }
   looks_below (ended e) s (Some p) kept ends away counted same x = record {
     looks = x.looks + 1;
     counted = omega (arith, x.counted, counted);
     few = record { few = x.fewer (has_some s (kept ∙ ends.1)); some = λ _. omega arith };
-    at_last = not_behind _ s (Some p) (kept ∙ ends.1) away;
+    at_last = not_after _ s (Some p) (kept ∙ ends.1) away;
     order_is = x.order_is ∙ same;
   }

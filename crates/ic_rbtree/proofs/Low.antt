@@ -1,7 +1,6 @@
 -- No tree of places is as high as a repair has turns.
 use Rattle.std.proofs.Common.{◌+◌, ◌<◌, ◌≤◌, Option, List, ◌∷◌, length, arith}
-use Rattle.ic_unsafe_ref.specs.declared.place.Place.{Place}
-use Rattle.ic_link_ops.specs.Tables.{Table}
+use Rattle.ic_link_ops.specs.Prelude.{Place, Table}
 use Rattle.ic_link_ops.specs.Trees.{Tree, in_order}
 use Rattle.ic_link_ops.specs.Shape.{blacks, IsEven, IsRight}
 use Rattle.ic_link_ops.specs.RedBlackTree.{Node}
@@ -9,20 +8,20 @@ use Rattle.ic_link_ops.specs.Frames.{Frame, plug}
 use Rattle.ic_link_ops.proofs.Times.{times_order, times_distinct}
 use Rattle.ic_link_ops.proofs.Walks.{few_places}
 use Rattle.ic_rbtree.specs.Height.{height, turns}
-use Rattle.ic_rbtree.specs.Pieces.{Piece, below, Held, Stands}
+use Rattle.ic_rbtree.specs.Pieces.{Piece, below, Held, ClimbState}
 use Rattle.ic_rbtree.proofs.Heights.{blacks_few, height_few, length_frames_height, exponent_small, exponent_smaller}
 use Rattle.ic_rbtree.proofs.Zipper.{go_top}
 
-module _ {E : Type 0} (n : E → Node) {base v : Table E} {root : Option Place} {fs : List Frame} {t : Tree} {ps : List Piece} (h : Stands n base v root fs t ps) (right : IsRight (plug fs t)) where
-  pub shown_low : height (plug fs t) < turns
-  shown_low =
+module _ {E : Type 0} (n : E → Node) {base v : Table E} {root : Option Place} {fs : List Frame} {t : Tree} {ps : List Piece} (h : ClimbState n base v root fs t ps) (right : IsRight (plug fs t)) where
+  pub represented_low : height (plug fs t) < turns
+  represented_low =
       let s : List Place = in_order (plug fs t) in
       let all = go_top n h in
       let small : length s ≤ 8589934591 = few_places s (times_distinct s (λ q. omega (arith, all.once q, times_order q (plug fs t)))) in
       omega (arith, exponent_small (height (plug fs t)) (length s + 1) (omega (arith, small)) (height_few (plug fs t) right))
 
   pub frames_low : length fs < turns
-  frames_low = omega (arith, shown_low, length_frames_height fs t)
+  frames_low = omega (arith, represented_low, length_frames_height fs t)
 
 -- and none has as many black members on a way down
 pub blacks_low : {E : Type 0} (n : E → Node) {base v : Table E} {up : Option Place} (t : Tree) {ps : List Piece} → Held n base v (below up t ∷ ps) → IsEven t → blacks t < turns

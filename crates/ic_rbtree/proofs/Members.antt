@@ -1,16 +1,14 @@
--- The members of a tree, as the entries lead through them, are the sequence that the table shows.
+-- The members of a tree, as the entries lead through them, are the sequence that the table represents.
 use Rattle.std.proofs.Common.{◌≡◌, ℕ, suc, zero, ◌+◌, ◌≤◌, Bool, true, Option, Some, None, List, [], ◌∷◌, ◌++◌, length, refl, sym, ap, ◌∙◌, subst, arith, length-append}
-use Rattle.ic_unsafe_ref.specs.declared.place.Place.{Place}
-use Rattle.ic_link_ops.specs.Sequences.{first}
-use Rattle.ic_link_ops.specs.Tables.{Table, IsCovered, IsLinked}
+use Rattle.ic_link_ops.specs.Prelude.{Place, first, Table, IsCovered, IsLinked}
 use Rattle.ic_link_ops.specs.Trees.{Tree, leaf, fork, top, in_order}
-use Rattle.ic_link_ops.specs.RedBlackTree.{Node, IsTree, Holds, Shows, ShowsEnds}
+use Rattle.ic_link_ops.specs.RedBlackTree.{Node, IsTree, Holds, Represents, RepresentsEnds}
 use Rattle.ic_link_ops.specs.Frames.{Frame, frame, plug, above, topmost, IsAround}
 use Rattle.ic_link_ops.proofs.Frames.{focus}
-use Rattle.ic_link_ops.proofs.ShownTrees.{holds_length, holds_once}
+use Rattle.ic_link_ops.proofs.RepresentedTrees.{holds_length, holds_once}
 use Rattle.ic_link_ops.proofs.Trees.{leaf_is}
 use Rattle.ic_rbtree.specs.Members.{some_or, tree_below, top_above, members, members_around}
-use Rattle.ic_rbtree.specs.Pieces.{Stands}
+use Rattle.ic_rbtree.specs.Pieces.{ClimbState}
 use Rattle.ic_rbtree.proofs.Branches.{side_up}
 use Rattle.ic_rbtree.proofs.ParentClimbs.{length_frames}
 use Rattle.ic_rbtree.proofs.Removing.{go_into}
@@ -29,7 +27,7 @@ nodes_covered n table covered alike t q h = covered t q (sym (alike _) ∙ h)
 
 module _ {E : Type 0} (n : E → Node) where
   -- a held tree on its own
-  pub stands_of : {v : Table E} {tree : Tree} {s : List Place} → Holds n v tree s → Stands n v v (top tree) [] tree []
+  pub stands_of : {v : Table E} {tree : Tree} {s : List Place} → Holds n v tree s → ClimbState n v v (top tree) [] tree []
   stands_of h = record {
     are = ((tt, refl), (h.entries, tt));
     once = λ q. omega (arith, holds_once h q);
@@ -87,7 +85,7 @@ module _ {E : Type 0} (n : E → Node) where
     around_held tree [] h = ap (members n t) (top_none t.entry t.extent.places ∙ sym (ap top (leaf_is tree h.order))) ∙ members_held h
     around_held tree (x ∷ s) h =
         let f = focus tree [] [] x s h.order in
-        let st = go_into n (top tree) f.0 (fork f.1 f.2 x f.3) [] (subst (λ (y : Tree). Stands n t t (top tree) [] y []) (sym f.4) (stands_of h)) in
+        let st = go_into n (top tree) f.0 (fork f.1 f.2 x f.3) [] (subst (λ (y : Tree). ClimbState n t t (top tree) [] y []) (sym f.4) (stands_of h)) in
         let few : length (x ∷ s) ≤ t.extent.places = holds_length t law h in
         let all : length (in_order (plug f.0 (fork f.1 f.2 x f.3))) ≡ length (x ∷ s) = ap (λ (y : Tree). length (in_order y)) f.4 ∙ ap length h.order in
         let fits : suc (length f.0) ≤ t.extent.places =
@@ -97,10 +95,10 @@ module _ {E : Type 0} (n : E → Node) where
         ap (members n t) root ∙ members_held h
 
     -- and those around the first of two ends the sequence between them
-    pub members_between_ends : (front back : Option Place) (s : List Place) → ShowsEnds n t front back s → members_around n t front ≡ s
+    pub members_between_ends : (front back : Option Place) (s : List Place) → RepresentsEnds n t front back s → members_around n t front ≡ s
     members_between_ends front back s h = ap (members_around n t) h.starts ∙ around_held h.tree s h.held
 
--- THE MEMBERS below the root of a tree are the sequence that is shown for it
-pub members_shown : {E : Type 0} {n : E → Node} (t : Table E) → ((q : Place) → (n (t.entry q)).linked ≡ true → IsCovered t q)
-    → (root : Option Place) (s : List Place) → Shows n t root s → members n t root ≡ s
-members_shown {n = n} t law root s h = ap (members n t) h.starts ∙ members_held n t law h.held
+-- THE MEMBERS below the root of a tree are the sequence that is represented for it
+pub members_represented : {E : Type 0} {n : E → Node} (t : Table E) → ((q : Place) → (n (t.entry q)).linked ≡ true → IsCovered t q)
+    → (root : Option Place) (s : List Place) → Represents n t root s → members n t root ≡ s
+members_represented {n = n} t law root s h = ap (members n t) h.starts ∙ members_held n t law h.held

@@ -1,16 +1,15 @@
 -- What takes no step.
 use Rattle.std.proofs.Common.{◌≡◌, Bool, List, [], ◌++◌, append-nil, subst, sym, ◌∙◌}
-use Rattle.ic_link_ops.specs.Tables.{Table, KeepsLinked}
-use Rattle.ic_link_ops.specs.LinkSteps.{LinkStep}
+use Rattle.ic_link_ops.specs.Prelude.{Table, KeepsLinked, LinkStep}
 use Rattle.ic_link_ops.specs.RedBlackTree.{Node}
 use Rattle.ic_rbtree.specs.Closed.{KeepsNodes}
-use Rattle.ic_rbtree.specs.Steps.{TakesNoStep}
+use Rattle.ic_rbtree.specs.Steps.{TraceStays}
 
 -- where none is the list of the steps, those that led there before are all
-pub no_step_more : {L : Type 0} (Does : L → L → List LinkStep → Type 0) → ((a b c : L) (s t : List LinkStep) → Does a b s → Does b c t → Does a c (s ++ t))
-    → {old new : L} → Does old new [] → TakesNoStep Does old new
-no_step_more Does on {old} {new} none start s led =
-    subst (λ (t : List LinkStep). Does start new t) (append-nil s) (on start old new s [] led none)
+pub trace_stays_more : {L : Type 0} (Trace : L → L → List LinkStep → Type 0) → ((a b c : L) (s t : List LinkStep) → Trace a b s → Trace b c t → Trace a c (s ++ t))
+    → {old new : L} → Trace old new [] → TraceStays Trace old new
+trace_stays_more Trace on {old} {new} none start s led =
+    subst (λ (t : List LinkStep). Trace start new t) (append-nil s) (on start old new s [] led none)
 
 -- and then the same places are linked, as their nodes say
 pub same_nodes : {E : Type 0} (n : E → Node) {linked : E → Bool} → ((e : E) → (n e).linked ≡ linked e) → (old new : Table E) → KeepsLinked linked old new → KeepsNodes n old new

@@ -1,10 +1,9 @@
 -- A descent to the outermost member below a place, and a climb to the nearest member above.
 use Rattle.std.proofs.Common.{◌≡◌, ◌≢◌, ◌-◌, ◌<◌, true, suc, Option, Some, None, List, [], ◌∷◌, length, refl, sym, ap, ◌∙◌, subst, arith}
-use Rattle.ic_unsafe_ref.specs.declared.place.Place.{Place}
+use Rattle.ic_link_ops.specs.Prelude.{Place, Table, IsCovered}
 use Rattle.ic_link_ops.specs.declared.color.Color.{Color}
 use Rattle.ic_link_ops.specs.declared.side.Side.{Side}
 use Rattle.ic_link_ops.specs.declared.side.Side.TheVariants.{Left, Right}
-use Rattle.ic_link_ops.specs.Tables.{Table, IsCovered}
 use Rattle.ic_link_ops.specs.Trees.{Tree, leaf, top, in_order}
 use Rattle.ic_link_ops.specs.Shape.{top_color}
 use Rattle.ic_link_ops.specs.RedBlackTree.{Node}
@@ -12,7 +11,7 @@ use Rattle.ic_link_ops.specs.Frames.{Frame, frame, across, child_on, branch, plu
 use Rattle.ic_link_ops.proofs.SequenceLemmas.{none_not, some_same}
 use Rattle.ic_link_ops.proofs.Trees.{top_parent}
 use Rattle.ic_rbtree.specs.Climb.{depth}
-use Rattle.ic_rbtree.specs.Pieces.{Piece, Stands}
+use Rattle.ic_rbtree.specs.Pieces.{Piece, ClimbState}
 use Rattle.ic_rbtree.specs.Sides.{beyond, nearest, IsEnd}
 use Rattle.ic_rbtree.proofs.Branches.{as_branch, top_branch, side_near, side_far, side_linked, top_leaf}
 use Rattle.ic_rbtree.proofs.Rotations.{open_at, times_top}
@@ -27,16 +26,16 @@ module _ {E : Type 0} (n : E → Node) where
     pub a : Tree
     pub b : Tree
     pub is : t ≡ branch d c a p b
-    pub stands : Stands n base v root fs (branch d c a p b) ps
+    pub stands : ClimbState n base v root fs (branch d c a p b) ps
     pub linked : (n (v.entry p)).linked ≡ true
     pub near : child_on d (n (v.entry p)) ≡ top a
-    pub down : Stands n base v root (frame d c p b ∷ fs) a ps
+    pub down : ClimbState n base v root (frame d c p b ∷ fs) a ps
 
-  pub opened : {base v : Table E} {root : Option Place} (d : Side) {p : Place} (fs : List Frame) (t : Tree) {ps : List Piece} → Stands n base v root fs t ps → top t ≡ Some p
+  pub opened : {base v : Table E} {root : Option Place} (d : Side) {p : Place} (fs : List Frame) (t : Tree) {ps : List Piece} → ClimbState n base v root fs t ps → top t ≡ Some p
       → Opened base v root d p fs t ps
   opened {base} {v} {root} d {p} fs t {ps} h e =
       let k = as_branch d t p e in
-      let s : Stands n base v root fs (branch d (top_color t) k.0 p k.1) ps = subst (λ (x : Tree). Stands n base v root fs x ps) k.2 h in
+      let s : ClimbState n base v root fs (branch d (top_color t) k.0 p k.1) ps = subst (λ (x : Tree). ClimbState n base v root fs x ps) k.2 h in
       let o = open_at n root fs d (top_color t) k.0 p k.1 ps s in
       record {
         c = top_color t;
@@ -51,7 +50,7 @@ module _ {E : Type 0} (n : E → Node) where
 
   -- A DESCENT to a side, from the subtree t below the frames fs: it has come to p, the root of u below gs
   pub record Down (base v : Table E) (root : Option Place) (d : Side) (p : Place) (fs : List Frame) (t : Tree) (ps : List Piece) (gs : List Frame) (u : Tree) : Type 0 where
-    pub stands : Stands n base v root gs u ps
+    pub stands : ClimbState n base v root gs u ps
     pub top_is : top u ≡ Some p
     pub same : plug gs u ≡ plug fs t
     pub beside : beyond d gs ≡ beyond d fs
@@ -92,13 +91,13 @@ module _ {E : Type 0} (n : E → Node) where
           childless = none;
         }
 
-  pub down_starts : {base v : Table E} {root : Option Place} {d : Side} {p : Place} (fs : List Frame) (t : Tree) {ps : List Piece} → Stands n base v root fs t ps → top t ≡ Some p
+  pub down_starts : {base v : Table E} {root : Option Place} {d : Side} {p : Place} (fs : List Frame) (t : Tree) {ps : List Piece} → ClimbState n base v root fs t ps → top t ≡ Some p
       → Down base v root d p fs t ps fs t
   down_starts fs t h e = record { stands = h; top_is = e; same = refl; beside = refl; nearest_is = refl }
 
   -- each step goes further from the root
   pub down_falls : {v : Table E} (law : (x : Place) → (n (v.entry x)).linked ≡ true → IsCovered v x) {base : Table E} {root : Option Place} (d : Side) {p q : Place}
-      (gs : List Frame) (u : Tree) {ps : List Piece} → Stands n base v root gs u ps → top u ≡ Some p → child_on d (n (v.entry p)) ≡ Some q
+      (gs : List Frame) (u : Tree) {ps : List Piece} → ClimbState n base v root gs u ps → top u ≡ Some p → child_on d (n (v.entry p)) ≡ Some q
       → v.extent.places - depth n v (Some q) < v.extent.places - depth n v (Some p)
   down_falls {v} law {base} {root} d {p} {q} gs u {ps} s e is =
       let k = step_down gs u gs u (down_starts {d = d} gs u s e) is in
@@ -108,11 +107,11 @@ module _ {E : Type 0} (n : E → Node) where
 
   -- A CLIMB to a side, from the subtree t below the frames fs: it has come to p, the root of u below gs
   pub record Up (base v : Table E) (root : Option Place) (d : Side) (p : Place) (fs : List Frame) (ps : List Piece) (gs : List Frame) (u : Tree) : Type 0 where
-    pub stands : Stands n base v root gs u ps
+    pub stands : ClimbState n base v root gs u ps
     pub top_is : top u ≡ Some p
     pub nearest_is : nearest d (beyond d gs) ≡ nearest d (beyond d fs)
 
-  pub up_starts : {base v : Table E} {root : Option Place} {d : Side} {p : Place} (fs : List Frame) (t : Tree) {ps : List Piece} → Stands n base v root fs t ps → top t ≡ Some p
+  pub up_starts : {base v : Table E} {root : Option Place} {d : Side} {p : Place} (fs : List Frame) (t : Tree) {ps : List Piece} → ClimbState n base v root fs t ps → top t ≡ Some p
       → Up base v root d p fs ps fs t
   up_starts fs t h e = record { stands = h; top_is = e; nearest_is = refl }
 
@@ -126,12 +125,12 @@ module _ {E : Type 0} (n : E → Node) where
     pub linked : (n (v.entry q)).linked ≡ true
     pub near : child_on k (n (v.entry q)) ≡ Some p
     pub far : child_on (across k) (n (v.entry q)) ≢ Some p
-    pub stands : Stands n base v root rest (branch k c u q b) ps
+    pub stands : ClimbState n base v root rest (branch k c u q b) ps
 
-  pub framed : {base v : Table E} {root : Option Place} {p q : Place} (gs : List Frame) (u : Tree) {ps : List Piece} → Stands n base v root gs u ps → top u ≡ Some p
+  pub framed : {base v : Table E} {root : Option Place} {p q : Place} (gs : List Frame) (u : Tree) {ps : List Piece} → ClimbState n base v root gs u ps → top u ≡ Some p
       → (n (v.entry p)).parent ≡ Some q → Framed base v root p q gs u ps
   framed {base} {v} {root} {p} {q} gs u {ps} h e up = by gs h (sym (top_parent n v.entry (above gs) u p h.are.1.0 e) ∙ up) where
-    by : (gs : List Frame) → Stands n base v root gs u ps → above gs ≡ Some q → Framed base v root p q gs u ps
+    by : (gs : List Frame) → ClimbState n base v root gs u ps → above gs ≡ Some q → Framed base v root p q gs u ps
     by [] h is = absurd (none_not q is)
     by (frame k c r b ∷ rest) h is =
         subst (λ (z : Place). Framed base v root p z (frame k c r b ∷ rest) u ps) (some_same is) (record {
@@ -186,7 +185,7 @@ module _ {E : Type 0} (n : E → Node) where
 
   -- each step comes nearer to the root
   pub up_falls : {v : Table E} (law : (x : Place) → (n (v.entry x)).linked ≡ true → IsCovered v x) {base : Table E} {root : Option Place} {p q : Place} (gs : List Frame) (u : Tree) {ps : List Piece}
-      → Stands n base v root gs u ps → top u ≡ Some p → (n (v.entry p)).parent ≡ Some q → depth n v (Some q) < depth n v (Some p)
+      → ClimbState n base v root gs u ps → top u ≡ Some p → (n (v.entry p)).parent ≡ Some q → depth n v (Some q) < depth n v (Some p)
   up_falls {v} law {base} {root} {p} {q} gs u {ps} s e up =
       let f = framed gs u s e up in
       let old = depth_top n law root gs u ps p s e in

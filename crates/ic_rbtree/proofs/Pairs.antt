@@ -1,29 +1,27 @@
 -- Two trees and a place between them.
 use Rattle.std.specs.Int.{from_bool}
 use Rattle.std.proofs.Common.{◌≡◌, Bool, true, false, cond, ◌+◌, ◌≤◌, ◌<◌, Option, Some, None, List, [], ◌∷◌, ◌++◌, refl, sym, ap, ◌∙◌, subst, arith, append-nil, append_assoc, drop}
-use Rattle.ic_unsafe_ref.specs.declared.place.Place.{Place}
+use Rattle.ic_link_ops.specs.Prelude.{Place, Cut, join, insert, at_front, Table, ChangesOnly, IsLinked, IsUnlinked}
 use Rattle.ic_link_ops.specs.declared.color.Color.TheVariants.{Red, Black}
 use Rattle.ic_link_ops.specs.declared.side.Side.{Side}
 use Rattle.ic_link_ops.specs.declared.side.Side.TheVariants.{Left, Right}
-use Rattle.ic_link_ops.specs.Tables.{Table, ChangesOnly, IsLinked, IsUnlinked}
 use Rattle.ic_link_ops.specs.Times.{one_at, times, times_in}
 use Rattle.ic_link_ops.proofs.Times.{times_order, absent_times, distinct_times, times_append}
-use Rattle.ic_rbtree.proofs.Removing.{shows_of}
+use Rattle.ic_rbtree.proofs.Removing.{represents_of}
 use Rattle.ic_link_ops.specs.Trees.{Tree, top, in_order}
 use Rattle.ic_link_ops.specs.Shape.{top_color, IsRight}
-use Rattle.ic_link_ops.specs.RedBlackTree.{Node, Shows}
+use Rattle.ic_link_ops.specs.RedBlackTree.{Node, Represents}
 use Rattle.ic_link_ops.specs.Frames.{Frame, branch, plug, above, before, after}
 use Rattle.ic_link_ops.proofs.Frames.{in_order_parts}
 use Rattle.ic_rbtree.specs.Height.{height, turns}
 use Rattle.ic_rbtree.specs.declared.join.roots.Measured.{Measured}
-use Rattle.ic_rbtree.specs.Join.{IsGraft, IsRootOf, IsSpine, Pair, ArePair, AreMeasured, AreHigh, CanJoin, ShowsParts, Appends}
-use Rattle.ic_rbtree.specs.Pieces.{Piece, loose, below, around, Stands, Shown}
+use Rattle.ic_rbtree.specs.Join.{IsGraft, IsRootOf, IsSpine, Pair, ArePair, AreMeasured, AreHigh, CanJoin, RepresentsParts, Appends}
+use Rattle.ic_rbtree.specs.Pieces.{Piece, loose, below, around, ClimbState, Represented}
 use Rattle.ic_rbtree.specs.Sides.{beyond, IsBeside}
-use Rattle.ic_link_ops.specs.Sequences.{Cut, join, insert, at_front}
 use Rattle.ic_link_ops.proofs.SequenceLemmas.{first_is, nothing_first, absent_both, distinct_insert}
-use Rattle.ic_link_ops.proofs.ShownTrees.{free_absent, shows_beside}
+use Rattle.ic_link_ops.proofs.RepresentedTrees.{free_absent, represents_beside}
 use Rattle.ic_link_ops.proofs.Trees.{leaf_is}
-use Rattle.ic_rbtree.proofs.Low.{shown_low, blacks_low}
+use Rattle.ic_rbtree.proofs.Low.{represented_low, blacks_low}
 use Rattle.ic_rbtree.proofs.Pieces.{regroup}
 
 -- the sequence of the taller tree, and then the place and the other
@@ -55,7 +53,7 @@ swapped k = record { base = k.base; one = k.two; two = k.one; pieces = k.pieces 
 
 module _ {E : Type 0} (n : E → Node) {v : Table E} {one : Option Place} {p : Place} {two : Option Place} {k : Pair E} where
   module _ (x : ArePair n v one p two k) where
-    pub pair_stands : Stands n k.base v one [] k.one (loose p ∷ below None k.two ∷ k.pieces)
+    pub pair_stands : ClimbState n k.base v one [] k.one (loose p ∷ below None k.two ∷ k.pieces)
     pair_stands =
         regroup n (around one [] (top k.one) ∷ below None k.one ∷ loose p ∷ below None k.two ∷ k.pieces) x.held (λ q. omega arith)
         ((tt, x.one_is), (x.held.are.1.0, (x.held.are.0, x.held.are.1.1)))
@@ -73,7 +71,7 @@ module _ {E : Type 0} (n : E → Node) {v : Table E} {one : Option Place} {p : P
     pair_root = (None, x.held.are.1.0, x.one_is)
 
     pub pair_low : height k.one < turns
-    pair_low = shown_low n pair_stands x.one_right
+    pair_low = represented_low n pair_stands x.one_right
 
 module _ {E : Type 0} (n : E → Node) {v : Table E} {one : Measured} {p : Place} {two : Measured} {k : Pair E} where
   pub measured_swapped : AreMeasured n v one p two k → AreMeasured n v two p one (swapped k)
@@ -104,8 +102,8 @@ module _ {E : Type 0} (n : E → Node) {v : Table E} {one : Measured} {p : Place
 
 module _ {E : Type 0} (n : E → Node) where
   -- the same tree, by another name for its root and its sequence
-  abbrev pub shown_as : {base w : Table E} {root new_root : Option Place} {s t : List Place} {ps : List Piece} → new_root ≡ root → s ≡ t → Shown n base w root s ps → Shown n base w new_root t ps
-  shown_as {base} {w} {ps = ps} e f h = record { tree = h.tree; stands = subst (λ (o : Option Place). Stands n base w o [] h.tree ps) (sym e) h.stands; order = h.order ∙ f; shape = h.shape }
+  abbrev pub represented_as : {base w : Table E} {root new_root : Option Place} {s t : List Place} {ps : List Piece} → new_root ≡ root → s ≡ t → Represented n base w root s ps → Represented n base w new_root t ps
+  represented_as {base} {w} {ps = ps} e f h = record { tree = h.tree; stands = subst (λ (o : Option Place). ClimbState n base w o [] h.tree ps) (sym e) h.stands; order = h.order ∙ f; shape = h.shape }
 
 module _ {E : Type 0} (n : E → Node) {v : Table E} {left : Option Place} {p : Place} {right : Option Place} {gap : Cut} where
   -- FROM THE SEQUENCES into the pieces,
@@ -135,30 +133,30 @@ module _ {E : Type 0} (n : E → Node) {v : Table E} {left : Option Place} {p : 
     }
 
     -- and out of them
-    pub joined : {w : Table E} {root : Option Place} → Shown n v w root (in_order x.front.tree ++ p ∷ in_order x.back.tree) [] → Shown n v w root (insert gap p) []
+    pub joined : {w : Table E} {root : Option Place} → Represented n v w root (in_order x.front.tree ++ p ∷ in_order x.back.tree) [] → Represented n v w root (insert gap p) []
     joined {w} {root} h =
         let same : in_order x.front.tree ++ p ∷ in_order x.back.tree ≡ insert gap p =
         ap (λ (z : List Place). z ++ p ∷ in_order x.back.tree) x.front.held.order ∙ ap (λ (z : List Place). gap.front ++ p ∷ z) x.back.held.order in
-        subst (λ z. Shown n v w root z []) same h
+        subst (λ z. Represented n v w root z []) same h
 
   -- A PLACE THAT HAS JUST BEEN LINKED can stand between them
   pub can_join : {old : Table E} (linked : E → Bool) → ((e : E) → (n e).linked ≡ linked e) → IsUnlinked linked old p → IsLinked linked v p → ChangesOnly old v p
-      → ShowsParts (Shows n) old left right gap → CanJoin n v left p right gap
+      → RepresentsParts (Represents n) old left right gap → CanJoin n v left p right gap
   can_join {old} linked alike was is only h =
       let free = alike (old.entry p) ∙ was in
       let out = free_absent h.front free in
       let out_back = free_absent h.back free in
       record {
-        front = shows_beside h.front out only.others;
-        back = shows_beside h.back out_back only.others;
+        front = represents_beside h.front out only.others;
+        back = represents_beside h.back out_back only.others;
         linked = alike (v.entry p) ∙ is;
         distinct = distinct_insert gap.front gap.back p h.distinct (absent_both p gap.front gap.back out out_back);
       }
 
-module _ {E : Type 0} (n : E → Node) {v : Table E} {left right : Option Place} {gap : Cut} (x : ShowsParts (Shows n) v left right gap) where
+module _ {E : Type 0} (n : E → Node) {v : Table E} {left right : Option Place} {gap : Cut} (x : RepresentsParts (Represents n) v left right gap) where
   -- the second tree beside the first,
-  pub beside_shown : Shown n v v right gap.back (below None x.front.tree ∷ [])
-  beside_shown = record {
+  pub beside_represented : Represented n v v right gap.back (below None x.front.tree ∷ [])
+  beside_represented = record {
     tree = x.back.tree;
     stands = record {
       are = ((tt, x.back.starts), (x.back.held.entries, (x.front.held.entries, tt)));
@@ -177,17 +175,17 @@ module _ {E : Type 0} (n : E → Node) {v : Table E} {left right : Option Place}
         omega (arith, a, b, distinct_times (join gap) x.distinct q, times_append q gap.front gap.back)
 
   -- with its first member
-  pub first_there : {o : Option Place} {p : Place} → ((g : Cut) → Shows n v right (join g) → IsBeside Right g None → IsBeside Left g o) → o ≡ Some p → gap.back ≡ p ∷ drop 1 gap.back
+  pub first_there : {o : Option Place} {p : Place} → ((g : Cut) → Represents n v right (join g) → IsBeside Right g None → IsBeside Left g o) → o ≡ Some p → gap.back ≡ p ∷ drop 1 gap.back
   first_there {o} {p} leads is = first_is gap.back (sym is ∙ leads (at_front gap.back) x.back refl)
 
-  pub none_there : {o : Option Place} → ((g : Cut) → Shows n v right (join g) → IsBeside Right g None → IsBeside Left g o) → o ≡ None → gap.back ≡ []
+  pub none_there : {o : Option Place} → ((g : Cut) → Represents n v right (join g) → IsBeside Right g None → IsBeside Left g o) → o ≡ None → gap.back ≡ []
   none_there {o} leads is = nothing_first gap.back (sym is ∙ leads (at_front gap.back) x.back refl)
 
-  pub first_shown : {p : Place} → gap.back ≡ p ∷ drop 1 gap.back → Shown n v v right (p ∷ drop 1 gap.back) (below None x.front.tree ∷ [])
-  first_shown {p} is = subst (λ z. Shown n v v right z (below None x.front.tree ∷ [])) is beside_shown
+  pub first_represented : {p : Place} → gap.back ≡ p ∷ drop 1 gap.back → Represented n v v right (p ∷ drop 1 gap.back) (below None x.front.tree ∷ [])
+  first_represented {p} is = subst (λ z. Represented n v v right z (below None x.front.tree ∷ [])) is beside_represented
 
   -- WITHOUT THAT, a pair
-  module _ {w : Table E} {new_right : Option Place} {p : Place} (h : Shown n v w new_right (drop 1 gap.back) (loose p ∷ below None x.front.tree ∷ [])) where
+  module _ {w : Table E} {new_right : Option Place} {p : Place} (h : Represented n v w new_right (drop 1 gap.back) (loose p ∷ below None x.front.tree ∷ [])) where
     abbrev pub rest_joinable : Pair E
     rest_joinable = record { base = v; one = x.front.tree; two = h.tree; pieces = [] }
 
@@ -201,12 +199,12 @@ module _ {E : Type 0} (n : E → Node) {v : Table E} {left right : Option Place}
     }
 
     -- and all together
-    pub appends : {u : Table E} {root : Option Place} → gap.back ≡ p ∷ drop 1 gap.back → Shown n v u root (in_order x.front.tree ++ p ∷ in_order h.tree) [] → Appends (Shows n) v u root gap
+    pub appends : {u : Table E} {root : Option Place} → gap.back ≡ p ∷ drop 1 gap.back → Represented n v u root (in_order x.front.tree ++ p ∷ in_order h.tree) [] → Appends (Represents n) v u root gap
     appends {u} {root} is k =
         let same : in_order x.front.tree ++ p ∷ in_order h.tree ≡ join gap =
         ap (λ (z : List Place). z ++ p ∷ in_order h.tree) x.front.held.order ∙ ap (λ (z : List Place). gap.front ++ p ∷ z) h.order ∙ ap (λ (z : List Place). gap.front ++ z) (sym is) in
         record {
-          shows = subst (λ z. Shows n u root z) same (shows_of n k);
+          shows = subst (λ z. Represents n u root z) same (represents_of n k);
           frame = record {
             extent = k.stands.extent;
             others = λ q out.
@@ -219,7 +217,7 @@ module _ {E : Type 0} (n : E → Node) {v : Table E} {left right : Option Place}
   no_root_there none = x.back.starts ∙ ap top (leaf_is x.back.tree (x.back.held.order ∙ none))
 
   -- nothing is appended
-  pub appends_none : gap.back ≡ [] → Appends (Shows n) v v left gap
+  pub appends_none : gap.back ≡ [] → Appends (Represents n) v v left gap
   appends_none none =
       let same : gap.front ≡ join gap = sym (append-nil gap.front) ∙ ap (λ (z : List Place). gap.front ++ z) (sym none) in
-      record { shows = subst (λ z. Shows n v left z) same x.front; frame = record { extent = refl; others = λ q out. refl } }
+      record { shows = subst (λ z. Represents n v left z) same x.front; frame = record { extent = refl; others = λ q out. refl } }

@@ -1,19 +1,18 @@
 -- A climb by parents, and the steps of the repair after a removal, which climbs.
 use Rattle.std.proofs.Common.{◌≡◌, ℕ, suc, zero, ◌+◌, ◌-◌, ◌≤◌, Bool, true, false, Option, Some, None, List, [], ◌∷◌, length, refl, sym, ap, ◌∙◌, subst, arith, length-append}
-use Rattle.ic_unsafe_ref.specs.declared.place.Place.{Place}
+use Rattle.ic_link_ops.specs.Prelude.{Place, Table, IsCovered}
 use Rattle.ic_link_ops.specs.declared.color.Color.{Color}
 use Rattle.ic_link_ops.specs.declared.side.Side.{Side}
 use Rattle.ic_link_ops.specs.declared.side.Side.TheVariants.{Left, Right}
-use Rattle.ic_link_ops.specs.Tables.{Table, IsCovered}
 use Rattle.ic_link_ops.specs.Trees.{Tree, leaf, fork, top, in_order}
 use Rattle.ic_link_ops.specs.RedBlackTree.{Node, Holds}
 use Rattle.ic_link_ops.specs.Frames.{Frame, frame, branch, plug, above, IsAround}
 use Rattle.ic_link_ops.proofs.SequenceLemmas.{none_not, some_same}
 use Rattle.ic_link_ops.proofs.Times.{times_order, times_distinct}
 use Rattle.ic_link_ops.proofs.Trees.{top_parent}
-use Rattle.ic_link_ops.proofs.ShownTrees.{holds_length}
+use Rattle.ic_link_ops.proofs.RepresentedTrees.{holds_length}
 use Rattle.ic_rbtree.specs.Climb.{steps_up, depth}
-use Rattle.ic_rbtree.specs.Pieces.{Piece, Stands}
+use Rattle.ic_rbtree.specs.Pieces.{Piece, ClimbState}
 use Rattle.ic_rbtree.specs.Focus.{Focus, IsRestored}
 use Rattle.ic_rbtree.specs.Steps.{IsSideOf}
 use Rattle.ic_rbtree.specs.Removal.{IsOn, Short, ShortAt, Rises, FixesDeletionStep}
@@ -42,7 +41,7 @@ module _ {E : Type 0} (n : E → Node) where
       ap suc (ap (λ (x : Option Place). steps_up k (λ q. (n (v.entry q)).parent) x) (side_up n v.entry d p c o (top b) (above fs) h.0)
       ∙ above_steps v fs (Some p) k h.2 (omega arith))
 
-  pub stands_holds : {base v : Table E} (root : Option Place) (t : Tree) (ps : List Piece) → Stands n base v root [] t ps → Holds n v t (in_order t)
+  pub stands_holds : {base v : Table E} (root : Option Place) (t : Tree) (ps : List Piece) → ClimbState n base v root [] t ps → Holds n v t (in_order t)
   stands_holds root t ps h = record {
     order = refl;
     distinct = times_distinct (in_order t) (λ q. omega (arith, h.once q, times_order q t));
@@ -60,7 +59,7 @@ module _ {E : Type 0} (n : E → Node) where
 
   -- and of a descent, one more
   pub depth_top : {base v : Table E} (law : (q : Place) → (n (v.entry q)).linked ≡ true → IsCovered v q) (root : Option Place) (fs : List Frame) (t : Tree) (ps : List Piece) (p : Place)
-      → Stands n base v root fs t ps → top t ≡ Some p → (depth n v (Some p) ≡ suc (length fs)) × (suc (length fs) ≤ v.extent.places)
+      → ClimbState n base v root fs t ps → top t ≡ Some p → (depth n v (Some p) ≡ suc (length fs)) × (suc (length fs) ≤ v.extent.places)
   depth_top {base} {v} law root fs t ps p h e =
       let few : length (in_order (plug fs t)) ≤ v.extent.places = holds_length v law (stands_holds root (plug fs t) ps (go_top n h)) in
       let fits : suc (length fs) ≤ v.extent.places = omega (arith, length_frames fs t, top_length t p e) in
@@ -70,7 +69,7 @@ module _ {E : Type 0} (n : E → Node) where
 
   -- the side that a table tells is the frame's
   pub side_found : (v : Table E) (base : Table E) (root : Option Place) (k : Side) (c : Color) (p : Place) (b : Tree) (fs : List Frame) (t : Tree) (ps : List Piece) (q : Place) (d : Side)
-      → Stands n base v root (frame k c p b ∷ fs) t ps → top t ≡ Some q → IsSideOf n v q p d → d ≡ k
+      → ClimbState n base v root (frame k c p b ∷ fs) t ps → top t ≡ Some q → IsSideOf n v q p d → d ≡ k
   side_found v base root Left c p b fs t ps q Left h e is = refl
   side_found v base root Right c p b fs t ps q Right h e is = refl
   side_found v base root Left c p b fs t ps q Right h e is = absurd (is (side_near n v.entry Left p c (top t) (top b) (above fs) h.are.0.0.0 ∙ e))
@@ -116,7 +115,7 @@ module _ {E : Type 0} (n : E → Node) where
         short = h.short;
         order = h.order;
       } where
-        on : (gs : List Frame) → ((p : Place) → above gs ≡ Some p → IsSideOf n v q p d) → Stands n k.base v root gs k.subtree k.pieces → IsOn d gs
+        on : (gs : List Frame) → ((p : Place) → above gs ≡ Some p → IsSideOf n v q p d) → ClimbState n k.base v root gs k.subtree k.pieces → IsOn d gs
         on [] tell st = tt
         on (frame i c p b ∷ gs) tell st = side_found v k.base root i c p b gs k.subtree k.pieces q d st h.top_is (tell p refl)
 

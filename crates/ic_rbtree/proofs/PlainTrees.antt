@@ -1,20 +1,18 @@
 -- For callers: trees over the plain table of tree links.
 use Rattle.std.proofs.Common.{◌≡◌, Option, None, List, refl}
-use Rattle.ic_unsafe_ref.specs.declared.place.Place.{Place}
-use Rattle.ic_unsafe_ref.specs.Places.{index_of}
+use Rattle.ic_link_ops.specs.Prelude.{Place, index_of, IsCovered, IsLinked}
 use Rattle.ic_link_ops.specs.EntryLaws.{linked_in_range}
 use Rattle.ic_link_ops.specs.Links.{link_of}
 use Rattle.ic_link_ops.specs.PlainTables.{entries}
-use Rattle.ic_link_ops.specs.Tables.{IsCovered, IsLinked}
 use Rattle.ic_link_ops.specs.ThreeWords.{no_words}
 use Rattle.ic_link_ops.proofs.CollectionLaws.{IsKind}
-use Rattle.ic_link_ops.proofs.ShownTrees.{red_black_trees}
-use Rattle.ic_rbtree.specs.PlainTrees.{TreeLinkOps, is_linked, plain_table, ShowsTree, PlainShows, members_of}
-use Rattle.ic_rbtree.proofs.Members.{members_shown}
+use Rattle.ic_link_ops.proofs.RepresentedTrees.{red_black_trees}
+use Rattle.ic_rbtree.specs.PlainTrees.{TreeLinkOps, is_linked, plain_table, RepresentsTree, PlainRepresents, members_of}
+use Rattle.ic_rbtree.proofs.Members.{members_represented}
 
--- THE FIVE FACTS of a kind: the frame, that what is unlinked is no member, that members are distinct, that nothing is shown for a new tree,
--- and that one sequence is shown at most
-pub plain_trees : IsKind ShowsTree is_linked None
+-- THE FIVE FACTS of a kind: the frame, that what is unlinked is no member, that members are distinct, that nothing is represented for a new tree,
+-- and that one sequence is represented at most
+pub plain_trees : IsKind RepresentsTree is_linked None
 plain_trees = red_black_trees (λ e. refl)
 
 module _ {A : Type 0} (links : TreeLinkOps A) where
@@ -22,7 +20,7 @@ module _ {A : Type 0} (links : TreeLinkOps A) where
   pub plain_covered : (p : Place) → IsLinked is_linked (plain_table links) p → IsCovered (plain_table links) p
   plain_covered p linked = linked_in_range is_linked (link_of no_words) refl (entries links) (index_of p) linked
 
-  module _ {root : Option Place} {s : List Place} (shown : PlainShows links root s) where
-    -- and the members of a tree are what it shows for it
+  module _ {root : Option Place} {s : List Place} (shown : PlainRepresents links root s) where
+    -- and the members of a tree are what it represents for it
     pub plain_members : members_of links root ≡ s
-    plain_members = members_shown (plain_table links) plain_covered root s shown
+    plain_members = members_represented (plain_table links) plain_covered root s shown

@@ -7,10 +7,7 @@ use Rattle.std.specs.Option.{option_map}
 use Rattle.std.specs.declared.cmp.Ordering.{Ordering}
 use Rattle.std.specs.declared.cmp.Ordering.TheVariants.{Less, Equal, Greater}
 use Rattle.std.specs.Ordering.{is_gt, is_ge, ordering_reverse}
-use Rattle.ic_unsafe_ref.specs.declared.place.Place.{Place}
-use Rattle.ic_unsafe_ref.specs.Objects.{Objects, object_at}
-use Rattle.ic_link_ops.specs.PlacedObjects.{ArePlaced, values_at}
-use Rattle.ic_link_ops.specs.Sequences.{first, last, IsDistinct}
+use Rattle.ic_link_ops.specs.Prelude.{Place, Objects, object_at, first, last, IsDistinct, ArePlaced, values_at}
 use Rattle.ic_link_ops.proofs.SequenceLemmas.{none_not, some_same, last_or-append}
 use Rattle.ic_link_ops.proofs.Each.{all_front, all_back, all_map}
 use Rattle.ic_rbtree.specs.declared.keys.key_adapter.Bound.{Bound}
@@ -22,7 +19,7 @@ use Rattle.ic_rbtree.proofs.KeyLaws.{keys_more, value_there, none_less, sorted_t
 use Rattle.ic_rbtree.proofs.Ranges.{Rises, ends}
 use Rattle.ic_rbtree.proofs.Walking.{between_ends}
 
--- of two cuts of one sequence, one is in front of the other, or it is the same
+-- of two cuts of one sequence, one is before the other, or it is the same
 prefixes : (f b g c : List Place) → f ++ b ≡ g ++ c
     → ((x : Place) × (u : List Place) × (g ≡ f ++ x ∷ u) × (b ≡ x ∷ u ++ c)) ⊎ ((v : List Place) × (f ≡ g ++ v) × (c ≡ v ++ b))
 prefixes [] b [] c e = inr ([], refl, sym e)

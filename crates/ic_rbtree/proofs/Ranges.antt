@@ -6,12 +6,8 @@ use Rattle.std.specs.Prelude.{is_some, IfSome, drop}
 use Rattle.std.specs.declared.cmp.Ordering.{Ordering}
 use Rattle.std.specs.declared.cmp.Ordering.TheVariants.{Less, Equal, Greater}
 use Rattle.std.specs.Ordering.{is_lt, is_le, is_ge, ordering_reverse}
-use Rattle.ic_unsafe_ref.specs.declared.place.Place.{Place}
-use Rattle.ic_unsafe_ref.specs.Objects.{Objects, object_at, is_placed}
-use Rattle.ic_link_ops.specs.PlacedObjects.{ArePlaced}
-use Rattle.ic_link_ops.specs.Sequences.{Cut, join, first, last, but_last}
-use Rattle.ic_link_ops.specs.Tables.{Table, IsCovered}
-use Rattle.ic_link_ops.specs.RedBlackTree.{Node, Shows}
+use Rattle.ic_link_ops.specs.Prelude.{Place, Objects, object_at, is_placed, Cut, join, first, last, but_last, Table, IsCovered, ArePlaced}
+use Rattle.ic_link_ops.specs.RedBlackTree.{Node, Represents}
 use Rattle.ic_link_ops.specs.Trees.{Tree, leaf, fork, in_order}
 use Rattle.ic_link_ops.proofs.SequenceLemmas.{first_is, split_last, last_or-append}
 use Rattle.ic_rbtree.specs.declared.keys.key_adapter.Bound.{Bound}
@@ -22,7 +18,7 @@ use Rattle.ic_rbtree.specs.Descents.{left_of, right_of, gap_in}
 use Rattle.ic_rbtree.specs.KeyProbe.{adapter_of, key_of_probe, key_order, HasAdapter}
 use Rattle.ic_rbtree.specs.Members.{between, members, IsWalk}
 use Rattle.ic_rbtree.specs.Ranges.{not_less, runs_up, IsSegment}
-use Rattle.ic_rbtree.proofs.Members.{members_shown}
+use Rattle.ic_rbtree.proofs.Members.{members_represented}
 use Rattle.ic_rbtree.proofs.Walking.{walk_members}
 use Rattle.ic_rbtree.proofs.Gaps.{gap_join, gap_border}
 use Rattle.ic_rbtree.proofs.Sending.{not_ge, not_gt, placed_there}
@@ -39,8 +35,8 @@ front_placed objects gap placed (Some q) e =
     placed_there objects (but_last gap.front) q gap.back
     (subst (ArePlaced objects) (ap (λ s. s ++ gap.back) (split_last gap.front (sym e)) ∙ append_assoc (but_last gap.front) (q ∷ []) gap.back) placed)
 
--- THE GAP of the one test is in front of that of the other, or the same, and w stands between;
-pub record IsInFront (one other : Cut) : Type 0 where
+-- THE GAP of the one test is before that of the other, or the same, and w stands between;
+pub record IsBefore (one other : Cut) : Type 0 where
   pub w : List Place
   pub fronts : other.front ≡ one.front ++ w
   pub backs : one.back ≡ w ++ other.back
@@ -54,11 +50,11 @@ pub record Crosses (f g : Place → Bool) (s : List Place) : Type 0 where
   pub fails : f m ≡ false
   pub passes : g m ≡ true
 
-pub meet : (f g : Place → Bool) (t : Tree) → IsInFront (gap_in f t) (gap_in g t) ⊎ Crosses f g (in_order t)
+pub meet : (f g : Place → Bool) (t : Tree) → IsBefore (gap_in f t) (gap_in g t) ⊎ Crosses f g (in_order t)
 meet f g leaf = inl (record { w = []; fronts = refl; backs = refl })
 meet f g (fork c a p b) = by (f p) refl (g p) refl (meet f g a) (meet f g b) where
-  by : (x : Bool) → f p ≡ x → (y : Bool) → g p ≡ y → IsInFront (gap_in f a) (gap_in g a) ⊎ Crosses f g (in_order a) → IsInFront (gap_in f b) (gap_in g b) ⊎ Crosses f g (in_order b)
-      → IsInFront (cond x (left_of (gap_in f a) p b) (right_of a p (gap_in f b))) (cond y (left_of (gap_in g a) p b) (right_of a p (gap_in g b))) ⊎ Crosses f g (in_order a ++ p ∷ in_order b)
+  by : (x : Bool) → f p ≡ x → (y : Bool) → g p ≡ y → IsBefore (gap_in f a) (gap_in g a) ⊎ Crosses f g (in_order a) → IsBefore (gap_in f b) (gap_in g b) ⊎ Crosses f g (in_order b)
+      → IsBefore (cond x (left_of (gap_in f a) p b) (right_of a p (gap_in f b))) (cond y (left_of (gap_in g a) p b) (right_of a p (gap_in g b))) ⊎ Crosses f g (in_order a ++ p ∷ in_order b)
   by true ex true ey (inl m) k =
       inl (record { w = m.w; fronts = m.fronts; backs = ap (λ s. s ++ p ∷ in_order b) m.backs ∙ append_assoc m.w (gap_in g a).back (p ∷ in_order b) })
   by true ex true ey (inr x) k = inr (record {
@@ -164,7 +160,7 @@ module _ {K : Type 0} {cmp : K → K → Ordering} (total : IsTotalOrder cmp) wh
     placed_value (Some v) e = (v, refl)
 
     -- WHERE THE ENDS RUN UP, the members between the two gaps are a walk from the one to the other
-    module _ {E : Type 0} (n : E → Node) {t : Table E} {root : Option Place} {s : List Place} (h : Shows n t root s) (placed : ArePlaced objects s) {f g : Place → Bool} (rises : Rises f) (falls : Rises g)
+    module _ {E : Type 0} (n : E → Node) {t : Table E} {root : Option Place} {s : List Place} (h : Represents n t root s) (placed : ArePlaced objects s) {f g : Place → Bool} (rises : Rises f) (falls : Rises g)
         {low high : Option Place} (low_is : low ≡ first (gap_in f h.tree).back) (high_is : high ≡ last (gap_in g h.tree).front) where
       pub walks_up : runs_up cmp (key_of adapter) objects low high ≡ true → (w : List Place) × IsWalk n t root low high w × ArePlaced objects w
       walks_up runs = by (meet f g h.tree) where
@@ -182,7 +178,7 @@ module _ {K : Type 0} {cmp : K → K → Ordering} (total : IsTotalOrder cmp) wh
         parts [] (y ∷ w) b all = (all.0, parts [] w b all.1)
         parts (y ∷ a) w b all = parts a w b all.1
 
-        by : IsInFront (gap_in f h.tree) (gap_in g h.tree) ⊎ Crosses f g (in_order h.tree) → (w : List Place) × IsWalk n t root low high w × ArePlaced objects w
+        by : IsBefore (gap_in f h.tree) (gap_in g h.tree) ⊎ Crosses f g (in_order h.tree) → (w : List Place) × IsWalk n t root low high w × ArePlaced objects w
         by (inl k) = walk k.w k.fronts k.backs where
           walk : (w : List Place) → (gap_in g h.tree).front ≡ (gap_in f h.tree).front ++ w → (gap_in f h.tree).back ≡ w ++ (gap_in g h.tree).back → (w : List Place) × IsWalk n t root low high w × ArePlaced objects w
           walk [] fronts backs =
@@ -194,7 +190,7 @@ module _ {K : Type 0} {cmp : K → K → Ordering} (total : IsTotalOrder cmp) wh
                 record {
                   front = (gap_in f h.tree).front;
                   back = (gap_in g h.tree).back;
-                  shown = subst (Shows n t root) order h;
+                  shown = subst (Represents n t root) order h;
                   starts = low_is ∙ ap first backs;
                   ends = high_is ∙ ap last fronts ∙ last_or-append None (gap_in f h.tree).front (y ∷ w);
                 },
@@ -205,8 +201,8 @@ module _ {K : Type 0} {cmp : K → K → Ordering} (total : IsTotalOrder cmp) wh
             absurd (x.up (total.trans _ _ _ (falls.less x.j k.m x.v m.0 x.last_is m.1 high_fails k.passes) (rises.less k.m x.i m.0 x.u m.1 x.first_is k.fails low_passes)))
 
 -- a walk is the segment between its ends
-pub segment_is : {E : Type 0} (n : E → Node) {t : Table E} → ((q : Place) → (n (t.entry q)).linked ≡ true → IsCovered t q) → {root low high : Option Place} {s w : List Place} → Shows n t root s
+pub segment_is : {E : Type 0} (n : E → Node) {t : Table E} → ((q : Place) → (n (t.entry q)).linked ≡ true → IsCovered t q) → {root low high : Option Place} {s w : List Place} → Represents n t root s
     → IsWalk n t root low high w → IsSegment s low high (between low high (members n t root))
 segment_is n {t} law {root} {low} {high} {s} {w} h x =
-    let same : x.front ++ (w ++ x.back) ≡ s = sym (members_shown t law root (x.front ++ (w ++ x.back)) x.shown) ∙ members_shown t law root s h in
+    let same : x.front ++ (w ++ x.back) ≡ s = sym (members_represented t law root (x.front ++ (w ++ x.back)) x.shown) ∙ members_represented t law root s h in
     subst (IsSegment s low high) (sym (walk_members n t law x)) (record { front = x.front; back = x.back; same = same; starts = x.starts; ends = x.ends })

@@ -1,19 +1,18 @@
 -- A red pair: recolored, or rotated above the grandparent.
 use Rattle.std.proofs.Common.{◌≡◌, ℕ, ◌+◌, ◌<◌, Bool, true, false, cond, not, is_some, Option, Some, None, List, [], ◌∷◌, length, refl, sym, ap, ◌∙◌, subst, arith}
 use Rattle.std.specs.Option.{IsSome}
-use Rattle.ic_unsafe_ref.specs.declared.place.Place.{Place}
+use Rattle.ic_link_ops.specs.Prelude.{Place, Table, ChangesOnly}
 use Rattle.ic_link_ops.specs.declared.color.Color.{Color}
 use Rattle.ic_link_ops.specs.declared.color.Color.TheVariants.{Red, Black}
 use Rattle.ic_link_ops.specs.declared.side.Side.{Side}
 use Rattle.ic_link_ops.specs.declared.side.Side.TheVariants.{Left, Right}
-use Rattle.ic_link_ops.specs.Tables.{Table, ChangesOnly}
 use Rattle.ic_link_ops.specs.Trees.{Tree, leaf, fork, top, in_order}
 use Rattle.ic_link_ops.specs.Shape.{top_color, weight, blacks, IsRight}
 use Rattle.ic_link_ops.specs.RedBlackTree.{Node, IsTree}
 use Rattle.ic_link_ops.specs.Frames.{Frame, frame, branch, plug, above, across, child_on}
 use Rattle.ic_link_ops.proofs.SequenceLemmas.{none_not, some_same}
 use Rattle.ic_link_ops.proofs.Trees.{top_parent}
-use Rattle.ic_rbtree.specs.Pieces.{Stands}
+use Rattle.ic_rbtree.specs.Pieces.{ClimbState}
 use Rattle.ic_rbtree.specs.Focus.{Focus}
 use Rattle.ic_rbtree.specs.Steps.{Rotates, IsSideOf}
 use Rattle.ic_rbtree.specs.Shortage.{wanted, color_above, IsNearlyRight}
@@ -128,7 +127,7 @@ module _ {E : Type 0} (n : E → Node) where
     pub grand_is : (n (v.entry q)).parent ≡ Some g
     grand_is = side_up n v.entry m.low q Red (top k.subtree) (top m.sibling) (Some g) h.red.stands.are.0.0.0
 
-    joined : Stands n k.base v root (frame i m.color g m.uncle ∷ k.frames) (branch m.low Red k.subtree q m.sibling) k.pieces
+    joined : ClimbState n k.base v root (frame i m.color g m.uncle ∷ k.frames) (branch m.low Red k.subtree q m.sibling) k.pieces
     joined = go_up n h.red.stands
 
     -- on which side of g the parent stands
@@ -193,8 +192,8 @@ module _ {E : Type 0} (n : E → Node) where
       turn_is : branch m.low Red k.subtree q m.sibling ≡ branch i Red m.sibling q (branch i Red x_open.0 x x_open.1)
       turn_is = (ap (λ (y : Side). branch y Red k.subtree q m.sibling) bent ∙ branch_across i Red m.sibling q k.subtree) ∙ ap (λ (y : Tree). branch i Red m.sibling q y) x_open.2
 
-      bent_ready : Stands n k.base v root (frame i m.color g m.uncle ∷ k.frames) (branch i Red m.sibling q (branch i Red x_open.0 x x_open.1)) k.pieces
-      bent_ready = subst (λ (y : Tree). Stands n k.base v root (frame i m.color g m.uncle ∷ k.frames) y k.pieces) turn_is joined
+      bent_ready : ClimbState n k.base v root (frame i m.color g m.uncle ∷ k.frames) (branch i Red m.sibling q (branch i Red x_open.0 x x_open.1)) k.pieces
+      bent_ready = subst (λ (y : Tree). ClimbState n k.base v root (frame i m.color g m.uncle ∷ k.frames) y k.pieces) turn_is joined
 
       pub outer_then : {w : Table E} {new_root : Option Place} → Rotates n v w root new_root q x i Red Red → HasOuterGrandchild n w new_root x g i m k
       outer_then {w} {new_root} rot =
@@ -219,18 +218,18 @@ module _ {E : Type 0} (n : E → Node) where
 
   -- CASE 3, an outer grandchild: its parent comes up above g, black, and g goes down, red
   module _ (v : Table E) (root : Option Place) (upper g : Place) (i j : Side) (ej : j ≡ across i) (m : RedPair) (k : Focus E)
-      (h : Stands n k.base v root (above_pair upper g i (record m { low = i }) k.frames) k.subtree k.pieces) where
-    grandparent_ready : Stands n k.base v root k.frames (branch (across i) m.color m.uncle g (branch (across i) Red m.sibling upper k.subtree)) k.pieces
+      (h : ClimbState n k.base v root (above_pair upper g i (record m { low = i }) k.frames) k.subtree k.pieces) where
+    grandparent_ready : ClimbState n k.base v root k.frames (branch (across i) m.color m.uncle g (branch (across i) Red m.sibling upper k.subtree)) k.pieces
     grandparent_ready =
         let low : Tree = branch i Red k.subtree upper m.sibling in
-        subst (λ (z : Tree). Stands n k.base v root k.frames z k.pieces)
+        subst (λ (z : Tree). ClimbState n k.base v root k.frames z k.pieces)
         (sym (branch_across i m.color low g m.uncle) ∙ ap (λ (z : Tree). branch (across i) m.color m.uncle g z) (sym (branch_across i Red k.subtree upper m.sibling))) (go_up n (go_up n h))
 
     pub rotates_grandparent : (w : Table E) (new_root : Option Place) → Rotates n v w root new_root g upper j Red Black
-        → Stands n k.base w new_root k.frames (branch i Black k.subtree upper (branch i Red m.sibling g m.uncle)) k.pieces
+        → ClimbState n k.base w new_root k.frames (branch i Black k.subtree upper (branch i Red m.sibling g m.uncle)) k.pieces
     rotates_grandparent w new_root rot' =
         let rot : Rotates n v w root new_root g upper (across i) Red Black = subst (λ (z : Side). Rotates n v w root new_root g upper z Red Black) ej rot' in
-        subst (λ (z : Tree). Stands n k.base w new_root k.frames z k.pieces)
+        subst (λ (z : Tree). ClimbState n k.base w new_root k.frames z k.pieces)
         (branch_across i Black k.subtree upper (branch (across i) Red m.uncle g m.sibling) ∙ ap (λ (z : Tree). branch i Black k.subtree upper z) (branch_across i Red m.sibling g m.uncle))
         (rot k.base k.frames (turn m.color m.uncle Red m.sibling upper k.subtree) k.pieces refl grandparent_ready)
 
@@ -261,8 +260,8 @@ module _ {E : Type 0} (n : E → Node) where
       → n (v2.entry y) ≡ record (n (v1.entry y)) { color = Black } → ChangesOnly v1 v2 y
       → n (w.entry g) ≡ record (n (v2.entry g)) { color = x } → ChangesOnly v2 w g → Recolors n v w q y g
   recolors v v1 v2 w q y g x ex set1 only1 set2 only2 set3 only3 root i m k is h = at m.uncle is h where
-    at : (u : Tree) → top u ≡ Some y → Stands n k.base v root (above_pair q g i (record m { uncle = u }) k.frames) k.subtree k.pieces
-        → Stands n k.base w root k.frames (branch i (wanted k.frames) (branch m.low Black k.subtree q m.sibling) g (blackened u)) k.pieces
+    at : (u : Tree) → top u ≡ Some y → ClimbState n k.base v root (above_pair q g i (record m { uncle = u }) k.frames) k.subtree k.pieces
+        → ClimbState n k.base w root k.frames (branch i (wanted k.frames) (branch m.low Black k.subtree q m.sibling) g (blackened u)) k.pieces
     at leaf is h = absurd (none_not y is)
     at (fork z a p b) is h =
         let U : Tree = fork z a p b in
@@ -273,7 +272,7 @@ module _ {E : Type 0} (n : E → Node) where
         let h2 = go_across n h1 in
         let h3 = painted_top n Left z a p b (some_same (sym is)) refl set2 only2 h2 in
         let h4 = go_up n h3 in
-        let h5 = subst (λ (t : Tree). Stands n k.base v2 root k.frames t k.pieces) (branch_across i m.color low g U') h4 in
+        let h5 = subst (λ (t : Tree). ClimbState n k.base v2 root k.frames t k.pieces) (branch_across i m.color low g U') h4 in
         painted_top n i m.color low g U' refl tint set3 only3 h5
 
   -- a step's answer, from the pair's to the whole

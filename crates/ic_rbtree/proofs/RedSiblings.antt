@@ -1,11 +1,10 @@
 -- A red sibling comes up.
 use Rattle.std.proofs.Common.{◌≡◌, Bool, true, false, inl, inr, Option, Some, None, ◌∷◌, refl, sym, ap, ◌∙◌, subst, arith}
 use Rattle.std.specs.Option.{IsSome}
-use Rattle.ic_unsafe_ref.specs.declared.place.Place.{Place}
+use Rattle.ic_link_ops.specs.Prelude.{Place, Table}
 use Rattle.ic_link_ops.specs.declared.color.Color.{Color}
 use Rattle.ic_link_ops.specs.declared.color.Color.TheVariants.{Red, Black}
 use Rattle.ic_link_ops.specs.declared.side.Side.{Side}
-use Rattle.ic_link_ops.specs.Tables.{Table}
 use Rattle.ic_link_ops.specs.Trees.{Tree, leaf, fork, top}
 use Rattle.ic_link_ops.specs.Shape.{top_color, blacks}
 use Rattle.ic_link_ops.specs.RedBlackTree.{Node, IsTree}

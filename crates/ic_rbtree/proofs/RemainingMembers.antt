@@ -1,23 +1,21 @@
 -- The members that a walk has left are taken off one after the other, from the front.
 use Rattle.std.proofs.Common.{◌≡◌, ◌<◌, true, Option, Some, None, List, [], ◌∷◌, ◌++◌, drop, length, refl, sym, ap, ◌∙◌, subst, arith, append_assoc, append-nil}
-use Rattle.ic_unsafe_ref.specs.declared.place.Place.{Place}
-use Rattle.ic_link_ops.specs.Sequences.{first, IsAbsent}
-use Rattle.ic_link_ops.specs.Tables.{Table, IsCovered, KeepsBeside}
-use Rattle.ic_link_ops.specs.RedBlackTree.{Node, ShowsEnds}
+use Rattle.ic_link_ops.specs.Prelude.{Place, first, IsAbsent, Table, IsCovered, ChangesOnlyIn}
+use Rattle.ic_link_ops.specs.RedBlackTree.{Node, RepresentsEnds}
 use Rattle.ic_link_ops.proofs.SequenceLemmas.{absent_right, first_is, fewer, nothing_first}
 use Rattle.ic_rbtree.specs.Members.{members_around}
 use Rattle.ic_rbtree.proofs.Members.{members_between_ends}
 
 module _ {E : Type 0} (n : E → Node) where
-  -- of w the members `done` are taken off, and the rest is shown between the ends
+  -- of w the members `done` are taken off, and the rest is represented between the ends
   pub record Finishes (base v : Table E) (front back : Option Place) (w : List Place) : Type 0 where
     pub done : List Place
     pub rest : List Place
     pub parts : w ≡ done ++ rest
-    pub left : ShowsEnds n v front back rest
-    pub frame : KeepsBeside base v w
+    pub left : RepresentsEnds n v front back rest
+    pub frame : ChangesOnlyIn base v w
 
-  pub finish_starts : (v : Table E) (front back : Option Place) (w : List Place) → ShowsEnds n v front back w → (k : Finishes v v front back w) × (k.done ≡ [])
+  pub finish_starts : (v : Table E) (front back : Option Place) (w : List Place) → RepresentsEnds n v front back w → (k : Finishes v v front back w) × (k.done ≡ [])
   finish_starts v front back w h = (
     record {
       done = [];
@@ -31,7 +29,7 @@ module _ {E : Type 0} (n : E → Node) where
 
   module _ {base v : Table E} {front back : Option Place} {w : List Place} (k : Finishes base v front back w) where
     -- one more
-    pub finish_more : {u : Table E} {front' back' : Option Place} (p : Place) → Some p ≡ first k.rest → ShowsEnds n u front' back' (drop 1 k.rest) → KeepsBeside v u k.rest
+    pub finish_more : {u : Table E} {front' back' : Option Place} (p : Place) → Some p ≡ first k.rest → RepresentsEnds n u front' back' (drop 1 k.rest) → ChangesOnlyIn v u k.rest
         → (k' : Finishes base u front' back' w) × (k'.done ≡ k.done ++ p ∷ [])
     finish_more p e left keeps = (
       record {
@@ -52,7 +50,7 @@ module _ {E : Type 0} (n : E → Node) where
     finish_all e = sym (append-nil k.done) ∙ ap (λ (s : List Place). k.done ++ s) (sym (nothing_first k.rest e)) ∙ sym k.parts
 
     pub finish_falls : ((q : Place) → (n (v.entry q)).linked ≡ true → IsCovered v q) → {u : Table E} → ((q : Place) → (n (u.entry q)).linked ≡ true → IsCovered u q)
-        → {front' back' : Option Place} (p : Place) → Some p ≡ first k.rest → ShowsEnds n u front' back' (drop 1 k.rest)
+        → {front' back' : Option Place} (p : Place) → Some p ≡ first k.rest → RepresentsEnds n u front' back' (drop 1 k.rest)
         → length (members_around n u front') < length (members_around n v front)
     finish_falls law {u} law' {front'} {back'} p e left =
         let old : members_around n v front ≡ k.rest = members_between_ends n v law front back k.rest k.left in

@@ -1,29 +1,27 @@
 -- A member is removed: found by the sequence, taken out, and released.
 use Rattle.std.proofs.Common.{◌≡◌, inl, inr, true, Option, Some, None, List, [], ◌∷◌, ◌++◌, refl, sym, ap, ◌∙◌, subst, arith, append-nil, append_assoc, drop}
 use Rattle.std.proofs.lemmas.List.{append_cancel_left}
-use Rattle.ic_unsafe_ref.specs.declared.place.Place.{Place}
+use Rattle.ic_link_ops.specs.Prelude.{Place, Cut, join, first, IsAbsent, IsDistinct, Table, ChangesOnly}
 use Rattle.ic_link_ops.specs.declared.color.Color.{Color}
 use Rattle.ic_link_ops.specs.declared.side.Side.TheVariants.{Left, Right}
-use Rattle.ic_link_ops.specs.Sequences.{Cut, join, first, IsAbsent, IsDistinct}
-use Rattle.ic_link_ops.specs.Tables.{Table, ChangesOnly}
 use Rattle.ic_link_ops.specs.Edits.{Removes}
 use Rattle.ic_link_ops.specs.Trees.{Tree, leaf, fork, top, in_order}
 use Rattle.ic_link_ops.specs.Shape.{IsRight}
-use Rattle.ic_link_ops.specs.RedBlackTree.{Node, Shows}
+use Rattle.ic_link_ops.specs.RedBlackTree.{Node, Represents}
 use Rattle.ic_link_ops.specs.Frames.{Frame, frame, branch, plug, before, after}
 use Rattle.ic_link_ops.proofs.SequenceLemmas.{none_not, some_same}
 use Rattle.ic_link_ops.proofs.Frames.{focus, in_order_parts}
 use Rattle.ic_link_ops.specs.Times.{one_at, times, times_in}
 use Rattle.ic_link_ops.proofs.Times.{one_at_self, apart, times_order, times_distinct, times_absent, absent_times, times_append}
-use Rattle.ic_link_ops.proofs.ShownTrees.{holds_once}
-use Rattle.ic_link_ops.proofs.ShownTrees.{shows_beside}
-use Rattle.ic_rbtree.specs.Pieces.{Piece, loose, Stands, Shown}
+use Rattle.ic_link_ops.proofs.RepresentedTrees.{holds_once}
+use Rattle.ic_link_ops.proofs.RepresentedTrees.{represents_beside}
+use Rattle.ic_rbtree.specs.Pieces.{Piece, loose, ClimbState, Represented}
 use Rattle.ic_rbtree.specs.Sides.{IsOutermostWithin}
 use Rattle.ic_rbtree.specs.Transplants.{Parts, only, IsLone, both_of, SplicesOut, TakesPlace}
 use Rattle.ic_rbtree.proofs.Zipper.{go_down, go_top}
 use Rattle.ic_rbtree.proofs.InsertionShapes.{right_plug}
 use Rattle.ic_rbtree.proofs.RemovalShapes.{shape_open}
-use Rattle.ic_rbtree.proofs.Low.{shown_low}
+use Rattle.ic_rbtree.proofs.Low.{represented_low}
 use Rattle.ic_rbtree.proofs.Transplants.{order_only}
 
 -- the sequence of a tree around one of its members
@@ -45,22 +43,22 @@ abbrev pub parts : Color → Tree → Tree → Parts
 parts c a b = record { color = c; left = a; right = b }
 
 module _ {E : Type 0} (n : E → Node) where
-  pub go_into : {base v : Table E} (root : Option Place) (fs : List Frame) (t : Tree) (ps : List Piece) → Stands n base v root [] (plug fs t) ps → Stands n base v root fs t ps
+  pub go_into : {base v : Table E} (root : Option Place) (fs : List Frame) (t : Tree) (ps : List Piece) → ClimbState n base v root [] (plug fs t) ps → ClimbState n base v root fs t ps
   go_into root [] t ps h = h
   go_into root (frame d c p b ∷ fs) t ps h = go_down n d c p b t (go_into root fs (branch d c t p b) ps h)
 
   -- FROM THE SEQUENCE to the member
-  pub record Spot (base v : Table E) (root : Option Place) (front : List Place) (p : Place) (back : List Place) (ps : List Piece) : Type 0 where
+  pub record PositionWithNext (base v : Table E) (root : Option Place) (front : List Place) (p : Place) (back : List Place) (ps : List Piece) : Type 0 where
     pub fs : List Frame
     pub c : Color
     pub a : Tree
     pub b : Tree
-    pub stands : Stands n base v root fs (fork c a p b) ps
+    pub stands : ClimbState n base v root fs (fork c a p b) ps
     pub right : IsRight (plug fs (fork c a p b))
     pub front_is : before fs ++ in_order a ≡ front
     pub back_is : in_order b ++ after fs ≡ back
 
-  pub spot : {base v : Table E} {root : Option Place} (front : List Place) (p : Place) (back : List Place) {ps : List Piece} → Shown n base v root (front ++ p ∷ back) ps → Spot base v root front p back ps
+  pub spot : {base v : Table E} {root : Option Place} (front : List Place) (p : Place) (back : List Place) {ps : List Piece} → Represented n base v root (front ++ p ∷ back) ps → PositionWithNext base v root front p back ps
   spot {base} {v} {root} front p back {ps} h =
       let f = focus h.tree [] front p back h.order in
       record {
@@ -68,7 +66,7 @@ module _ {E : Type 0} (n : E → Node) where
         c = f.1;
         a = f.2;
         b = f.3;
-        stands = go_into root f.0 (fork f.1 f.2 p f.3) ps (subst (λ (x : Tree). Stands n base v root [] x ps) (sym f.4) h.stands);
+        stands = go_into root f.0 (fork f.1 f.2 p f.3) ps (subst (λ (x : Tree). ClimbState n base v root [] x ps) (sym f.4) h.stands);
         right = subst (λ (x : Tree). IsRight x) (sym f.4) h.shape;
         front_is = f.5;
         back_is = f.6 ∙ append-nil back;
@@ -76,7 +74,7 @@ module _ {E : Type 0} (n : E → Node) where
 
   -- another place stands in the member's place
   pub placed : {base w u : Table E} {root1 root2 : Option Place} {front : List Place} {p : Place} {back : List Place} {ps : List Piece} (z : Place)
-      → Spot base w root1 front p back (loose z ∷ ps) → TakesPlace n w u root1 root2 p z → Shown n base u root2 (front ++ z ∷ back) (loose p ∷ ps)
+      → PositionWithNext base w root1 front p back (loose z ∷ ps) → TakesPlace n w u root1 root2 p z → Represented n base u root2 (front ++ z ∷ back) (loose p ∷ ps)
   placed {base} {w} {u} {root1} {root2} {front} {p} {back} {ps} z x swapped = record {
     tree = plug x.fs (fork x.c x.a z x.b);
     stands = go_top n (swapped base x.fs (parts x.c x.a x.b) ps x.stands);
@@ -84,7 +82,7 @@ module _ {E : Type 0} (n : E → Node) where
     shape = renamed x.fs x.c x.a p z x.b x.right;
   }
 
-  module _ {base v : Table E} {root : Option Place} {front : List Place} {p : Place} {back : List Place} {ps : List Piece} (x : Spot base v root front p back ps) where
+  module _ {base v : Table E} {root : Option Place} {front : List Place} {p : Place} {back : List Place} {ps : List Piece} (x : PositionWithNext base v root front p back ps) where
     pub spot_linked : (n (v.entry p)).linked ≡ true
     spot_linked = x.stands.are.1.0.0.linked
 
@@ -100,10 +98,10 @@ module _ {E : Type 0} (n : E → Node) where
         pick (fork c a q b) (fork k l r m) e = absurd (none_not r (sym e))
 
     pub lone_taken : {w : Table E} {new_root : Option Place} (o : Option Place) → o ≡ both_of (n (v.entry p)).left (n (v.entry p)).right → o ≡ None
-        → SplicesOut n v w root new_root p → Shown n base w new_root (front ++ back) (loose p ∷ ps)
+        → SplicesOut n v w root new_root p → Represented n base w new_root (front ++ back) (loose p ∷ ps)
     lone_taken {w} {new_root} o eo none taken =
         let one = lone o eo none in
-        subst (λ (s : List Place). Shown n base w new_root s (loose p ∷ ps)) (joined x.fs x.a x.b one x.front_is x.back_is) (taken base x.fs (parts x.c x.a x.b) ps x.stands one x.right)
+        subst (λ (s : List Place). Represented n base w new_root s (loose p ∷ ps)) (joined x.fs x.a x.b one x.front_is x.back_is) (taken base x.fs (parts x.c x.a x.b) ps x.stands one x.right)
       where
         joined : (fs : List Frame) (a b : Tree) → IsLone a b → before fs ++ in_order a ≡ front → in_order b ++ after fs ≡ back → before fs ++ (in_order (only a b) ++ after fs) ≡ front ++ back
         joined fs a b one ef eb =
@@ -121,7 +119,7 @@ module _ {E : Type 0} (n : E → Node) where
             pick None k e = absurd (none_not r e)
             pick (Some l) k e = e
 
-      right_stands : Stands n base v root (frame Right x.c p x.a ∷ x.fs) x.b ps
+      right_stands : ClimbState n base v root (frame Right x.c p x.a ∷ x.fs) x.b ps
       right_stands = go_down n Right x.c p x.a x.b x.stands
 
       module _ (z : Place) (leftmost : IsOutermostWithin n v r Left z) where
@@ -130,14 +128,14 @@ module _ {E : Type 0} (n : E → Node) where
           pub gs : List Frame
           pub k : Color
           pub m : Tree
-          pub stands : Stands n base v root gs (fork k leaf z m) ps
+          pub stands : ClimbState n base v root gs (fork k leaf z m) ps
           pub right : IsRight (plug gs (fork k leaf z m))
           pub behind : back ≡ z ∷ (in_order m ++ after gs)
           pub order : before gs ++ (in_order m ++ after gs) ≡ front ++ p ∷ (in_order m ++ after gs)
 
         pub next : Next
         next =
-            let l = leftmost base root (frame Right x.c p x.a ∷ x.fs) x.b ps right_stands right_top (shown_low n x.stands x.right) in
+            let l = leftmost base root (frame Right x.c p x.a ∷ x.fs) x.b ps right_stands right_top (represented_low n x.stands x.right) in
             let rest : List Place = in_order l.b ++ after l.gs in
             let start : before l.gs ≡ front ++ p ∷ [] = l.beside ∙ (sym (append_assoc (before x.fs) (in_order x.a) (p ∷ [])) ∙ ap (λ (s : List Place). s ++ p ∷ []) x.front_is) in
             let glued : (s : List Place) → before l.gs ++ s ≡ front ++ p ∷ s = λ s. ap (λ (t : List Place). t ++ s) start ∙ append_assoc front (p ∷ []) s in
@@ -150,24 +148,24 @@ module _ {E : Type 0} (n : E → Node) where
               gs = l.gs;
               k = l.c;
               m = l.b;
-              stands = go_into root l.gs (fork l.c leaf z l.b) ps (subst (λ (t : Tree). Stands n base v root [] t ps) (sym l.same) (go_top n right_stands));
+              stands = go_into root l.gs (fork l.c leaf z l.b) ps (subst (λ (t : Tree). ClimbState n base v root [] t ps) (sym l.same) (go_top n right_stands));
               right = subst (λ (t : Tree). IsRight t) (sym l.same) x.right;
               behind = cc;
               order = glued rest;
             }
 
-        pub next_out : {w : Table E} {new_root : Option Place} → SplicesOut n v w root new_root z → Shown n base w new_root (front ++ p ∷ (in_order next.m ++ after next.gs)) (loose z ∷ ps)
+        pub next_out : {w : Table E} {new_root : Option Place} → SplicesOut n v w root new_root z → Represented n base w new_root (front ++ p ∷ (in_order next.m ++ after next.gs)) (loose z ∷ ps)
         next_out {w} {new_root} taken =
-            subst (λ (s : List Place). Shown n base w new_root s (loose z ∷ ps)) next.order (taken base next.gs (parts next.k leaf next.m) ps next.stands (inl refl) next.right)
+            subst (λ (s : List Place). Represented n base w new_root s (loose z ∷ ps)) next.order (taken base next.gs (parts next.k leaf next.m) ps next.stands (inl refl) next.right)
 
-        pub place_taken : {w u : Table E} {root1 root2 : Option Place} → SplicesOut n v w root root1 z → TakesPlace n w u root1 root2 p z → Shown n base u root2 (front ++ back) (loose p ∷ ps)
+        pub place_taken : {w u : Table E} {root1 root2 : Option Place} → SplicesOut n v w root root1 z → TakesPlace n w u root1 root2 p z → Represented n base u root2 (front ++ back) (loose p ∷ ps)
         place_taken {w} {u} {root1} {root2} taken swapped =
             let y = spot front p (in_order next.m ++ after next.gs) (next_out taken) in
-            subst (λ (s : List Place). Shown n base u root2 (front ++ s) (loose p ∷ ps)) (sym next.behind) (placed z y swapped)
+            subst (λ (s : List Place). Represented n base u root2 (front ++ s) (loose p ∷ ps)) (sym next.behind) (placed z y swapped)
 
   -- INTO THE PIECES, and out of them
-  -- the shown tree stands at the root
-  pub stands_of : {v : Table E} {root : Option Place} {s : List Place} (h : Shows n v root s) → Stands n v v root [] h.tree []
+  -- the represented tree stands at the root
+  pub stands_of : {v : Table E} {root : Option Place} {s : List Place} (h : Represents n v root s) → ClimbState n v v root [] h.tree []
   stands_of {v} {root} {s} h = record {
     are = ((tt, h.starts), (h.held.entries, tt));
     once = λ q. omega (arith, holds_once h.held q);
@@ -176,11 +174,11 @@ module _ {E : Type 0} (n : E → Node) where
     extent = refl;
   }
 
-  pub shown_of : {v : Table E} {root : Option Place} {s : List Place} → Shows n v root s → Shown n v v root s []
-  shown_of {v} {root} {s} h = record { tree = h.tree; stands = stands_of h; order = h.held.order; shape = h.shape }
+  pub represented_of : {v : Table E} {root : Option Place} {s : List Place} → Represents n v root s → Represented n v v root s []
+  represented_of {v} {root} {s} h = record { tree = h.tree; stands = stands_of h; order = h.held.order; shape = h.shape }
 
-  pub shows_of : {base v : Table E} {root : Option Place} {s : List Place} {ps : List Piece} → Shown n base v root s ps → Shows n v root s
-  shows_of {base} {v} {root} {s} {ps} h = record {
+  pub represents_of : {base v : Table E} {root : Option Place} {s : List Place} {ps : List Piece} → Represented n base v root s ps → Represents n v root s
+  represents_of {base} {v} {root} {s} {ps} h = record {
     tree = h.tree;
     held = record {
       order = h.order;
@@ -192,23 +190,23 @@ module _ {E : Type 0} (n : E → Node) where
   }
 
   -- what is on its own is no member
-  pub loose_absent : {base v : Table E} {root : Option Place} {s : List Place} {p : Place} {ps : List Piece} → Shown n base v root s (loose p ∷ ps) → IsAbsent p s
+  pub loose_absent : {base v : Table E} {root : Option Place} {s : List Place} {p : Place} {ps : List Piece} → Represented n base v root s (loose p ∷ ps) → IsAbsent p s
   loose_absent {base} {v} {root} {s} {p} {ps} h =
       subst (λ (x : List Place). IsAbsent p x) h.order (times_absent p (in_order h.tree) (omega (arith, h.stands.once p, one_at_self p, times_order p h.tree)))
 
-  pub front_shown : {v : Table E} {root : Option Place} (gap : Cut) (p : Place) → Shows n v root (join gap) → first gap.back ≡ Some p → (rest : List Place) × (gap.back ≡ p ∷ rest) × Shown n v v root (gap.front ++ p ∷ rest) []
-  front_shown {v} {root} gap p h e =
-      let r = begins gap.back e in (r.0, r.1, subst (λ (x : List Place). Shown n v v root (gap.front ++ x) []) r.1 (shown_of h)) where
+  pub front_represented : {v : Table E} {root : Option Place} (gap : Cut) (p : Place) → Represents n v root (join gap) → first gap.back ≡ Some p → (rest : List Place) × (gap.back ≡ p ∷ rest) × Represented n v v root (gap.front ++ p ∷ rest) []
+  front_represented {v} {root} gap p h e =
+      let r = begins gap.back e in (r.0, r.1, subst (λ (x : List Place). Represented n v v root (gap.front ++ x) []) r.1 (represented_of h)) where
         begins : (s : List Place) → first s ≡ Some p → (rest : List Place) × (s ≡ p ∷ rest)
         begins [] e = absurd (none_not p e)
         begins (x ∷ s) e = (s, ap (λ (y : Place). y ∷ s) (some_same e))
 
   -- THE WHOLE REMOVAL, in the words of edits
   pub removes : (v w z : Table E) (root new_root : Option Place) (p : Place) (gap : Cut) (rest : List Place)
-      → gap.back ≡ p ∷ rest → Shown n v v root (gap.front ++ p ∷ rest) [] → Shown n v w new_root (gap.front ++ rest) (loose p ∷ [])
-      → ChangesOnly w z p → Removes (Shows n) v z new_root gap
+      → gap.back ≡ p ∷ rest → Represented n v v root (gap.front ++ p ∷ rest) [] → Represented n v w new_root (gap.front ++ rest) (loose p ∷ [])
+      → ChangesOnly w z p → Removes (Represents n) v z new_root gap
   removes v w z root new_root p gap rest is old h only = record {
-    shows = subst (λ (s : List Place). Shows n z new_root (gap.front ++ s)) (sym (ap (λ (s : List Place). drop 1 s) is)) (shows_beside (shows_of h) (loose_absent h) only.others);
+    shows = subst (λ (s : List Place). Represents n z new_root (gap.front ++ s)) (sym (ap (λ (s : List Place). drop 1 s) is)) (represents_beside (represents_of h) (loose_absent h) only.others);
     frame = record {
       extent = only.extent ∙ h.stands.extent;
       others = λ q out. others q out;

@@ -1,12 +1,10 @@
 -- A branch opened and closed, and what `adopt`, `change_child` and `rotate` do to the pieces.
 use Rattle.std.proofs.Common.{◌≡◌, ◌≤◌, Option, Some, None, List, [], ◌∷◌, true, false, Bool, refl, sym, ap, ◌∙◌, subst, arith, eq-eqb, eqb-true}
-use Rattle.ic_unsafe_ref.specs.declared.place.Place.{Place}
-use Rattle.ic_unsafe_ref.specs.Places.{index_of}
+use Rattle.ic_link_ops.specs.Prelude.{Place, index_of, Table, ChangesOnly}
 use Rattle.ic_unsafe_ref.proofs.PlaceLemmas.{same_index}
 use Rattle.ic_link_ops.specs.declared.color.Color.{Color}
 use Rattle.ic_link_ops.specs.declared.side.Side.{Side}
 use Rattle.ic_link_ops.specs.declared.side.Side.TheVariants.{Left, Right}
-use Rattle.ic_link_ops.specs.Tables.{Table, ChangesOnly}
 use Rattle.ic_link_ops.specs.Walk.{is_end}
 use Rattle.ic_link_ops.specs.Trees.{Tree, leaf, fork, top}
 use Rattle.ic_link_ops.specs.RedBlackTree.{Node, IsTree}
@@ -14,7 +12,7 @@ use Rattle.ic_link_ops.specs.Frames.{Frame, frame, with_child, branch, above, Is
 use Rattle.ic_link_ops.proofs.SequenceLemmas.{none_not, some_same}
 use Rattle.ic_link_ops.specs.Times.{one_at, times, times_around}
 use Rattle.ic_link_ops.proofs.Times.{one_at_self, times_branch}
-use Rattle.ic_rbtree.specs.Pieces.{Piece, cell, below, around, Held, Stands}
+use Rattle.ic_rbtree.specs.Pieces.{Piece, cell, below, around, Held, ClimbState}
 use Rattle.ic_rbtree.specs.Steps.{Turn, Adopts, ChangesChild, Rotates, IsSideOf}
 use Rattle.ic_rbtree.proofs.Branches.{top_branch, branch_open, branch_close, side_near, side_far, side_up, side_linked}
 use Rattle.ic_rbtree.proofs.Pieces.{regroup, set_near, set_far, set_up, set_parent_and_color}
@@ -69,7 +67,7 @@ module _ {E : Type 0} (n : E → Node) where
 
     -- the same at the place where a tree stands below frames
     pub open_at : (root : Option Place) (fs : List Frame) (d : Side) (c : Color) (a : Tree) (p : Place) (b : Tree) (ps : List Piece)
-        → Stands n base v root fs (branch d c a p b) ps
+        → ClimbState n base v root fs (branch d c a p b) ps
         → Held n base v (cell d p c (top a) (top b) (above fs) ∷ below (Some p) a ∷ below (Some p) b ∷ around root fs (Some p) ∷ ps)
     open_at root fs d c a p b ps h =
         let ring = subst (λ (x : Option Place). IsAround n v.entry fs x × (root ≡ topmost fs x)) (top_branch d c a p b) h.are.0 in
@@ -78,7 +76,7 @@ module _ {E : Type 0} (n : E → Node) where
 
     pub close_at : (root near far : Option Place) (fs : List Frame) (d : Side) (c : Color) (a : Tree) (p : Place) (b : Tree) (ps : List Piece)
         → near ≡ top a → far ≡ top b → Held n base v (cell d p c near far (above fs) ∷ below (Some p) a ∷ below (Some p) b ∷ around root fs (Some p) ∷ ps)
-        → Stands n base v root fs (branch d c a p b) ps
+        → ClimbState n base v root fs (branch d c a p b) ps
     close_at root near far fs d c a p b ps ea eb h' =
         let h = close_below (above fs) near far d c a p b (around root fs (Some p) ∷ ps) ea eb h' in
         let ring = subst (λ (x : Option Place). IsAround n v.entry fs x × (root ≡ topmost fs x)) (sym (top_branch d c a p b)) h.are.1.0 in

@@ -1,22 +1,17 @@
--- A DESCENT that comparisons send from the root of a shown tree to a gap.
+-- A DESCENT that comparisons send from the root of a represented tree to a gap.
 use Rattle.std.proofs.Common.{◌≡◌, ℕ, ◌+◌, ◌^◌, ◌≤◌, ◌<◌, Bool, true, false, not, cond, Option, Some, None, IsSome, List, [], ◌∷◌, ◌++◌, length, refl, sym, ap, ◌∙◌, subst, arith, append_assoc, append-nil}
 use Rattle.std.specs.declared.cmp.Ordering.{Ordering}
 use Rattle.std.specs.declared.cmp.Ordering.TheVariants.{Less, Equal, Greater}
 use Rattle.std.specs.Ordering.{is_eq, is_lt, is_le, is_gt, is_ge}
-use Rattle.ic_unsafe_ref.specs.declared.place.Place.{Place}
-use Rattle.ic_unsafe_ref.specs.Objects.{Objects, object_at}
+use Rattle.ic_link_ops.specs.Prelude.{Place, Objects, object_at, Cut, first, last, Table, CursorState, RepresentsAt, IsValidCursor as PositionStands, ArePlaced}
 use Rattle.ic_link_ops.specs.declared.color.Color.{Color}
 use Rattle.ic_link_ops.specs.declared.side.Side.{Side}
 use Rattle.ic_link_ops.specs.declared.side.Side.TheVariants.{Left, Right}
-use Rattle.ic_link_ops.specs.Sequences.{Cut, first, last}
-use Rattle.ic_link_ops.specs.Tables.{Table}
-use Rattle.ic_link_ops.specs.PlacedObjects.{ArePlaced}
 use Rattle.ic_link_ops.specs.Trees.{Tree, leaf, fork, top, in_order}
 use Rattle.ic_link_ops.specs.Shape.{IsRight}
-use Rattle.ic_link_ops.specs.RedBlackTree.{Node, Shows}
+use Rattle.ic_link_ops.specs.RedBlackTree.{Node, Represents}
 use Rattle.ic_link_ops.specs.Frames.{Frame, frame, plug, above, before, after, child_on}
 use Rattle.ic_link_ops.specs.Walk.{is_end}
-use Rattle.ic_link_ops.specs.Positions.{Site, ShowsAt, Stands as PositionStands}
 use Rattle.ic_link_ops.proofs.Positions.{stands_by_gap, stands_null}
 use Rattle.ic_link_ops.proofs.SequenceLemmas.{none_not, some_same}
 use Rattle.ic_link_ops.proofs.Walks.{is_end_not}
@@ -29,8 +24,8 @@ use Rattle.ic_rbtree.specs.Descents.{side_of, gap_in, SendsPast, passed, at_root
 use Rattle.ic_rbtree.specs.declared.keys.entry.InsertCursor.{InsertCursor}
 use Rattle.ic_rbtree.specs.Entry.{IsVacantFor}
 use Rattle.ic_rbtree.specs.Height.{height}
-use Rattle.ic_rbtree.specs.Insertion.{IsHole}
-use Rattle.ic_rbtree.specs.Pieces.{Stands}
+use Rattle.ic_rbtree.specs.Insertion.{IsInsertPos}
+use Rattle.ic_rbtree.specs.Pieces.{ClimbState}
 use Rattle.ic_rbtree.specs.Removal.{IsOn}
 use Rattle.ic_rbtree.specs.Sides.{IsBeside}
 use Rattle.ic_rbtree.proofs.Branches.{side_near, top_leaf}
@@ -108,7 +103,7 @@ module _ {E : Type 0} (n : E → Node) where
   pub record Sent (v : Table E) (root : Option Place) (at : Place → Ordering) (equals : Side) (tree : Tree) (here : Option Place) (d : Descent) (start count : ℕ) : Type 0 where
     pub fs : List Frame
     pub t : Tree
-    pub stands : Stands n v v root fs t []
+    pub stands : ClimbState n v v root fs t []
     pub same : plug fs t ≡ tree
     pub here_is : here ≡ top t
     pub sends : SendsPast (λ p. goes_left equals (at p)) fs
@@ -122,7 +117,7 @@ module _ {E : Type 0} (n : E → Node) where
     pub counted : count ≡ start + length fs
 
   module _ {v : Table E} {root : Option Place} {at : Place → Ordering} {equals : Side} where
-    first_at : {s : List Place} (start : ℕ) (h : Shows n v root s) → Sent v root at equals h.tree root at_root start start
+    first_at : {s : List Place} (start : ℕ) (h : Represents n v root s) → Sent v root at equals h.tree root at_root start start
     first_at start h = record {
       fs = [];
       t = h.tree;
@@ -140,7 +135,7 @@ module _ {E : Type 0} (n : E → Node) where
       counted = omega arith;
     }
 
-    pub sent_first : {s : List Place} {d : Descent} → d ≡ at_root → (start : ℕ) (h : Shows n v root s) → Sent v root at equals h.tree root d start start
+    pub sent_first : {s : List Place} {d : Descent} → d ≡ at_root → (start : ℕ) (h : Represents n v root s) → Sent v root at equals h.tree root d start start
     sent_first {s} {d} is start h = subst (λ z. Sent v root at equals h.tree root z start start) (sym is) (first_at start h)
 
     module _ {tree : Tree} {here : Option Place} {d : Descent} {start count : ℕ} (x : Sent v root at equals tree here d start count) where
@@ -155,14 +150,14 @@ module _ {E : Type 0} (n : E → Node) where
           high leaf e = absurd (none_not p e)
           high (fork c a q b) e = omega arith
 
-        pub sent_low : {s : List Place} (h : Shows n v root s) → h.tree ≡ tree → length x.fs + 1 ≤ 66
+        pub sent_low : {s : List Place} (h : Represents n v root s) → h.tree ≡ tree → length x.fs + 1 ≤ 66
         sent_low h same = path_few n h x.fs x.t (length x.fs + 1) (x.same ∙ sym same) sent_high
 
-        pub sent_room : {s : List Place} (h : Shows n v root s) → h.tree ≡ tree → start + 66 ≤ 18446744073709551615 → count < 18446744073709551615
+        pub sent_room : {s : List Place} (h : Represents n v root s) → h.tree ≡ tree → start + 66 ≤ 18446744073709551615 → count < 18446744073709551615
         sent_room h same room = let few = sent_low h same in omega (arith, few, room, x.counted)
 
         -- and its object is placed
-        pub sent_placed : {V : Type 0} (objects : Objects V) {s : List Place} (h : Shows n v root s) → h.tree ≡ tree → ArePlaced objects s → IsSome (object_at objects p)
+        pub sent_placed : {V : Type 0} (objects : Objects V) {s : List Place} (h : Represents n v root s) → h.tree ≡ tree → ArePlaced objects s → IsSome (object_at objects p)
         sent_placed objects {s} h same placed =
             let o = opened n Left x.fs x.t x.stands (sym x.here_is ∙ is) in
             let order : s ≡ (before x.fs ++ in_order o.a) ++ p ∷ (in_order o.b ++ after x.fs) =
@@ -215,7 +210,7 @@ module _ {E : Type 0} (n : E → Node) where
             subst (λ z. Sent v root at equals tree next z start more) (sym is_passed) (past left there goes equal_is next_is more_is)
 
       -- after so many looks there is no member further down
-      pub sent_over : {s : List Place} (h : Shows n v root s) → h.tree ≡ tree → 66 ≤ length x.fs → here ≡ None
+      pub sent_over : {s : List Place} (h : Represents n v root s) → h.tree ≡ tree → 66 ≤ length x.fs → here ≡ None
       sent_over h same all = by here refl where
         by : (o : Option Place) → here ≡ o → o ≡ None
         by None e = refl
@@ -233,12 +228,12 @@ module _ {E : Type 0} (n : E → Node) where
             ∙ ap (λ t. gap_around x.fs (gap_in (λ p. goes_left equals (at p)) t)) bare
             ∙ (λ k. record { front = append-nil (before x.fs) k; back = after x.fs })
 
-        hole_is : IsHole n v d.parent d.side (record { front = before x.fs; back = after x.fs })
-        hole_is = subst (λ o. IsHole n v o d.side (record { front = before x.fs; back = after x.fs })) (sym x.parent_is) (by x.fs x.stands x.side_is) where
-          by : (fs : List Frame) → Stands n v v root fs x.t [] → IsOn d.side fs → IsHole n v (above fs) d.side (record { front = before fs; back = after fs })
+        hole_is : IsInsertPos n v d.parent d.side (record { front = before x.fs; back = after x.fs })
+        hole_is = subst (λ o. IsInsertPos n v o d.side (record { front = before x.fs; back = after x.fs })) (sym x.parent_is) (by x.fs x.stands x.side_is) where
+          by : (fs : List Frame) → ClimbState n v v root fs x.t [] → IsOn d.side fs → IsInsertPos n v (above fs) d.side (record { front = before fs; back = after fs })
           by [] h on = (refl, refl)
           by (frame k c q b ∷ fs) h on =
-              subst (λ z. IsHole n v (Some q) z (record { front = before (frame k c q b ∷ fs); back = after (frame k c q b ∷ fs) })) (sym on)
+              subst (λ z. IsInsertPos n v (Some q) z (record { front = before (frame k c q b ∷ fs); back = after (frame k c q b ∷ fs) })) (sym on)
               (side_near n v.entry k q c (top x.t) (top b) (above fs) h.are.0.0.0 ∙ sym x.here_is ∙ none, beside k c q b fs)
             where
               beside : (k : Side) (c : Color) (q : Place) (b : Tree) (fs : List Frame) → IsBeside k (record { front = before (frame k c q b ∷ fs); back = after (frame k c q b ∷ fs) }) (Some q)
@@ -254,33 +249,33 @@ module _ {E : Type 0} (n : E → Node) where
 
         pub sent_ends : EndsAt n v at equals tree d
         sent_ends = record {
-          hole = subst (IsHole n v d.parent d.side) (sym gap_is) hole_is;
+          hole = subst (IsInsertPos n v d.parent d.side) (sym gap_is) hole_is;
           front_is = x.front_is ∙ sym (ap (λ (g : Cut). last g.front) gap_is);
           back_is = x.back_is ∙ sym (ap (λ (g : Cut). first g.back) gap_is);
           equal_is = equal_by d.back refl;
         }
 
         -- there was a look at the root, if there is one
-        pub sent_some : {s : List Place} (h : Shows n v root s) → h.tree ≡ tree → 1 ≤ length s → 1 ≤ length x.fs
+        pub sent_some : {s : List Place} (h : Represents n v root s) → h.tree ≡ tree → 1 ≤ length s → 1 ≤ length x.fs
         sent_some {s} h same some = by x.fs (sym h.held.order ∙ ap in_order (same ∙ sym x.same ∙ ap (plug x.fs) bare)) where
           by : (fs : List Frame) → s ≡ in_order (plug fs leaf) → 1 ≤ length fs
           by [] empty = omega (arith, some, ap length empty)
           by (f ∷ fs) there = omega arith
 
       -- as many looks as members on the way
-      pub sent_few : {s : List Place} (h : Shows n v root s) → h.tree ≡ tree → 2 ^ length x.fs ≤ (length s + 1) ^ 2
+      pub sent_few : {s : List Place} (h : Represents n v root s) → h.tree ≡ tree → 2 ^ length x.fs ≤ (length s + 1) ^ 2
       sent_few {s} h same =
           subst (λ z. 2 ^ length x.fs ≤ (length z + 1) ^ 2) (ap in_order (x.same ∙ sym same) ∙ h.held.order)
           (looks_few x.fs x.t (length x.fs) (subst IsRight (sym (x.same ∙ sym same)) h.shape) (omega arith))
 
       -- and one more would be few, too
-      pub sent_fewer : {s : List Place} (h : Shows n v root s) → h.tree ≡ tree → 1 ≤ length s → 2 ^ (length x.fs + 1) ≤ (length s + 1) ^ 2
+      pub sent_fewer : {s : List Place} (h : Represents n v root s) → h.tree ≡ tree → 1 ≤ length s → 2 ^ (length x.fs + 1) ≤ (length s + 1) ^ 2
       sent_fewer {s} h same =
           subst (λ z. 1 ≤ length z → 2 ^ (length x.fs + 1) ≤ (length z + 1) ^ 2) (ap in_order (x.same ∙ sym same) ∙ h.held.order)
           (looks_fewer x.fs x.t (length x.fs) (subst IsRight (sym (x.same ∙ sym same)) h.shape) (omega arith))
 
   -- THE LOOKS of a descent that has ended
-  pub sent_looks : {P V : Type 0} (order : P → V → Ordering) (count : P → ℕ) {old new : P} {v : Table E} {root : Option Place} {at : Place → Ordering} {equals : Side} {s : List Place} (h : Shows n v root s)
+  pub sent_looks : {P V : Type 0} (order : P → V → Ordering) (count : P → ℕ) {old new : P} {v : Table E} {root : Option Place} {at : Place → Ordering} {equals : Side} {s : List Place} (h : Represents n v root s)
       {here : Option Place} {d : Descent} → Sent v root at equals h.tree here d (count old) (count new) → here ≡ None → order new ≡ order old → Looks order count old new s
   sent_looks order count h x none same = record {
     looks = length x.fs;
@@ -292,7 +287,7 @@ module _ {E : Type 0} (n : E → Node) where
 
   -- ON THE WAY of a probe: it compares as at the root, where it was `old`
   pub record Comes {P V : Type 0} (order : P → V → Ordering) (count : P → ℕ) (objects : Objects V) (v : Table E) (root : Option Place) (equals : Side) (old now : P) (here : Option Place) (d : Descent) : Type 0 where
-    pub each : (s : List Place) (h : Shows n v root s) → Sent v root (compared (order old) objects) equals h.tree here d (count old) (count now)
+    pub each : (s : List Place) (h : Represents n v root s) → Sent v root (compared (order old) objects) equals h.tree here d (count old) (count now)
     pub same : order now ≡ order old
 
   module _ {P V : Type 0} (order : P → V → Ordering) (count : P → ℕ) (objects : Objects V) {v : Table E} {root : Option Place} {equals : Side} {old : P} where
@@ -328,10 +323,10 @@ not_gt Greater = refl
 module _ {E : Type 0} (n : E → Node) where
   -- whatever word there is for the root
   pub ends_at_root : {v : Table E} {root other : Option Place} {at : Place → Ordering} {equals : Side} {d : Descent} → other ≡ root
-      → ((s : List Place) (h : Shows n v other s) → EndsAt n v at equals h.tree d) → {s : List Place} (h : Shows n v root s) → EndsAt n v at equals h.tree d
+      → ((s : List Place) (h : Represents n v other s) → EndsAt n v at equals h.tree d) → {s : List Place} (h : Represents n v root s) → EndsAt n v at equals h.tree d
   ends_at_root is ends {s} h = ends s (record { tree = h.tree; held = h.held; starts = is ∙ h.starts; shape = h.shape })
 
-  module _ {v : Table E} {root : Option Place} {s : List Place} (h : Shows n v root s) where
+  module _ {v : Table E} {root : Option Place} {s : List Place} (h : Represents n v root s) where
     module _ {at : Place → Ordering} {d : Descent} where
       pub finds : EndsAt n v at Left h.tree d → {result : Option Place} → result ≡ cond (is_equal d) d.back None → Finds at s result
       finds x {result} is = record {
@@ -341,14 +336,14 @@ module _ {E : Type 0} (n : E → Node) where
         answer = equal_kept at d.back (is_equal d) x.equal_is result is ∙ ap (if_passes (equal_at at)) x.back_is;
       }
 
-      -- AN ENTRY is occupied where the member behind the gap compares equal,
+      -- AN ENTRY is occupied where the member after the gap compares equal,
       pub occupies : EndsAt n v at Left h.tree d → is_equal d ≡ true → {result : Option Place} → result ≡ d.back → Finds at s result × IsSome result
       occupies x equal {result} is = (finds x (is ∙ ap (λ z. cond z d.back None) (sym equal)), subst IsSome (sym is) (some d.back (sym x.equal_is ∙ equal))) where
         some : (o : Option Place) → equal_there at o ≡ true → IsSome o
         some None e = e
         some (Some p) e = refl
 
-      -- the member in front of the gap, as an upper bound has it
+      -- the member before the gap, as an upper bound has it
       pub beyond_included : EndsAt n v at Right h.tree d → {result : Option Place} → result ≡ d.front → result ≡ last (gap_in (is_beyond (Included at)) h.tree).front
       beyond_included x is = is ∙ x.front_is ∙ ap (λ (g : Cut). last g.front) (gap_same (λ p. is_lt (at p)) (is_beyond (Included at)) (λ p. not_ge (at p)) h.tree)
 
@@ -363,13 +358,13 @@ module _ {E : Type 0} (n : E → Node) where
     upper_unbounded is = is ∙ ap last (sym h.held.order) ∙ sym (ap (λ (g : Cut). last g.front) (gap_none h.tree))
 
   -- and is a border of the bound
-  pub lower_border : {v : Table E} {root : Option Place} {s : List Place} (h : Shows n v root s) (b : Bound (Place → Ordering)) {result : Option Place} → result ≡ first (gap_in (meets_lower b) h.tree).back → IsLowerBorder b s result
+  pub lower_border : {v : Table E} {root : Option Place} {s : List Place} (h : Represents n v root s) (b : Bound (Place → Ordering)) {result : Option Place} → result ≡ first (gap_in (meets_lower b) h.tree).back → IsLowerBorder b s result
   lower_border h b is = record { gap = gap_in (meets_lower b) h.tree; same = gap_join (meets_lower b) h.tree ∙ h.held.order; before = is; border = gap_border (meets_lower b) h.tree }
 
-  pub upper_border : {v : Table E} {root : Option Place} {s : List Place} (h : Shows n v root s) (b : Bound (Place → Ordering)) {result : Option Place} → result ≡ last (gap_in (is_beyond b) h.tree).front → IsUpperBorder b s result
+  pub upper_border : {v : Table E} {root : Option Place} {s : List Place} (h : Represents n v root s) (b : Bound (Place → Ordering)) {result : Option Place} → result ≡ last (gap_in (is_beyond b) h.tree).front → IsUpperBorder b s result
   upper_border h b is = record { gap = gap_in (is_beyond b) h.tree; same = gap_join (is_beyond b) h.tree ∙ h.held.order; after = is; border = gap_border (is_beyond b) h.tree }
 
--- and vacant else, at a gap in front of which all is smaller and behind which all is larger
+-- and vacant else, at a gap before which all is smaller and after which all is larger
 le_lt : (o : Ordering) → is_le o ≡ false → is_lt o ≡ false
 le_lt Less e = e
 le_lt Equal e = refl
@@ -381,7 +376,7 @@ lt_of Equal e k = sym k
 lt_of Greater e k = e
 
 module _ {E : Type 0} (n : E → Node) {A L H : Type 0} where
-  pub vacant_for : {v : Table E} {root : Option Place} {s : List Place} (h : Shows n v root s) {at : Place → Ordering} {d : Descent} → EndsAt n v at Left h.tree d → is_equal d ≡ false
+  pub vacant_for : {v : Table E} {root : Option Place} {s : List Place} (h : Represents n v root s) {at : Place → Ordering} {d : Descent} → EndsAt n v at Left h.tree d → is_equal d ≡ false
       → (c : InsertCursor A L H) → c.parent ≡ d.parent → c.side ≡ d.side → IsVacantFor n at v s c
   vacant_for {v} h {at} {d} x equal c parent_is side_is =
       let gap : Cut = gap_in (at_most_at at) h.tree in
@@ -389,7 +384,7 @@ module _ {E : Type 0} (n : E → Node) {A L H : Type 0} where
       record {
         gap = gap;
         same = gap_join (at_most_at at) h.tree ∙ h.held.order;
-        is_at = subst (λ o. IsHole n v o c.side gap) (sym parent_is) (subst (λ k. IsHole n v d.parent k gap) (sym side_is) x.hole);
+        is_at = subst (λ o. IsInsertPos n v o c.side gap) (sym parent_is) (subst (λ k. IsInsertPos n v d.parent k gap) (sym side_is) x.hole);
         smaller = border;
         larger = record {
           fails = λ q e. le_lt (at q) (border.fails q e);
@@ -409,18 +404,18 @@ pub upper_same : {b other : Bound (Place → Ordering)} {s : List Place} {o k : 
 upper_same {b} {other} {s} {o} {k} same is x = subst (λ z. IsUpperBorder z s k) same (record { gap = x.gap; same = x.same; after = is ∙ x.after; border = x.border })
 
 -- A POSITION STANDS that a search answers
-module _ {L E H : Type 0} {Shows : Table E → H → List Place → Type 0} {table : L → Table E} {site : Site L H} {s : List Place} (shown : ShowsAt Shows table site s) {o : Option Place} (is : site.position ≡ o) where
-  pub found_stands : {at : Place → Ordering} → Finds at s o → PositionStands Shows table site
+module _ {L E H : Type 0} {Represents : Table E → H → List Place → Type 0} {table : L → Table E} {site : CursorState L H} {s : List Place} (shown : RepresentsAt Represents table site s) {o : Option Place} (is : site.position ≡ o) where
+  pub found_stands : {at : Place → Ordering} → Finds at s o → PositionStands Represents table site
   found_stands {at} f = by (first f.gap.back) refl where
-    by : (k : Option Place) → first f.gap.back ≡ k → PositionStands Shows table site
+    by : (k : Option Place) → first f.gap.back ≡ k → PositionStands Represents table site
     by None e = stands_null s shown (is ∙ f.answer ∙ ap (if_passes (equal_at at)) e)
     by (Some p) e = pick (equal_at at p) refl where
-      pick : (x : Bool) → equal_at at p ≡ x → PositionStands Shows table site
+      pick : (x : Bool) → equal_at at p ≡ x → PositionStands Represents table site
       pick true y = stands_by_gap f.gap (rw f.same shown) (is ∙ f.answer ∙ ap (if_passes (equal_at at)) e ∙ ap (λ z. cond z (Some p) None) y ∙ sym e)
       pick false y = stands_null s shown (is ∙ f.answer ∙ ap (if_passes (equal_at at)) e ∙ ap (λ z. cond z (Some p) None) y)
 
-  pub lower_stands : {b : Bound (Place → Ordering)} → IsLowerBorder b s o → PositionStands Shows table site
+  pub lower_stands : {b : Bound (Place → Ordering)} → IsLowerBorder b s o → PositionStands Represents table site
   lower_stands b = stands_by_gap b.gap (rw b.same shown) (is ∙ b.before)
 
-  pub upper_stands : {b : Bound (Place → Ordering)} → IsUpperBorder b s o → PositionStands Shows table site
+  pub upper_stands : {b : Bound (Place → Ordering)} → IsUpperBorder b s o → PositionStands Represents table site
   upper_stands b = record { gap = b.gap; shown = rw b.same shown; after = is ∙ b.after }

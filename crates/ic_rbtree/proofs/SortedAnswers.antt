@@ -5,10 +5,7 @@ use Rattle.std.specs.List.{AllByRecursion, filter}
 use Rattle.std.specs.declared.cmp.Ordering.{Ordering}
 use Rattle.std.specs.declared.cmp.Ordering.TheVariants.{Less, Equal, Greater}
 use Rattle.std.specs.Ordering.{is_eq, is_lt, is_le}
-use Rattle.ic_unsafe_ref.specs.declared.place.Place.{Place}
-use Rattle.ic_unsafe_ref.specs.Objects.{Objects, object_at}
-use Rattle.ic_link_ops.specs.PlacedObjects.{ArePlaced, values_at}
-use Rattle.ic_link_ops.specs.Sequences.{Cut, join, insert, first, last, IsDistinct}
+use Rattle.ic_link_ops.specs.Prelude.{Place, Objects, object_at, Cut, join, insert, first, last, IsDistinct, ArePlaced, values_at}
 use Rattle.ic_link_ops.proofs.Each.{all_map}
 use Rattle.ic_rbtree.specs.declared.keys.key_adapter.Bound.{Bound}
 use Rattle.ic_rbtree.specs.declared.keys.key_adapter.Bound.TheVariants.{Included, Excluded, Unbounded}
@@ -35,11 +32,11 @@ all_same : {X : Type 0} (b : Bool) (s : List X) → AllByRecursion (λ p. b ≡ 
 all_same b [] = tt
 all_same b (p ∷ s) = (refl, all_same b s)
 
--- THE GAP OF AN INSERT IN ORDER is behind all that are not greater than what is searched: members with the same key stand in the
+-- THE GAP OF AN INSERT IN ORDER is after all that are not greater than what is searched: members with the same key stand in the
 -- order of their insertion
-pub put_behind : {at : Place → Ordering} {s : List Place} → IsSortedFor at s → (gap : Cut) → join gap ≡ s → IsBorder (less_at at) gap → (p : Place)
+pub put_after : {at : Place → Ordering} {s : List Place} → IsSortedFor at s → (gap : Cut) → join gap ≡ s → IsBorder (less_at at) gap → (p : Place)
     → insert gap p ≡ filter (λ q. not (less_at at q)) s ++ p ∷ filter (less_at at) s
-put_behind {at} {s} sorted gap same border p =
+put_after {at} {s} sorted gap same border p =
     let k = cuts_less sorted in
     let r = one_border (less_at at) k.front k.back gap.front gap.back (k.same ∙ sym same) k.fail k.pass border.fails border.passes in
     let front : gap.front ≡ filter (λ q. not (less_at at q)) s =

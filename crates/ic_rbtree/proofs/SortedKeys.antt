@@ -5,25 +5,19 @@ use Rattle.std.specs.List.{AllByRecursion, cons_option}
 use Rattle.std.specs.Ordering.{nat_cmp}
 use Rattle.std.specs.declared.cmp.Ordering.TheVariants.{Less, Equal, Greater}
 use Rattle.std.specs.declared.cmp.Ordering.{Ordering}
-use Rattle.ic_unsafe_ref.specs.declared.place.Place.{Place}
-use Rattle.ic_unsafe_ref.specs.Objects.{Objects, object_at}
+use Rattle.ic_link_ops.specs.Prelude.{Place, Objects, object_at, IsAbsent, join, insert, Table, CursorState, RepresentsAt, IsValidCursor, HasMember, ArePlaced, values_at, LinkStep}
 use Rattle.ic_link_ops.specs.declared.errors.AlreadyLinked.{AlreadyLinked}
-use Rattle.ic_link_ops.specs.Sequences.{IsAbsent, join, insert}
-use Rattle.ic_link_ops.specs.PlacedObjects.{ArePlaced, values_at}
-use Rattle.ic_link_ops.specs.Tables.{Table}
 use Rattle.ic_link_ops.specs.RedBlackTree as Trees
 use Rattle.ic_link_ops.specs.RedBlackTree.{Node}
-use Rattle.ic_link_ops.specs.LinkSteps.{LinkStep}
 use Rattle.ic_link_ops.specs.EditsAt.{RemovesThere}
-use Rattle.ic_link_ops.specs.Positions.{Site, ShowsAt, Stands, HasMember}
 use Rattle.ic_link_ops.proofs.PlacedValues.{all_beside}
 use Rattle.ic_link_ops.proofs.Positions.{member_there}
-use Rattle.ic_link_ops.proofs.ShownTrees.{shows_nothing}
+use Rattle.ic_link_ops.proofs.RepresentedTrees.{represents_nothing}
 use Rattle.ic_link_ops.proofs.Each.{all_back, all_with, all_without}
 use Rattle.ic_rbtree.specs.Borders.{IsBorder, IsSorted, less_at}
 use Rattle.ic_rbtree.specs.Ordered.{InsertsInOrder}
 use Rattle.ic_rbtree.specs.declared.tree.RBTree.{RBTree}
-use Rattle.ic_rbtree.specs.SortedObjects.{key_or, key_at, keys_at, against, ShowsSorted}
+use Rattle.ic_rbtree.specs.SortedObjects.{key_or, key_at, keys_at, against, RepresentsSorted}
 use Rattle.ic_rbtree.specs.Tree.{root_of}
 use Rattle.ic_rbtree.proofs.KeyLaws.{value_there, stays_sorted}
 use Rattle.ic_rbtree.proofs.SortedValues.{own_order_is}
@@ -54,24 +48,24 @@ module _ {T : Type 0} (key : T → ℕ) where
   sorted_without (f ∷ []) p back h = skip f p back h
   sorted_without (f ∷ g ∷ front) p back h = (h.0, sorted_without (g ∷ front) p back h.1)
 
-  sorted_behind : (p : T) (s : List T) → IsSorted nat_cmp (map key (p ∷ s)) → IsSorted nat_cmp (map key s)
-  sorted_behind p [] h = tt
-  sorted_behind p (q ∷ s) h = h.1
+  sorted_after : (p : T) (s : List T) → IsSorted nat_cmp (map key (p ∷ s)) → IsSorted nat_cmp (map key s)
+  sorted_after p [] h = tt
+  sorted_after p (q ∷ s) h = h.1
 
   pub sorted_back : (front back : List T) → IsSorted nat_cmp (map key (front ++ back)) → IsSorted nat_cmp (map key back)
   sorted_back [] back h = h
-  sorted_back (p ∷ front) back h = sorted_back front back (sorted_behind p (front ++ back) h)
+  sorted_back (p ∷ front) back h = sorted_back front back (sorted_after p (front ++ back) h)
 
   -- THE FIRST HAS THE LEAST KEY
   pub first_is_least : (p : T) (s : List T) → IsSorted nat_cmp (map key (p ∷ s)) → AllByRecursion (λ q. key p ≤ key q) s
   first_is_least p [] h = tt
   first_is_least p (q ∷ s) h = (up_is _ _ h.0, first_is_least p s (skip p q s h))
 
-  -- no key in front of a member is greater
+  -- no key before a member is greater
   pub front_is_least : (front : List T) (p : T) (back : List T) → IsSorted nat_cmp (map key (front ++ p ∷ back)) → AllByRecursion (λ q. key q ≤ key p) front
   front_is_least [] p back sorted = tt
   front_is_least (q ∷ front) p back sorted =
-      ((all_back (λ x. key q ≤ key x) front (p ∷ back) (first_is_least q (front ++ p ∷ back) sorted)).0, front_is_least front p back (sorted_behind q (front ++ p ∷ back) sorted))
+      ((all_back (λ x. key q ≤ key x) front (p ∷ back) (first_is_least q (front ++ p ∷ back) sorted)).0, front_is_least front p back (sorted_after q (front ++ p ∷ back) sorted))
 
   -- AND WITH ONLY THOSE that pass a test
   all_kept : (P : T → Type 0) (test : T → Bool) (s : List T) → AllByRecursion P s → AllByRecursion P (filter test s)
@@ -87,15 +81,15 @@ module _ {T : Type 0} (key : T → ℕ) where
 
   pub sorted_filter : (test : T → Bool) (s : List T) → IsSorted nat_cmp (map key s) → IsSorted nat_cmp (map key (filter test s))
   sorted_filter test [] h = tt
-  sorted_filter test (p ∷ s) h = by (test p) (sorted_filter test s (sorted_behind p s h)) where
+  sorted_filter test (p ∷ s) h = by (test p) (sorted_filter test s (sorted_after p s h)) where
     by : (b : Bool) → IsSorted nat_cmp (map key (filter test s)) → IsSorted nat_cmp (map key (cond b (p ∷ filter test s) (filter test s)))
     by true rest = rises_from p (filter test s) (all_kept (λ q. key p ≤ key q) test s (first_is_least p s h)) rest
     by false rest = rest
 
 module _ {T : Type 0} (key : T → ℕ) (objects : Objects T) where
-  -- NOTHING IS SORTED: what a table shows for a new tree
-  pub new_is_sorted : {E : Type 0} {n : E → Node} {t : Table E} {root : Option Place} → root ≡ None → ShowsSorted key (Trees.Shows n t root) objects
-  new_is_sorted {n = n} {t} e = record { placed = record { members = []; shown = rw e (shows_nothing {n = n} t); placed = tt }; sorted = tt }
+  -- NOTHING IS SORTED: what a table represents for a new tree
+  pub new_is_sorted : {E : Type 0} {n : E → Node} {t : Table E} {root : Option Place} → root ≡ None → RepresentsSorted key (Trees.Represents n t root) objects
+  new_is_sorted {n = n} {t} e = record { placed = record { members = []; shown = rw e (represents_nothing {n = n} t); placed = tt }; sorted = tt }
 
   -- the keys of the placed objects, as the laws of sorted sequences have them
   pub keys_are : (s : List Place) → ArePlaced objects s → keys_at key objects s ≡ map key (values_at objects s)
@@ -106,17 +100,17 @@ module _ {T : Type 0} (key : T → ℕ) (objects : Objects T) where
     by (Some v) h rest = ap (λ l. key v ∷ l) rest
 
   -- WHATEVER SEQUENCE IS SHOWN, as the laws of sorted sequences take it
-  pub shown_sorted : {shows : List Place → Type 0} → ((s u : List Place) → shows s → shows u → s ≡ u) → ShowsSorted key shows objects → {s : List Place} → shows s
+  pub represented_sorted : {shows : List Place → Type 0} → ((s u : List Place) → shows s → shows u → s ≡ u) → RepresentsSorted key shows objects → {s : List Place} → shows s
       → ArePlaced objects s × IsSorted nat_cmp (map key (values_at objects s))
-  shown_sorted one q {s} shown =
+  represented_sorted one q {s} shown =
       let same = one q.placed.members s q.placed.shown shown in
       let sorted = subst (IsSorted nat_cmp) (keys_are q.placed.members q.placed.placed) q.sorted in
       (subst (ArePlaced objects) same q.placed.placed, subst (λ (t : List Place). IsSorted nat_cmp (map key (values_at objects t))) same sorted)
 
   -- as for the placed ones
-  inserted : {E H : Type 0} (Shows : Table E → H → List Place → Type 0) (old new : Table E) (head new_head : H) {p : Place} → IsSome (object_at objects p)
-      → (q : ShowsSorted key (Shows old head) objects) → InsertsInOrder Shows (against key objects p) old new new_head q.placed.members p → ShowsSorted key (Shows new new_head) objects
-  inserted Shows old new head new_head {p} here q x =
+  inserted : {E H : Type 0} (Represents : Table E → H → List Place → Type 0) (old new : Table E) (head new_head : H) {p : Place} → IsSome (object_at objects p)
+      → (q : RepresentsSorted key (Represents old head) objects) → InsertsInOrder Represents (against key objects p) old new new_head q.placed.members p → RepresentsSorted key (Represents new new_head) objects
+  inserted Represents old new head new_head {p} here q x =
       let placed : ArePlaced objects (join x.gap) = subst (ArePlaced objects) (sym x.same) q.placed.placed in
       let all : ArePlaced objects (insert x.gap p) = all_with (λ q. IsSome (object_at objects q)) x.gap.front p x.gap.back here placed in
       let sorted : IsSorted nat_cmp (map key (values_at objects (join x.gap))) =
@@ -130,10 +124,10 @@ module _ {T : Type 0} (key : T → ℕ) (objects : Objects T) where
 
   -- WHAT IS SHOWN STAYS SORTED when a tree puts an object in where its key belongs, or refuses it,
   pub sorted_inserted : {A L E : Type 0} {n : E → Node} {table : L → Table E} {Refused : L → L → Place → Type 0} → ((a b : L) (q : Place) → Refused a b q → table b ≡ table a)
-      → {old new : L} (tree after : RBTree A (Option Place)) (p : Place) → IsSome (object_at objects p) → (q : ShowsSorted key (Trees.Shows n (table old) (root_of tree)) objects)
-      → {X Y : Type 0} (r : Result X (AlreadyLinked Y)) → OnOk r (InsertsInOrder (Trees.Shows n) (against key objects p) (table old) (table new) (root_of after) q.placed.members p)
-      → OnErr r (Refused old new p) → IfErr r (λ refused. (refused.0 ≡ p) × (after ≡ tree)) → ShowsSorted key (Trees.Shows n (table new) (root_of after)) objects
-  sorted_inserted {n = n} {table} keeps {old} {new} tree after p here q (Ok a) puts refused unchanged = inserted (Trees.Shows n) (table old) (table new) (root_of tree) (root_of after) here q puts
+      → {old new : L} (tree after : RBTree A (Option Place)) (p : Place) → IsSome (object_at objects p) → (q : RepresentsSorted key (Trees.Represents n (table old) (root_of tree)) objects)
+      → {X Y : Type 0} (r : Result X (AlreadyLinked Y)) → OnOk r (InsertsInOrder (Trees.Represents n) (against key objects p) (table old) (table new) (root_of after) q.placed.members p)
+      → OnErr r (Refused old new p) → IfErr r (λ refused. (refused.0 ≡ p) × (after ≡ tree)) → RepresentsSorted key (Trees.Represents n (table new) (root_of after)) objects
+  sorted_inserted {n = n} {table} keeps {old} {new} tree after p here q (Ok a) puts refused unchanged = inserted (Trees.Represents n) (table old) (table new) (root_of tree) (root_of after) here q puts
   sorted_inserted keeps tree after p here q (Err e) puts refused unchanged = record {
     placed = record { members = q.placed.members; shown = rw (keeps _ _ _ refused, unchanged.1) q.placed.shown; placed = q.placed.placed };
     sorted = q.sorted;
@@ -142,7 +136,7 @@ module _ {T : Type 0} (key : T → ℕ) (objects : Objects T) where
   -- and when a member is taken off
   module _ {old new : List Place → Type 0} (one : (s u : List Place) → old s → old u → s ≡ u) where
     pub sorted_less : {p : Place} → HasMember old p → ((front back : List Place) → old (front ++ p ∷ back) → new (front ++ back))
-        → ShowsSorted key old objects → ShowsSorted key new objects
+        → RepresentsSorted key old objects → RepresentsSorted key new objects
     sorted_less {p} m off q =
         let same : q.placed.members ≡ m.front ++ p ∷ m.back = one q.placed.members (m.front ++ p ∷ m.back) q.placed.shown m.shown in
         record {
@@ -150,11 +144,11 @@ module _ {T : Type 0} (key : T → ℕ) (objects : Objects T) where
           sorted = sorted_without (key_at key objects) m.front p m.back (subst (λ s. IsSorted nat_cmp (keys_at key objects s)) same q.sorted);
         }
 
-  module _ {L E H : Type 0} {Shows : Table E → H → List Place → Type 0} {table : L → Table E} {Does : L → L → List LinkStep → Type 0} {old new : Site L H} where
+  module _ {L E H : Type 0} {Represents : Table E → H → List Place → Type 0} {table : L → Table E} {Trace : L → L → List LinkStep → Type 0} {old new : CursorState L H} where
     -- and when a member is taken off at a position
-    pub sorted_taken : ((s u : List Place) → ShowsAt Shows table old s → ShowsAt Shows table old u → s ≡ u) → Stands Shows table old → (r : Option Place)
-        → RemovesThere Shows table Does old r new → ShowsSorted key (ShowsAt Shows table old) objects → ShowsSorted key (ShowsAt Shows table new) objects
-    sorted_taken one stands None off q = subst (λ (z : Site L H). ShowsSorted key (ShowsAt Shows table z) objects) (sym off.null) q
+    pub sorted_taken : ((s u : List Place) → RepresentsAt Represents table old s → RepresentsAt Represents table old u → s ≡ u) → IsValidCursor Represents table old → (r : Option Place)
+        → RemovesThere Represents table Trace old r new → RepresentsSorted key (RepresentsAt Represents table old) objects → RepresentsSorted key (RepresentsAt Represents table new) objects
+    sorted_taken one stands None off q = subst (λ (z : CursorState L H). RepresentsSorted key (RepresentsAt Represents table z) objects) (sym off.null) q
     sorted_taken one stands (Some p) off q = sorted_less one (member_there stands (sym off.answer))
         (λ front back shown. (off.removed (record { front = front; back = p ∷ back }) shown (sym off.answer)).shows) q
 
@@ -165,7 +159,7 @@ module _ {T : Type 0} (key : T → ℕ) (old new : Objects T) (p : Place) (other
   keys_beside (x ∷ s) out = rw (others x (λ e. out.0 (sym e)), keys_beside s out.1) refl
 
   pub sorted_beside : {before after : List Place → Type 0} → ((s : List Place) → before s → IsAbsent p s) → ((s : List Place) → before s → IsAbsent p s → after s)
-      → ShowsSorted key before old → ShowsSorted key after new
+      → RepresentsSorted key before old → RepresentsSorted key after new
   sorted_beside gone stays q =
       let s = q.placed.members in
       let out = gone s q.placed.shown in

@@ -5,13 +5,9 @@ use Rattle.std.specs.Cmp.{IsTotalOrder}
 use Rattle.std.specs.List.{AllByRecursion, cons_option}
 use Rattle.std.specs.Ordering.{is_lt}
 use Rattle.std.specs.declared.cmp.Ordering.{Ordering}
-use Rattle.ic_unsafe_ref.specs.declared.place.Place.{Place}
-use Rattle.ic_unsafe_ref.specs.Objects.{Objects, Places, object_at}
+use Rattle.ic_link_ops.specs.Prelude.{Place, Objects, Places, object_at, Cut, join, insert, IsAbsent, first, Table, IsUnlinked, LinksAlso, Unlinks, ArePlaced, StandAt, values_at}
 use Rattle.ic_unsafe_ref.proofs.Placing.{placed_there, others_placed}
-use Rattle.ic_link_ops.specs.PlacedObjects.{ArePlaced, StandAt, values_at}
-use Rattle.ic_link_ops.specs.Sequences.{Cut, join, insert, IsAbsent, first}
-use Rattle.ic_link_ops.specs.Tables.{Table, IsUnlinked, LinksAlso, Unlinks}
-use Rattle.ic_link_ops.proofs.CollectionLaws.{IsKind, kept_shown}
+use Rattle.ic_link_ops.proofs.CollectionLaws.{IsKind, kept_represented}
 use Rattle.ic_link_ops.proofs.LinkedSets.{everywhere}
 use Rattle.ic_link_ops.proofs.PlacedValues.{stand_beside, stand_put, stand_first, stand_rest, vacant_absent}
 use Rattle.ic_link_ops.proofs.SequenceLemmas.{absent_without, first_is, split_member}
@@ -38,18 +34,18 @@ module _ {V K : Type 0} {cmp : K → K → Ordering} (total : IsTotalOrder cmp) 
     by (Some x) here less rest = (less, rest)
 
   -- BEHIND A BORDER OF A KEY in a sorted sequence all keys are greater
-  pub greater_behind : (k : K) (gap : Cut) → ArePlaced objects (join gap) → IsSorted cmp (map key_of (values_at objects (join gap)))
+  pub greater_after : (k : K) (gap : Cut) → ArePlaced objects (join gap) → IsSorted cmp (map key_of (values_at objects (join gap)))
       → IsBorder (less_at (compared (order_of cmp key_of k) objects)) gap → AllByRecursion (λ x. is_lt (cmp k (key_of x)) ≡ true) (values_at objects gap.back)
-  greater_behind k gap placed sorted border =
+  greater_after k gap placed sorted border =
       let at = compared (order_of cmp key_of k) objects in
       let c = cuts_less (sorted_for total key_of objects k (join gap) placed sorted) in
       let r = one_border (less_at at) c.front c.back gap.front gap.back c.same c.fail c.pass border.fails border.passes in
       less_values k gap.back (all_back (λ q. IsSome (object_at objects q)) gap.front gap.back placed) (subst (AllByRecursion (λ q. less_at at q ≡ true)) (sym r.1) c.pass)
 
-module _ {V K E H : Type 0} {Shows : Table E → H → List Place → Type 0} {linked : E → Bool} {empty : H} (kind : IsKind Shows linked empty)
+module _ {V K E H : Type 0} {Represents : Table E → H → List Place → Type 0} {linked : E → Bool} {empty : H} (kind : IsKind Represents linked empty)
     {cmp : K → K → Ordering} (total : IsTotalOrder cmp) {key_of : V → K} where
   -- A TABLE THAT LINKS NOTHING has an empty tree
-  pub has_none : {t : Table E} {root : H} (objects : Objects V) → root ≡ empty → ((p : Place) → IsUnlinked linked t p) → HasSorted cmp key_of Shows linked t root objects []
+  pub has_none : {t : Table E} {root : H} (objects : Objects V) → root ≡ empty → ((p : Place) → IsUnlinked linked t p) → HasSorted cmp key_of Represents linked t root objects []
   has_none {t} objects none unlinked = record {
     members = [];
     shown = rw none (kind.nothing t);
@@ -58,12 +54,12 @@ module _ {V K E H : Type 0} {Shows : Table E → H → List Place → Type 0} {l
     only = λ p out. unlinked p;
   }
 
-  module _ {old : Table E} {root : H} {objects : Objects V} {values : List V} (has : HasSorted cmp key_of Shows linked old root objects values) where
+  module _ {old : Table E} {root : H} {objects : Objects V} {values : List V} (has : HasSorted cmp key_of Represents linked old root objects values) where
     -- AFTER `cover`, whatever it answered
-    pub has_covered : {new : Table E} → ((q : Place) → new.entry q ≡ old.entry q) → HasSorted cmp key_of Shows linked new root objects values
+    pub has_covered : {new : Table E} → ((q : Place) → new.entry q ≡ old.entry q) → HasSorted cmp key_of Represents linked new root objects values
     has_covered stays = record {
       members = has.members;
-      shown = kept_shown kind stays has.shown;
+      shown = kept_represented kind stays has.shown;
       stand = has.stand;
       sorted = has.sorted;
       only = λ p out. ap linked (stays p) ∙ has.only p out;
@@ -71,7 +67,7 @@ module _ {V K E H : Type 0} {Shows : Table E → H → List Place → Type 0} {l
 
     -- AFTER AN OBJECT was placed or taken out that is not linked here
     pub has_beside : {new : Objects V} {p : Place} → IsUnlinked linked old p → ((q : Place) → q ≢ p → object_at new q ≡ object_at objects q)
-        → HasSorted cmp key_of Shows linked old root new values
+        → HasSorted cmp key_of Represents linked old root new values
     has_beside {new} {p} off same = record {
       members = has.members;
       shown = has.shown;
@@ -82,11 +78,11 @@ module _ {V K E H : Type 0} {Shows : Table E → H → List Place → Type 0} {l
 
     -- AFTER `from_box` AND AN INSERT IN ORDER of the new object
     module _ {new : Table E} {after : H} {more : Objects V} {p : Place} {v : V} (places : Places objects more p v)
-        (put : (s : List Place) → Shows old root s → InsertsInOrder Shows (compared (own_order cmp key_of more p) more) old new after s p) (also : LinksAlso linked old new p) where
-      pub has_inserted : (all : List V) × InsertsValue cmp key_of values v all × HasSorted cmp key_of Shows linked new after more all
+        (put : (s : List Place) → Represents old root s → InsertsInOrder Represents (compared (own_order cmp key_of more p) more) old new after s p) (also : LinksAlso linked old new p) where
+      pub has_inserted : (all : List V) × InsertsValue cmp key_of values v all × HasSorted cmp key_of Represents linked new after more all
       has_inserted = let x = put has.members has.shown in by x.gap x.same (subst (λ at. IsBorder (less_at at) x.gap) (own_order_is cmp key_of more p (placed_there places)) x.border) x.inserted.shows where
-        by : (gap : Cut) → join gap ≡ has.members → IsBorder (less_at (compared (order_of cmp key_of (key_of v)) more)) gap → Shows new after (insert gap p)
-            → (all : List V) × InsertsValue cmp key_of values v all × HasSorted cmp key_of Shows linked new after more all
+        by : (gap : Cut) → join gap ≡ has.members → IsBorder (less_at (compared (order_of cmp key_of (key_of v)) more)) gap → Represents new after (insert gap p)
+            → (all : List V) × InsertsValue cmp key_of values v all × HasSorted cmp key_of Represents linked new after more all
         by gap same border shown = (
           values_at more gap.front ++ v ∷ values_at more gap.back,
           record {
@@ -94,7 +90,7 @@ module _ {V K E H : Type 0} {Shows : Table E → H → List Place → Type 0} {l
             back = values_at more gap.back;
             was = sym stood.are ∙ filter_map-append (object_at more) gap.front gap.back;
             is = refl;
-            greater = greater_behind total key_of more (key_of v) gap stood.placed sorted border;
+            greater = greater_after total key_of more (key_of v) gap stood.placed sorted border;
             sorted = rises;
           },
           record {
@@ -124,8 +120,8 @@ module _ {V K E H : Type 0} {Shows : Table E → H → List Place → Type 0} {l
       pub has_first : values ≡ v ∷ drop 1 values
       has_first = stand_first objects p there is has.stand
 
-      pub has_first_taken : {new : Table E} {after : H} → Shows new after (drop 1 has.members) → Unlinks linked old new p
-          → HasSorted cmp key_of Shows linked new after objects (drop 1 values)
+      pub has_first_taken : {new : Table E} {after : H} → Represents new after (drop 1 has.members) → Unlinks linked old new p
+          → HasSorted cmp key_of Represents linked new after objects (drop 1 values)
       has_first_taken {new} shown off = record {
         members = drop 1 has.members;
         shown = shown;

@@ -1,11 +1,10 @@
 -- A member is spliced out, and a place takes another's.
 use Rattle.std.proofs.Common.{◌≡◌, ℕ, ◌+◌, inl, inr, true, Option, Some, None, List, [], ◌∷◌, ◌++◌, refl, sym, ap, ◌∙◌, subst, arith, append-nil}
-use Rattle.ic_unsafe_ref.specs.declared.place.Place.{Place}
+use Rattle.ic_link_ops.specs.Prelude.{Place, Table, ChangesOnly}
 use Rattle.ic_link_ops.specs.declared.color.Color.{Color}
 use Rattle.ic_link_ops.specs.declared.color.Color.TheVariants.{Red, Black}
 use Rattle.ic_link_ops.specs.declared.side.Side.{Side}
 use Rattle.ic_link_ops.specs.declared.side.Side.TheVariants.{Left}
-use Rattle.ic_link_ops.specs.Tables.{Table, ChangesOnly}
 use Rattle.ic_link_ops.specs.Trees.{Tree, leaf, fork, top, in_order}
 use Rattle.ic_link_ops.specs.Shape.{top_color, weight, blacks, IsEven, NoRedPair, IsRight}
 use Rattle.ic_link_ops.specs.RedBlackTree.{Node, IsTree}
@@ -14,7 +13,7 @@ use Rattle.ic_link_ops.proofs.SequenceLemmas.{none_not, some_same}
 use Rattle.ic_link_ops.proofs.Frames.{in_order_parts}
 use Rattle.ic_link_ops.specs.Times.{times, times_around}
 use Rattle.ic_link_ops.proofs.Times.{one_at_self}
-use Rattle.ic_rbtree.specs.Pieces.{Piece, loose, below, around, Held, Stands}
+use Rattle.ic_rbtree.specs.Pieces.{Piece, loose, below, around, Held, ClimbState}
 use Rattle.ic_rbtree.specs.Focus.{Focus, IsInFocus, IsRestored}
 use Rattle.ic_rbtree.specs.Steps.{Adopts, ChangesChild}
 use Rattle.ic_rbtree.specs.Shortage.{EvenAround, PairsAround}
@@ -65,7 +64,7 @@ gap_open c fs a p b h r = let o = shape_open fs (fork c a p b) r in open_gap a b
 
 module _ {E : Type 0} (n : E → Node) where
   side_on : (v : Table E) (base : Table E) (root : Option Place) (fs : List Frame) (t : Tree) (ps : List Piece) (q : Place) (parent : Option Place) (d : Side)
-      → Stands n base v root fs t ps → top t ≡ Some q → parent ≡ above fs → IsSideBelow n v q parent d → IsOn d fs
+      → ClimbState n base v root fs t ps → top t ≡ Some q → parent ≡ above fs → IsSideBelow n v q parent d → IsOn d fs
   side_on v base root [] t ps q parent d h e up is = tt
   side_on v base root (frame k c p b ∷ fs) t ps q parent d h e up is = side_found n v base root k c p b fs t ps q d h e (is p up)
 
@@ -131,7 +130,7 @@ module _ {E : Type 0} (n : E → Node) where
   pub taken_out : {base v v1 : Table E} (root new_root child parent : Option Place) (k : Color) (d : Side) (fs : List Frame) (y : Parts) (p : Place) (ps : List Piece)
       → child ≡ or_else (n (v.entry p)).left (n (v.entry p)).right → parent ≡ (n (v.entry p)).parent → k ≡ (n (v.entry p)).color → IsSideBelow n v p parent d
       → ChangesChild n v v1 root new_root parent p child
-      → Stands n base v root fs (member p y) ps → IsLone y.left y.right → IsRight (plug fs (member p y)) → Gap n v1 new_root k child parent d (without base fs y (loose p ∷ ps))
+      → ClimbState n base v root fs (member p y) ps → IsLone y.left y.right → IsRight (plug fs (member p y)) → Gap n v1 new_root k child parent d (without base fs y (loose p ∷ ps))
   taken_out {base} {v} {v1} root new_root child parent k d fs y p ps ec ep ek side f1 s lone right =
       let record { color = c; left = a; right = b } = y in
       let h0 = open_at n root fs Left c a p b ps s in
@@ -169,7 +168,7 @@ module _ {E : Type 0} (n : E → Node) where
     pub right : (q : Place) → (n (v.entry p)).right ≡ Some q → (n (v.entry q)).linked ≡ true
     pub parent : (q : Place) → (n (v.entry p)).parent ≡ Some q → (n (v.entry q)).linked ≡ true
 
-  pub reads : {base v : Table E} (root : Option Place) (fs : List Frame) (x : Parts) (p : Place) (ps : List Piece) → Stands n base v root fs (member p x) ps → Reads v p
+  pub reads : {base v : Table E} (root : Option Place) (fs : List Frame) (x : Parts) (p : Place) (ps : List Piece) → ClimbState n base v root fs (member p x) ps → Reads v p
   reads {base} {v} root fs x p ps h =
       let at = h.are.1.0.0 in
       record {

@@ -1,17 +1,15 @@
--- Vines: cut and glued at a member, hung behind, grown into trees, and laid out of them.
+-- Vines: cut and glued at a member, hung after, grown into trees, and laid out of them.
 use Rattle.std.proofs.Common.{◌≡◌, ℕ, zero, suc, max, inl, inr, ◌+◌, ◌-◌, ◌/◌, ◌^◌, ◌≤◌, ◌<◌, true, Option, Some, None, List, [], ◌∷◌, ◌++◌, length, refl, sym, ap, ◌∙◌, subst, arith, length-append}
 use Rattle.std.proofs.Math.Nat.{le-max_left, le-max_right, max-eq_left, max-eq_right}
 use Rattle.std.proofs.lemmas.Bool.{cases_lt}
 use Rattle.std.proofs.lemmas.Nat.{pow-add, pow_pos}
-use Rattle.ic_unsafe_ref.specs.declared.place.Place.{Place}
+use Rattle.ic_link_ops.specs.Prelude.{Place, IsAbsent, IsMember, IsDistinct, IsDisjoint, first_or, Table, ChangesOnly, ChangesOnlyIn}
 use Rattle.ic_link_ops.specs.declared.color.Color.{Color}
 use Rattle.ic_link_ops.specs.declared.color.Color.TheVariants.{Red, Black}
 use Rattle.ic_link_ops.specs.declared.side.Side.TheVariants.{Left}
 use Rattle.ic_link_ops.specs.Chains.{IsChain}
-use Rattle.ic_link_ops.specs.Sequences.{IsAbsent, IsMember, IsDistinct, IsDisjoint, first_or}
 use Rattle.ic_link_ops.specs.Shape.{top_color, weight}
 use Rattle.ic_link_ops.specs.SinglyLinkedList.{IsFollowed}
-use Rattle.ic_link_ops.specs.Tables.{Table, ChangesOnly, KeepsBeside}
 use Rattle.ic_link_ops.specs.Times.{one_at, times, times_in}
 use Rattle.ic_link_ops.specs.Trees.{Tree, leaf, fork, in_order}
 use Rattle.ic_link_ops.specs.RedBlackTree.{Node, IsTree}
@@ -59,8 +57,8 @@ outside q (x ∷ s) t d m = ((λ e. m (rw e d.0)), outside q s t d.1 m)
 pub record Halved (count height before lower : ℕ) : Type 0 where
   pub enough : 2 ^ lower ≤ before + 1
   pub few : before + 1 ≤ 2 ^ (lower + 1)
-  pub enough_behind : 2 ^ lower ≤ (count - 1 - before) + 1
-  pub few_behind : (count - 1 - before) + 1 ≤ 2 ^ (lower + 1)
+  pub enough_after : 2 ^ lower ≤ (count - 1 - before) + 1
+  pub few_after : (count - 1 - before) + 1 ≤ 2 ^ (lower + 1)
 
 halved : (count height before lower : ℕ) → 1 ≤ count → before ≡ (count - 1) / 2 → lower ≡ height - 1 → 2 ^ height ≤ count + 1 → count + 1 ≤ 2 ^ (height + 1)
     → Halved count height before lower
@@ -69,16 +67,16 @@ halved count zero before lower some half low enough few =
     record {
       enough = rw e (omega (arith, half, enough, few));
       few = rw e (omega (arith, half, enough, few));
-      enough_behind = rw e (omega (arith, half, enough, few));
-      few_behind = rw e (omega (arith, half, enough, few));
+      enough_after = rw e (omega (arith, half, enough, few));
+      few_after = rw e (omega (arith, half, enough, few));
     }
 halved count (suc h) before lower some half low enough few =
     let e : lower ≡ h = omega (arith, low) in
     record {
       enough = rw e (omega (arith, half, enough, few, some, pow-add 2 1 h, pow-add 2 h 1, pow-add 2 (suc h) 1));
       few = rw e (omega (arith, half, enough, few, some, pow-add 2 1 h, pow-add 2 h 1, pow-add 2 (suc h) 1));
-      enough_behind = rw e (omega (arith, half, enough, few, some, pow-add 2 1 h, pow-add 2 h 1, pow-add 2 (suc h) 1));
-      few_behind = rw e (omega (arith, half, enough, few, some, pow-add 2 1 h, pow-add 2 h 1, pow-add 2 (suc h) 1));
+      enough_after = rw e (omega (arith, half, enough, few, some, pow-add 2 1 h, pow-add 2 h 1, pow-add 2 (suc h) 1));
+      few_after = rw e (omega (arith, half, enough, few, some, pow-add 2 1 h, pow-add 2 h 1, pow-add 2 (suc h) 1));
     }
 
 pub nothing_black : (t : Tree) → length (in_order t) ≡ 0 → top_color t ≡ Black
@@ -117,7 +115,7 @@ lowest_fork c a p b less few low_a low_b =
     omega (arith, all, most, pow-add 2 1 (max (height a) (height b)))
 
 module _ {E : Type 0} (n : E → Node) where
-  -- what stands in front of a vine doesn't count
+  -- what stands before a vine doesn't count
   pub vine_from : (t : Place → E) (b b' : Option Place) (s : List Place) (a : Option Place) → IsChain (IsFollowed (along n)) t b s a → IsChain (IsFollowed (along n)) t b' s a
   vine_from t b b' [] a c = tt
   vine_from t b b' (x ∷ s) a c = (record { linked = c.0.linked; next = c.0.next }, c.1)
@@ -140,10 +138,10 @@ module _ {E : Type 0} (n : E → Node) where
   vine_named v (x ∷ s) a c named = λ q e. subst (λ z. IsNode n v z) (some_same e) c.0.linked
 
   -- trees and vines stay where only entries of other places change
-  pub tree_beside : (v w : Table E) (up : Option Place) (t : Tree) (s : List Place) → IsDisjoint s (in_order t) → KeepsBeside v w s → IsTree n v.entry up t → IsTree n w.entry up t
+  pub tree_beside : (v w : Table E) (up : Option Place) (t : Tree) (s : List Place) → IsDisjoint s (in_order t) → ChangesOnlyIn v w s → IsTree n v.entry up t → IsTree n w.entry up t
   tree_beside v w up t s d keeps = tree_kept n v.entry w.entry up t (λ q m. keeps.others q (outside q s (in_order t) d m))
 
-  pub vine_beside : (v w : Table E) (r : List Place) (a : Option Place) (s : List Place) → IsDisjoint r s → KeepsBeside v w s → IsVine n v.entry r a → IsVine n w.entry r a
+  pub vine_beside : (v w : Table E) (r : List Place) (a : Option Place) (s : List Place) → IsDisjoint r s → ChangesOnlyIn v w s → IsVine n v.entry r a → IsVine n w.entry r a
   vine_beside v w r a s d keeps = chain_frame (IsFollowed (along n)) v.entry w.entry None r a s d keeps.others
 
   -- A VINE, CUT IN TWO HALVES at a member
@@ -189,8 +187,8 @@ module _ {E : Type 0} (n : E → Node) where
         distinct = parts.back;
         starts = read ∙ ap (λ (e : E). (n e).right) entry_same ∙ subst (λ z. (n (v.entry z)).right ≡ first_or halves.2 behind) at_place cut.2;
         counted = omega (arith, x.counted, ap length halves.3, length-append halves.0 (halves.1 ∷ halves.2), halves.4);
-        enough = sizes.enough_behind;
-        few = sizes.few_behind;
+        enough = sizes.enough_after;
+        few = sizes.few_after;
       }
 
       -- AND BOTH TREES HANG BELOW IT

@@ -4,14 +4,9 @@ use Rattle.std.specs.Option.{option_copied}
 use Rattle.std.specs.List.{cons_option}
 use Rattle.std.specs.Iterator.{MakesProgress, item_count}
 use Rattle.std.proofs.lemmas.List.Elements.{filter_map-append}
-use Rattle.ic_unsafe_ref.specs.declared.place.Place.{Place}
-use Rattle.ic_unsafe_ref.specs.Objects.{Objects, object_at}
-use Rattle.ic_link_ops.specs.Sequences.{Cut, join, IsAbsent, IsDistinct, IsAfter, IsBefore, first, last, last_or, but_last}
-use Rattle.ic_link_ops.specs.Tables.{Table, IsCovered}
-use Rattle.ic_link_ops.specs.RedBlackTree.{Node, Shows}
+use Rattle.ic_link_ops.specs.Prelude.{Place, Objects, object_at, Cut, join, IsAbsent, IsDistinct, IsAfter, IsBefore, first, last, last_or, but_last, Table, IsCovered, site, IsValidCursor, MovesOn, MovesBack, ArePlaced, values_at}
+use Rattle.ic_link_ops.specs.RedBlackTree.{Node, Represents}
 use Rattle.ic_link_ops.specs.Walk.{is_end, GivesFirst, GivesLast}
-use Rattle.ic_link_ops.specs.PlacedObjects.{ArePlaced, values_at}
-use Rattle.ic_link_ops.specs.Positions.{site, Stands, MovesOn, MovesBack}
 use Rattle.ic_link_ops.proofs.SequenceLemmas.{first_is, none_not, some_same, last_not, last_some, last_or-append, last_of_push, split_last, absent_left, absent_right, distinct_left, distinct_right}
 use Rattle.ic_link_ops.proofs.Walks.{is_end_no, yields_placed, makes_progress, yields_placed_back, makes_progress_back, is_end_not}
 use Rattle.ic_link_ops.proofs.Positions.{stands_on}
@@ -19,7 +14,7 @@ use Rattle.ic_link_ops.proofs.PlacedEnds.{all_but_last}
 use Rattle.ic_rbtree.specs.declared.iter.Iter.{Iter}
 use Rattle.ic_rbtree.specs.Members.{up_to, between, IsWalk, members}
 use Rattle.ic_rbtree.specs.Iter.{objects_left, CanWalk}
-use Rattle.ic_rbtree.proofs.Members.{members_shown}
+use Rattle.ic_rbtree.proofs.Members.{members_represented}
 use Rattle.ic_rbtree.proofs.Climbed.{is_end_there}
 
 -- OF DISTINCT MEMBERS those between the first of w and its last are w
@@ -46,11 +41,11 @@ between_ends (x ∷ front) w back d = rw (is_end_not (first w) x (first_off x fr
 pub walk_members : {E : Type 0} (n : E → Node) (t : Table E) → ((q : Place) → (n (t.entry q)).linked ≡ true → IsCovered t q)
     → {root head tail : Option Place} {w : List Place} → IsWalk n t root head tail w → between head tail (members n t root) ≡ w
 walk_members n t law {root} {w = w} k =
-    rw (k.starts, k.ends, members_shown t law root (k.front ++ (w ++ k.back)) k.shown) (between_ends k.front w k.back k.shown.held.distinct)
+    rw (k.starts, k.ends, members_represented t law root (k.front ++ (w ++ k.back)) k.shown) (between_ends k.front w k.back k.shown.held.distinct)
 
 module _ {E : Type 0} {n : E → Node} {t : Table E} {root : Option Place} where
   -- a walk through all members
-  pub walk_all : {head tail : Option Place} (s : List Place) → Shows n t root s → head ≡ first s → tail ≡ last s → IsWalk n t root head tail s
+  pub walk_all : {head tail : Option Place} (s : List Place) → Represents n t root s → head ≡ first s → tail ≡ last s → IsWalk n t root head tail s
   walk_all s shown starts ends = record { front = []; back = []; shown = rw (append-nil s) shown; starts = starts; ends = ends }
 
   -- one that has met its end, and one with no first or no last member
@@ -75,12 +70,12 @@ module _ {E : Type 0} {n : E → Node} {t : Table E} {root : Option Place} where
 
   -- else a step on leaves all but the first, and a step back all but the last
   walk_more : {p : Place} {tail next : Option Place} {w : List Place} → IsWalk n t root (Some p) tail w → tail ≢ Some p
-      → ((gap : Cut) → Shows n t root (join gap) → IsAfter gap (Some p) → IsBefore gap next)
+      → ((gap : Cut) → Represents n t root (join gap) → IsAfter gap (Some p) → IsBefore gap next)
       → (r : List Place) × (w ≡ p ∷ r) × IsWalk n t root next tail r
   walk_more {p} {w = []} k apart leads = absurd (none_not p (sym k.starts))
   walk_more {w = x ∷ []} k apart leads = absurd (apart (k.ends ∙ sym k.starts))
   walk_more {w = x ∷ y ∷ w} k apart leads =
-      let shown : Shows n t root ((k.front ++ x ∷ []) ++ (y ∷ w ++ k.back)) = rw (append_assoc k.front (x ∷ []) (y ∷ w ++ k.back)) k.shown in (
+      let shown : Represents n t root ((k.front ++ x ∷ []) ++ (y ∷ w ++ k.back)) = rw (append_assoc k.front (x ∷ []) (y ∷ w ++ k.back)) k.shown in (
         y ∷ w,
         ap (λ (q : Place). q ∷ y ∷ w) (sym (some_same k.starts)),
         record {
@@ -93,16 +88,16 @@ module _ {E : Type 0} {n : E → Node} {t : Table E} {root : Option Place} where
       )
 
   walk_less : {p : Place} {head prev : Option Place} {w : List Place} → IsWalk n t root head (Some p) w → head ≢ Some p
-      → ((gap : Cut) → Shows n t root (join gap) → IsBefore gap (Some p) → IsAfter gap prev)
+      → ((gap : Cut) → Represents n t root (join gap) → IsBefore gap (Some p) → IsAfter gap prev)
       → (r : List Place) × (w ≡ r ++ p ∷ []) × IsWalk n t root head prev r
   walk_less {p} {w = []} k apart leads = absurd (none_not p (sym k.ends))
   walk_less {w = x ∷ []} k apart leads = absurd (apart (k.starts ∙ sym k.ends))
   walk_less {p} {w = x ∷ y ∷ w} k apart leads =
       let r = x ∷ but_last (y ∷ w) in
       let e : x ∷ y ∷ w ≡ r ++ p ∷ [] = split_last (x ∷ y ∷ w) (sym k.ends) in
-      let shown : Shows n t root (k.front ++ (r ++ p ∷ k.back)) =
+      let shown : Represents n t root (k.front ++ (r ++ p ∷ k.back)) =
       rw (ap (λ (l : List Place). k.front ++ (l ++ k.back)) e ∙ ap (λ (l : List Place). k.front ++ l) (append_assoc r (p ∷ []) k.back)) at k.shown in
-      let whole : Shows n t root ((k.front ++ r) ++ p ∷ k.back) = rw (append_assoc k.front r (p ∷ k.back)) shown in (
+      let whole : Represents n t root ((k.front ++ r) ++ p ∷ k.back) = rw (append_assoc k.front r (p ∷ k.back)) shown in (
         r,
         e,
         record {
@@ -136,7 +131,7 @@ module _ {A L O V K E : Type 0} (n : E → Node) (table : L → Table E) (values
 
   -- else it goes on where a move leads
   pub steps_more : (t : Iter A L O V K) (p : Place) (next : Option Place) → CanWalk n table values t → t.head ≡ Some p → is_end t.tail p ≡ false
-      → MovesOn (Shows n) table (site t.links.now t.root (Some p)) next → Steps t (record t { head = next }) (λ w. p ∷ w)
+      → MovesOn (Represents n) table (site t.links.now t.root (Some p)) next → Steps t (record t { head = next }) (λ w. p ∷ w)
   steps_more t p next can at end moved =
       let k : IsWalk n (table t.links.now) t.root (Some p) t.tail can.0 = rw at at can.1 in
       let r = walk_more k (is_end_no t.tail p end) moved.leads in
@@ -145,7 +140,7 @@ module _ {A L O V K E : Type 0} (n : E → Node) (table : L → Table E) (values
 
   -- the same from the back
   pub steps_less : (t : Iter A L O V K) (p : Place) (prev : Option Place) → CanWalk n table values t → t.tail ≡ Some p → is_end t.head p ≡ false
-      → MovesBack (Shows n) table (site t.links.now t.root (Some p)) prev → Steps t (record t { tail = prev }) (λ w. w ++ p ∷ [])
+      → MovesBack (Represents n) table (site t.links.now t.root (Some p)) prev → Steps t (record t { tail = prev }) (λ w. w ++ p ∷ [])
   steps_less t p prev can at end moved =
       let k : IsWalk n (table t.links.now) t.root t.head (Some p) can.0 = rw at at can.1 in
       let r = walk_less k (is_end_no t.head p end) moved.leads in
@@ -157,18 +152,18 @@ module _ {A L O V K E : Type 0} (n : E → Node) (table : L → Table E) (values
   can_walk k = (k.others, k.reaches.0, k.reaches.1)
 
   -- an end that it gives out stands
-  pub first_stands : (t : Iter A L O V K) (p : Place) → CanWalk n table values t → t.head ≡ Some p → Stands (Shows n) table (site t.links.now t.root (Some p))
+  pub first_stands : (t : Iter A L O V K) (p : Place) → CanWalk n table values t → t.head ≡ Some p → IsValidCursor (Represents n) table (site t.links.now t.root (Some p))
   first_stands t p can at =
       let k = can.1 in
       let w : can.0 ≡ p ∷ drop 1 can.0 = first_is can.0 (sym at ∙ k.starts) in
       stands_on (record { front = k.front; back = drop 1 can.0 ++ k.back; shown = rw w at k.shown }) refl
 
-  pub last_stands : (t : Iter A L O V K) (p : Place) → CanWalk n table values t → t.tail ≡ Some p → Stands (Shows n) table (site t.links.now t.root (Some p))
+  pub last_stands : (t : Iter A L O V K) (p : Place) → CanWalk n table values t → t.tail ≡ Some p → IsValidCursor (Represents n) table (site t.links.now t.root (Some p))
   last_stands t p can at =
       let k = can.1 in
       let w : (can.0 ++ k.back) ≡ but_last can.0 ++ p ∷ k.back =
       ap (λ (l : List Place). l ++ k.back) (split_last can.0 (sym k.ends ∙ at)) ∙ append_assoc (but_last can.0) (p ∷ []) k.back in
-      let shown : Shows n (table t.links.now) t.root ((k.front ++ but_last can.0) ++ p ∷ k.back) =
+      let shown : Represents n (table t.links.now) t.root ((k.front ++ but_last can.0) ++ p ∷ k.back) =
       rw (append_assoc k.front (but_last can.0) (p ∷ k.back)) (rw w at k.shown) in
       stands_on (record { front = k.front ++ but_last can.0; back = k.back; shown = shown }) refl
 

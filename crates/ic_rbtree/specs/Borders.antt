@@ -4,10 +4,9 @@ use Rattle.std.specs.List.{AllByRecursion}
 use Rattle.std.specs.declared.cmp.Ordering.{Ordering}
 use Rattle.std.specs.declared.cmp.Ordering.TheVariants.{Less, Equal, Greater}
 use Rattle.std.specs.Ordering.{is_eq, is_le}
-use Rattle.ic_unsafe_ref.specs.declared.place.Place.{Place}
+use Rattle.ic_link_ops.specs.Prelude.{Place, Cut, join, first, IsAfter, IsBefore}
 use Rattle.ic_rbtree.specs.declared.keys.key_adapter.Bound.{Bound}
 use Rattle.ic_rbtree.specs.Comparing.{meets_lower, is_beyond}
-use Rattle.ic_link_ops.specs.Sequences.{Cut, join, first, IsAfter, IsBefore}
 pub use Rattle.ic_cursors.specs.Ordered.{IsBorder, less_at}
 
 -- A LOWER BORDER of a bound: a member that meets it, and whose predecessor, if any, doesn't; or null, and the last member, if any, doesn't
@@ -37,8 +36,8 @@ module _ (at : Place → Ordering) where
   abbrev pub at_most_at : Place → Bool
   at_most_at p = is_le (at p)
 
-  -- FOUND: at a gap with no member right in front that is not less than what is searched, and none right behind that is, the member
-  -- behind it, if that is equal
+  -- FOUND: at a gap with no member right before that is not less than what is searched, and none right after that is, the member
+  -- after it, if that is equal
   pub record Finds (s : List Place) (position : Option Place) : Type 0 where
     pub gap : Cut
     pub same : join gap ≡ s

@@ -1,7 +1,6 @@
 -- How far a member stands below the root, as the parents lead.
 use Rattle.std.specs.Prelude.{ℕ, suc, zero, Option, Some, None}
-use Rattle.ic_unsafe_ref.specs.declared.place.Place.{Place}
-use Rattle.ic_link_ops.specs.Tables.{Table}
+use Rattle.ic_link_ops.specs.Prelude.{Place, Table}
 use Rattle.ic_link_ops.specs.RedBlackTree.{Node}
 
 -- steps up from a place until there is none above, at most so many

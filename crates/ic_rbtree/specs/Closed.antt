@@ -1,7 +1,6 @@
 -- Links that lead out of no set of places: what an edit's safety asks, whatever the words say else.
 use Rattle.std.specs.Prelude.{◌≡◌, Bool, true, Option, Some, None, List, [], ◌∷◌}
-use Rattle.ic_unsafe_ref.specs.declared.place.Place.{Place}
-use Rattle.ic_link_ops.specs.Tables.{Table}
+use Rattle.ic_link_ops.specs.Prelude.{Place, Table}
 use Rattle.ic_link_ops.specs.RedBlackTree.{Node}
 
 -- an end is none or in the set

@@ -4,8 +4,7 @@ use Rattle.std.specs.declared.cmp.Ordering.{Ordering}
 use Rattle.std.specs.declared.cmp.Ordering.TheVariants.{Less}
 use Rattle.std.specs.Ordering.{is_lt, is_le, is_gt, is_ge}
 use Rattle.std.specs.Borrow.{Bor}
-use Rattle.ic_unsafe_ref.specs.declared.place.Place.{Place}
-use Rattle.ic_unsafe_ref.specs.Objects.{Objects, object_at}
+use Rattle.ic_link_ops.specs.Prelude.{Place, Objects, object_at}
 use Rattle.ic_link_ops.specs.declared.side.Side.{Side}
 use Rattle.ic_link_ops.specs.declared.side.Side.TheVariants.{Left, Right}
 use Rattle.ic_rbtree.specs.declared.keys.key_adapter.Bound.{Bound}
@@ -24,7 +23,7 @@ compared order objects p = answer_at order (object_at objects p)
 abbrev pub order_of : {V K : Type 0} → (K → K → Ordering) → (V → K) → K → V → Ordering
 order_of cmp key_of key value = cmp key (key_of value)
 
--- the same of a key behind a reference
+-- the same of a key after a reference
 abbrev pub order_there : {V K : Type 0} → (K → K → Ordering) → (V → K) → Bor K → V → Ordering
 order_there cmp key_of key = order_of cmp key_of key.now
 
@@ -73,7 +72,7 @@ abbrev pub HasRoom : ℕ → Type 0
 HasRoom count = count + most_looks ≤ 18446744073709551615
 
 -- SO FEW LOOKS as one descent makes in a tree with the members s, and one at least if there is a member
-pub record FewLooks (looks : ℕ) (s : List Place) : Type 0 where
+pub record WithinComparisonBound (looks : ℕ) (s : List Place) : Type 0 where
   pub few : 2 ^ looks ≤ (length s + 1) ^ 2
   pub some : 1 ≤ length s → 1 ≤ looks
 
@@ -82,7 +81,7 @@ module _ {P V : Type 0} (order : P → V → Ordering) (count : P → ℕ) where
   pub record Looks (old new : P) (s : List Place) : Type 0 where
     pub looks : ℕ
     pub counted : count new ≡ count old + looks
-    pub few : FewLooks looks s
+    pub few : WithinComparisonBound looks s
     pub fewer : 1 ≤ length s → 2 ^ (looks + 1) ≤ (length s + 1) ^ 2
     pub order_is : order new ≡ order old
 

@@ -1,7 +1,6 @@
 -- What clauses see of a cursor.
 use Rattle.std.specs.Prelude.{Option}
-use Rattle.ic_unsafe_ref.specs.declared.place.Place.{Place}
-use Rattle.ic_link_ops.specs.Positions.{Site, site}
+use Rattle.ic_link_ops.specs.Prelude.{Place, CursorState, site}
 use Rattle.ic_cursors.specs.declared.cursor.Cursor as any
 use Rattle.ic_rbtree.specs.declared.tree.RBTree.{RBTree}
 use Rattle.ic_rbtree.specs.Tree.{head_of}
@@ -21,5 +20,5 @@ module _ {A L V H : Type 0} where
   position c = c.current
 
   -- with the tree and the table that it reads
-  abbrev pub site_of : Cursor A L V H → Site L H
+  abbrev pub site_of : Cursor A L V H → CursorState L H
   site_of c = site (links_of c) (head_of (tree_of c)) (position c)

@@ -1,8 +1,7 @@
 -- What clauses see of a cursor that edits.
 use Rattle.std.specs.Prelude.{◌≡◌, Option}
 use Rattle.std.specs.Borrow.{MutBor}
-use Rattle.ic_unsafe_ref.specs.declared.place.Place.{Place}
-use Rattle.ic_link_ops.specs.Positions.{Site, site}
+use Rattle.ic_link_ops.specs.Prelude.{Place, CursorState, site}
 use Rattle.ic_cursors.specs.declared.cursor_mut.CursorMut as any
 use Rattle.ic_rbtree.specs.declared.tree.RBTree.{RBTree}
 use Rattle.ic_rbtree.specs.Tree.{head_of, adapter_of}
@@ -26,7 +25,7 @@ module _ {A L V H : Type 0} where
   position c = c.current
 
   -- with the tree and the table that it edits
-  abbrev pub site_of : CursorOf A L V H → Site L H
+  abbrev pub site_of : CursorOf A L V H → CursorState L H
   site_of c = site (links_of c) (head_of (tree_of c)) (position c)
 
   -- it edits this tree, with the same adapter, and this table

@@ -1,7 +1,6 @@
 -- What clauses see of a cursor that keeps its tree.
 use Rattle.std.specs.Prelude.{Option}
-use Rattle.ic_unsafe_ref.specs.declared.place.Place.{Place}
-use Rattle.ic_link_ops.specs.Positions.{Site, site}
+use Rattle.ic_link_ops.specs.Prelude.{Place, CursorState, site}
 use Rattle.ic_cursors.specs.declared.cursor_owning.CursorOwning as any
 use Rattle.ic_rbtree.specs.declared.tree.RBTree.{RBTree}
 use Rattle.ic_rbtree.specs.Tree.{head_of}
@@ -20,5 +19,5 @@ module _ {A V H : Type 0} where
   position c = c.current
 
   -- with the tree that it keeps, and the table that a call is handed
-  abbrev pub site_of : {L : Type 0} → L → CursorOwning A V H → Site L H
+  abbrev pub site_of : {L : Type 0} → L → CursorOwning A V H → CursorState L H
   site_of links c = site links (head_of (tree_of c)) (position c)

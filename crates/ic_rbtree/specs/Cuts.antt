@@ -1,13 +1,11 @@
 -- A tree is cut at a hole, from there up.
 use Rattle.std.specs.Prelude.{◌≡◌, ℕ, ◌+◌, ◌<◌, length, Option, Some, None, List, ◌∷◌, ◌++◌}
-use Rattle.ic_unsafe_ref.specs.declared.place.Place.{Place}
+use Rattle.ic_link_ops.specs.Prelude.{Place, Cut, Table}
 use Rattle.ic_link_ops.specs.declared.color.Color.{Color}
 use Rattle.ic_link_ops.specs.declared.side.Side.{Side}
 use Rattle.ic_link_ops.specs.Frames.{Frame, frame, above, before, after}
 use Rattle.ic_link_ops.specs.RedBlackTree.{Node}
-use Rattle.ic_link_ops.specs.Sequences.{Cut}
 use Rattle.ic_link_ops.specs.Shape.{weight, blacks, IsRight}
-use Rattle.ic_link_ops.specs.Tables.{Table}
 use Rattle.ic_link_ops.specs.Trees.{Tree, top, in_order}
 use Rattle.ic_rbtree.specs.declared.join.roots.Measured.{Measured}
 use Rattle.ic_rbtree.specs.Insertion.{blackened}

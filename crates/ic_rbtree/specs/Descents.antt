@@ -1,18 +1,16 @@
 -- A descent from the root, which a test sends to one side at each member.
 use Rattle.std.specs.Prelude.{◌≡◌, Bool, true, false, cond, Option, Some, None, List, [], ◌∷◌, ◌++◌}
-use Rattle.ic_unsafe_ref.specs.declared.place.Place.{Place}
+use Rattle.ic_link_ops.specs.Prelude.{Place, Cut, first, last, Table}
 use Rattle.ic_link_ops.specs.declared.side.Side.{Side}
 use Rattle.ic_link_ops.specs.declared.side.Side.TheVariants.{Left, Right}
-use Rattle.ic_link_ops.specs.Sequences.{Cut, first, last}
 use Rattle.ic_link_ops.specs.Trees.{Tree, leaf, fork, in_order}
 use Rattle.ic_link_ops.specs.Frames.{Frame, frame}
-use Rattle.ic_link_ops.specs.Tables.{Table}
 use Rattle.ic_link_ops.specs.Walk.{is_end}
 use Rattle.ic_link_ops.specs.RedBlackTree.{Node}
 use Rattle.std.specs.declared.cmp.Ordering.{Ordering}
 use Rattle.ic_rbtree.specs.Comparing.{goes_left}
 use Rattle.ic_rbtree.specs.Borders.{equal_at}
-use Rattle.ic_rbtree.specs.Insertion.{IsHole}
+use Rattle.ic_rbtree.specs.Insertion.{IsInsertPos}
 use Rattle.ic_rbtree.specs.declared.keys.descent.Descent.{Descent}
 
 -- left of a member that passes the test, and right of one that fails it
@@ -50,7 +48,7 @@ abbrev pub passed : Descent → Place → Bool → Bool → Descent
 passed old p true equal = record { parent = Some p; side = Left; front = old.front; back = Some p; equal = last_equal old.equal p equal }
 passed old p false equal = record { parent = Some p; side = Right; front = Some p; back = old.back; equal = last_equal old.equal p equal }
 
--- whether a member is behind the gap, and is the last that compared equal
+-- whether a member is after the gap, and is the last that compared equal
 abbrev pub is_last : Option Place → Option Place → Bool
 is_last equal None = false
 is_last equal (Some p) = is_end equal p
@@ -66,7 +64,7 @@ equal_there at (Some p) = equal_at at p
 module _ {E : Type 0} (n : E → Node) where
   -- THE DESCENT ENDS in the gap to which the comparisons send: `equals` is the side to which they send at an equal member
   pub record EndsAt (t : Table E) (at : Place → Ordering) (equals : Side) (tree : Tree) (d : Descent) : Type 0 where
-    pub hole : IsHole n t d.parent d.side (gap_in (λ p. goes_left equals (at p)) tree)
+    pub hole : IsInsertPos n t d.parent d.side (gap_in (λ p. goes_left equals (at p)) tree)
     pub front_is : d.front ≡ last (gap_in (λ p. goes_left equals (at p)) tree).front
     pub back_is : d.back ≡ first (gap_in (λ p. goes_left equals (at p)) tree).back
     pub equal_is : is_equal d ≡ equal_there at d.back

@@ -1,17 +1,15 @@
 -- A tree between its two ends, of which a walk that takes the members off keeps nothing else.
 use Rattle.std.specs.Prelude.{◌≡◌, Option, Some, List, [], ◌∷◌, drop}
-use Rattle.ic_unsafe_ref.specs.declared.place.Place.{Place}
+use Rattle.ic_link_ops.specs.Prelude.{Place, first, last, but_last, Table}
 use Rattle.ic_link_ops.specs.declared.side.Side.{Side}
 use Rattle.ic_link_ops.specs.declared.side.Side.TheVariants.{Left, Right}
-use Rattle.ic_link_ops.specs.Sequences.{first, last, but_last}
-use Rattle.ic_link_ops.specs.Tables.{Table}
 use Rattle.ic_link_ops.specs.Chains.{Ends}
 use Rattle.ic_link_ops.specs.Trees.{Tree, top, in_order}
-use Rattle.ic_link_ops.specs.RedBlackTree.{Node, ShowsEnds}
+use Rattle.ic_link_ops.specs.RedBlackTree.{Node, RepresentsEnds}
 use Rattle.ic_link_ops.specs.Frames.{Frame, above, plug, topmost}
-use Rattle.ic_rbtree.specs.Pieces.{Piece, around, Held, Stands}
+use Rattle.ic_rbtree.specs.Pieces.{Piece, around, Held, ClimbState}
 use Rattle.ic_rbtree.specs.Removal.{IsOn}
-use Rattle.ic_rbtree.specs.Sides.{StandsAt, beyond}
+use Rattle.ic_rbtree.specs.Sides.{IsInTree, beyond}
 
 -- the two ends, of which the near one is on this side
 abbrev pub ends_from : Side → Option Place → Option Place → Ends
@@ -28,12 +26,12 @@ others_on Left = drop 1
 others_on Right = but_last
 
 module _ {E : Type 0} (n : E → Node) where
-  -- the table shows w between these ends
-  abbrev pub ShowsWithin : Table E → Ends → List Place → Type 0
-  ShowsWithin t ends w = ShowsEnds n t ends.head ends.tail w
+  -- the table represents w between these ends
+  abbrev pub RepresentsWithin : Table E → Ends → List Place → Type 0
+  RepresentsWithin t ends w = RepresentsEnds n t ends.head ends.tail w
 
-  abbrev pub ShowsFrom : Side → Table E → Option Place → Option Place → List Place → Type 0
-  ShowsFrom d t near far w = ShowsWithin t (ends_from d near far) w
+  abbrev pub RepresentsFrom : Side → Table E → Option Place → Option Place → List Place → Type 0
+  RepresentsFrom d t near far w = RepresentsWithin t (ends_from d near far) w
 
   -- `to` hangs on this side of `parent`; where that is none, it has come to be the root
   abbrev pub Hangs : Table E → Table E → Option Place → Side → Option Place → Type 0
@@ -43,10 +41,10 @@ module _ {E : Type 0} (n : E → Node) where
 
   -- the child, if there is one, is the root of a subtree
   abbrev pub CanDescend : Table E → Option Place → Type 0
-  CanDescend v child = (p : Place) → child ≡ Some p → StandsAt n v p
+  CanDescend v child = (p : Place) → child ≡ Some p → IsInTree n v p
 
   -- the result is the outermost member on this side of a tree that has nothing on this side of a subtree, with the root `child` below `parent`
   abbrev pub IsOuter : Table E → Option Place → Option Place → Side → Option Place → Type 0
   IsOuter v child parent d result =
-      (base : Table E) (root : Option Place) (fs : List Frame) (t : Tree) (ps : List Piece) → Stands n base v root fs t ps → child ≡ top t → parent ≡ above fs
+      (base : Table E) (root : Option Place) (fs : List Frame) (t : Tree) (ps : List Piece) → ClimbState n base v root fs t ps → child ≡ top t → parent ≡ above fs
       → beyond d fs ≡ [] → result ≡ end_on d (in_order (plug fs t))

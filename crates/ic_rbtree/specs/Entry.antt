@@ -2,12 +2,8 @@
 use Rattle.std.specs.Prelude.{◌≡◌, ⊤, Some, Result, IfOk, IfErr, List, [], ◌∷◌}
 use Rattle.std.specs.declared.cmp.Ordering.{Ordering}
 use Rattle.std.specs.Borrow.{MutBor}
-use Rattle.ic_unsafe_ref.specs.declared.place.Place.{Place}
+use Rattle.ic_link_ops.specs.Prelude.{Place, Cut, join, Table, IsValidCursor, LinkStep, acquires}
 use Rattle.ic_link_ops.specs.Edits.{Inserts}
-use Rattle.ic_link_ops.specs.LinkSteps.{LinkStep, acquires}
-use Rattle.ic_link_ops.specs.Positions.{Stands}
-use Rattle.ic_link_ops.specs.Sequences.{Cut, join}
-use Rattle.ic_link_ops.specs.Tables.{Table}
 use Rattle.ic_link_ops.specs.RedBlackTree.{Node}
 use Rattle.ic_rbtree.specs.declared.keys.entry.Entry.{Entry}
 use Rattle.ic_rbtree.specs.declared.keys.entry.Entry.TheVariants.{Occupied, Vacant}
@@ -17,8 +13,8 @@ use Rattle.ic_rbtree.specs.declared.tree.RBTree.{RBTree}
 use Rattle.ic_rbtree.specs.Borders.{IsBorder, at_most_at, less_at}
 use Rattle.ic_rbtree.specs.CursorMut as editing
 use Rattle.ic_rbtree.specs.CursorMut.{CursorOf}
-use Rattle.ic_rbtree.specs.Insertion.{IsHole}
-use Rattle.ic_rbtree.specs.Kept.{Kept, ShowsKept}
+use Rattle.ic_rbtree.specs.Insertion.{IsInsertPos}
+use Rattle.ic_rbtree.specs.Kept.{Kept, RepresentsKept}
 use Rattle.ic_rbtree.specs.Tree.{head_of}
 
 module _ {A L H V K : Type 0} where
@@ -47,9 +43,9 @@ module _ {A L H : Type 0} where
   module _ {E : Type 0} (node : E → Node) where
     -- THE GAP where it inserts
     abbrev pub IsVacantAt : Table E → InsertCursor A L H → Cut → Type 0
-    IsVacantAt t v gap = IsHole node t v.parent v.side gap
+    IsVacantAt t v gap = IsInsertPos node t v.parent v.side gap
 
-    -- VACANT FOR WHAT IS SEARCHED: it inserts at a gap of s where the member in front is smaller, and the one behind larger
+    -- VACANT FOR WHAT IS SEARCHED: it inserts at a gap of s where the member before is smaller, and the one after larger
     pub record IsVacantFor (at : Place → Ordering) (t : Table E) (s : List Place) (v : InsertCursor A L H) : Type 0 where
       pub gap : Cut
       pub same : join gap ≡ s
@@ -57,10 +53,10 @@ module _ {A L H : Type 0} where
       pub smaller : IsBorder (at_most_at at) gap
       pub larger : IsBorder (less_at at) gap
 
-  -- there is a gap of what is shown where it inserts
+  -- there is a gap of what is represented where it inserts
   abbrev pub CanInsert : {E : Type 0} → (H → Kept) → (E → Node) → (L → Table E) → InsertCursor A L H → Type 0
   CanInsert kept node table v =
-      (gap : Cut) × ShowsKept kept node (table (links_of v)) (head_of (tree_of v)) (join gap) × IsVacantAt node (table (links_of v)) v gap
+      (gap : Cut) × RepresentsKept kept node (table (links_of v)) (head_of (tree_of v)) (join gap) × IsVacantAt node (table (links_of v)) v gap
 
   -- the same gap of the same tree and table, and the tree is as it was
   abbrev pub IsLeft : InsertCursor A L H → InsertCursor A L H → Type 0
@@ -68,13 +64,13 @@ module _ {A L H : Type 0} where
       × (v.parent ≡ old.parent) × (v.side ≡ old.side)
 
 -- THE OBJECT IS INSERTED at the gap, and the cursor is on it; or its link is refused, and it comes back with the gap, of which nothing has changed
-module _ {A L H T K E : Type 0} (kept : H → Kept) (node : E → Node) (table : L → Table E) (Does : L → L → List LinkStep → Type 0) (Refused : L → L → Place → Type 0) where
+module _ {A L H T K E : Type 0} (kept : H → Kept) (node : E → Node) (table : L → Table E) (Trace : L → L → List LinkStep → Type 0) (Refused : L → L → Place → Type 0) where
   pub record InsertsInto (v : InsertCursor A L H) (object : Place) (result : Result (CursorOf A L T H) (RefusedInsert A L H T K)) : Type 0 where
-    pub inserted : (gap : Cut) → ShowsKept kept node (table (links_of v)) (head_of (tree_of v)) (join gap) → IsVacantAt node (table (links_of v)) v gap
-        → IfOk result (λ c. Inserts (ShowsKept kept node) (table (links_of v)) (table (editing.links_of c)) (head_of (editing.tree_of c)) gap object)
-    pub acquired : IfOk result (λ c. Does (links_of v) (editing.links_of c) (acquires object ∷ []))
+    pub inserted : (gap : Cut) → RepresentsKept kept node (table (links_of v)) (head_of (tree_of v)) (join gap) → IsVacantAt node (table (links_of v)) v gap
+        → IfOk result (λ c. Inserts (RepresentsKept kept node) (table (links_of v)) (table (editing.links_of c)) (head_of (editing.tree_of c)) gap object)
+    pub acquired : IfOk result (λ c. Trace (links_of v) (editing.links_of c) (acquires object ∷ []))
     pub position : IfOk result (λ c. editing.position c ≡ Some object)
-    pub stands : IfOk result (λ c. Stands (ShowsKept kept node) table (editing.site_of c))
+    pub stands : IfOk result (λ c. IsValidCursor (RepresentsKept kept node) table (editing.site_of c))
     pub borrows : IfOk result (editing.SameNames v.tree v.links)
     pub refused : IfErr result (λ e. Refused (links_of v) (links_of e.gap) object)
     pub unchanged : IfErr result (λ e. (e.object ≡ object) × IsLeft v e.gap)

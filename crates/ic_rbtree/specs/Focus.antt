@@ -1,11 +1,10 @@
 -- A tree with one of its subtrees in focus.
 use Rattle.std.specs.Prelude.{Option, List}
-use Rattle.ic_unsafe_ref.specs.declared.place.Place.{Place}
-use Rattle.ic_link_ops.specs.Tables.{Table}
+use Rattle.ic_link_ops.specs.Prelude.{Place, Table}
 use Rattle.ic_link_ops.specs.Trees.{Tree}
 use Rattle.ic_link_ops.specs.RedBlackTree.{Node}
 use Rattle.ic_link_ops.specs.Frames.{Frame}
-use Rattle.ic_rbtree.specs.Pieces.{Piece, Stands, Shown}
+use Rattle.ic_rbtree.specs.Pieces.{Piece, ClimbState, Represented}
 
 -- what the table was, the tree's members in order, the frames above the subtree, the subtree, and the pieces beside the tree
 pub record Focus (E : Type 0) : Type 0 where
@@ -18,8 +17,8 @@ pub record Focus (E : Type 0) : Type 0 where
 module _ {E : Type 0} (n : E → Node) where
   -- the subtree stands there
   abbrev pub IsInFocus : Table E → Option Place → Focus E → Type 0
-  IsInFocus v root k = Stands n k.base v root k.frames k.subtree k.pieces
+  IsInFocus v root k = ClimbState n k.base v root k.frames k.subtree k.pieces
 
   -- all is right: a tree of the right shape with that sequence stands there
   abbrev pub IsRestored : Table E → Option Place → Focus E → Type 0
-  IsRestored v root k = Shown n k.base v root k.sequence k.pieces
+  IsRestored v root k = Represented n k.base v root k.sequence k.pieces

@@ -1,15 +1,12 @@
 -- Where an object comes into a tree, and how many looks find that.
 use Rattle.std.specs.Prelude.{◌≡◌, ℕ, ◌+◌, ◌*◌, ◌^◌, ◌≤◌, Bool, false, not, Option, None, Some, List, length}
 use Rattle.std.specs.declared.cmp.Ordering.{Ordering}
-use Rattle.ic_unsafe_ref.specs.declared.place.Place.{Place}
-use Rattle.ic_unsafe_ref.specs.Objects.{Objects}
+use Rattle.ic_link_ops.specs.Prelude.{Place, Objects, Cut, join, IsBefore, Table}
 use Rattle.ic_link_ops.specs.declared.side.Side.{Side}
 use Rattle.ic_link_ops.specs.RedBlackTree.{Node}
-use Rattle.ic_link_ops.specs.Sequences.{Cut, join, IsBefore}
-use Rattle.ic_link_ops.specs.Tables.{Table}
 use Rattle.ic_rbtree.specs.Borders.{IsBorder, less_at}
 use Rattle.ic_rbtree.specs.Comparing.{compared}
-use Rattle.ic_rbtree.specs.Insertion.{IsHole}
+use Rattle.ic_rbtree.specs.Insertion.{IsInsertPos}
 
 -- whether what is searched is less than the member at a position, which is not so at null
 abbrev pub less_there : (Place → Ordering) → Option Place → Bool
@@ -17,9 +14,9 @@ less_there at None = false
 less_there at (Some p) = less_at at p
 
 -- whether there is a member, and what is searched is not less
-abbrev pub behind_there : (Place → Ordering) → Option Place → Bool
-behind_there at None = false
-behind_there at (Some p) = not (less_at at p)
+abbrev pub after_there : (Place → Ordering) → Option Place → Bool
+after_there at None = false
+after_there at (Some p) = not (less_at at p)
 
 -- how many looks tell either
 abbrev pub looks_there : Option Place → ℕ
@@ -27,14 +24,14 @@ looks_there None = 0
 looks_there (Some p) = 1
 
 module _ {E : Type 0} (n : E → Node) where
-  -- THE HOLE IS WHERE WHAT IS SEARCHED BELONGS: behind what is less or equal
+  -- THE HOLE IS WHERE WHAT IS SEARCHED BELONGS: after what is less or equal
   pub record IsInOrder (v : Table E) (at : Place → Ordering) (s : List Place) (parent : Option Place) (d : Side) : Type 0 where
     pub gap : Cut
     pub same : join gap ≡ s
     pub border : IsBorder (less_at at) gap
-    pub hole : IsHole n v parent d gap
+    pub hole : IsInsertPos n v parent d gap
 
--- the gap in front of this member of s is a border of the test
+-- the gap before this member of s is a border of the test
 pub record BelongsBefore (test : Place → Bool) (p : Place) (s : List Place) : Type 0 where
   pub gap : Cut
   pub same : join gap ≡ s
@@ -42,7 +39,7 @@ pub record BelongsBefore (test : Place → Bool) (p : Place) (s : List Place) : 
   pub border : IsBorder test gap
 
 module _ {P V : Type 0} (order : P → V → Ordering) (count : P → ℕ) where
-  -- THE LOOKS OF ONE INSERT WITH A HINT: two at most where what is searched belongs in front of the hint, and else one more than a descent makes at most
+  -- THE LOOKS OF ONE INSERT WITH A HINT: two at most where what is searched belongs before the hint, and else one more than a descent makes at most
   pub record HintedLooks (objects : Objects V) (hint : Place) (old new : P) (s : List Place) : Type 0 where
     pub looks : ℕ
     pub counted : count new ≡ count old + looks

@@ -1,19 +1,17 @@
 -- What the steps of a repair after an insert do.
 use Rattle.std.specs.Prelude.{◌≡◌, ℕ, ◌+◌, ◌<◌, Bool, true, false, cond, Option, Some, None, List, [], ◌∷◌, ◌++◌, length}
-use Rattle.ic_unsafe_ref.specs.declared.place.Place.{Place}
+use Rattle.ic_link_ops.specs.Prelude.{Place, Cut, Table}
 use Rattle.ic_link_ops.specs.declared.color.Color.{Color}
 use Rattle.ic_link_ops.specs.declared.color.Color.TheVariants.{Red, Black}
 use Rattle.ic_link_ops.specs.declared.side.Side.{Side}
 use Rattle.ic_link_ops.specs.declared.side.Side.TheVariants.{Left, Right}
-use Rattle.ic_link_ops.specs.Sequences.{Cut}
-use Rattle.ic_link_ops.specs.Tables.{Table}
 use Rattle.ic_link_ops.specs.Trees.{Tree, leaf, fork, top, in_order}
 use Rattle.ic_link_ops.specs.Shape.{weight, blacks}
 use Rattle.ic_link_ops.specs.RedBlackTree.{Node}
 use Rattle.ic_link_ops.specs.Frames.{Frame, frame, branch, plug, above, child_on}
 use Rattle.ic_rbtree.specs.Height.{turns}
 use Rattle.ic_rbtree.specs.Sides.{IsBeside}
-use Rattle.ic_rbtree.specs.Pieces.{Piece, loose, Stands, Shown}
+use Rattle.ic_rbtree.specs.Pieces.{Piece, loose, ClimbState, Represented}
 use Rattle.ic_rbtree.specs.Shortage.{wanted, IsNearlyRight}
 use Rattle.ic_rbtree.specs.Focus.{Focus, IsInFocus, IsRestored}
 
@@ -87,8 +85,8 @@ module _ {E : Type 0} (n : E → Node) where
   abbrev pub Recolors : Table E → Table E → Place → Place → Place → Type 0
   Recolors v w q y g =
       (root : Option Place) (i : Side) (m : RedPair) (k : Focus E) → top m.uncle ≡ Some y
-      → Stands n k.base v root (above_pair q g i m k.frames) k.subtree k.pieces
-      → Stands n k.base w root k.frames (branch i (wanted k.frames) (branch m.low Black k.subtree q m.sibling) g (blackened m.uncle)) k.pieces
+      → ClimbState n k.base v root (above_pair q g i m k.frames) k.subtree k.pieces
+      → ClimbState n k.base w root k.frames (branch i (wanted k.frames) (branch m.low Black k.subtree q m.sibling) g (blackened m.uncle)) k.pieces
 
   -- a red child of `upper` is an outer grandchild of g: it stands on the side on which `upper` does
   abbrev pub HasOuterGrandchild : Table E → Option Place → Place → Place → Side → RedPair → Focus E → Type 0
@@ -101,12 +99,12 @@ module _ {E : Type 0} (n : E → Node) where
       (g : Place) (m : RedPair) (k : Focus E) → PairAt v root x q g i m k → HasOuterGrandchild w new_root upper g i m k
 
   -- THE HOLE: on side d of q, which has no child there, is this gap; without q the tree is empty
-  abbrev pub IsHole : Table E → Option Place → Side → Cut → Type 0
-  IsHole v None d gap = (gap.front ≡ []) × (gap.back ≡ [])
-  IsHole v (Some q) d gap = (child_on d (n (v.entry q)) ≡ None) × IsBeside d gap (Some q)
+  abbrev pub IsInsertPos : Table E → Option Place → Side → Cut → Type 0
+  IsInsertPos v None d gap = (gap.front ≡ []) × (gap.back ≡ [])
+  IsInsertPos v (Some q) d gap = (child_on d (n (v.entry q)) ≡ None) × IsBeside d gap (Some q)
 
   -- p is put in at the gap
   abbrev pub Attaches : Table E → Table E → Option Place → Option Place → Option Place → Side → Place → Type 0
   Attaches v w root new_root parent d p =
-      (base : Table E) (gap : Cut) (ps : List Piece) → Shown n base v root (gap.front ++ gap.back) (loose p ∷ ps) → IsHole v parent d gap
-      → Shown n base w new_root (gap.front ++ p ∷ gap.back) ps
+      (base : Table E) (gap : Cut) (ps : List Piece) → Represented n base v root (gap.front ++ gap.back) (loose p ∷ ps) → IsInsertPos v parent d gap
+      → Represented n base w new_root (gap.front ++ p ∷ gap.back) ps

@@ -1,10 +1,7 @@
 -- What clauses see of a walk over a tree's objects.
 use Rattle.std.specs.Prelude.{List}
-use Rattle.ic_unsafe_ref.specs.declared.place.Place.{Place}
-use Rattle.ic_unsafe_ref.specs.Objects.{Objects}
-use Rattle.ic_link_ops.specs.Tables.{Table}
+use Rattle.ic_link_ops.specs.Prelude.{Place, Objects, Table, ArePlaced, values_at}
 use Rattle.ic_link_ops.specs.RedBlackTree.{Node}
-use Rattle.ic_link_ops.specs.PlacedObjects.{ArePlaced, values_at}
 use Rattle.ic_rbtree.specs.Members.{members, between, IsWalk}
 use Rattle.ic_rbtree.specs.declared.iter.Iter.{Iter}
 

@@ -1,16 +1,14 @@
 -- A place comes into a tree, with another tree below it.
 use Rattle.std.specs.Prelude.{◌≡◌, ℕ, ◌+◌, ◌≤◌, Bool, true, cond, Option, None, List, [], ◌∷◌}
-use Rattle.ic_unsafe_ref.specs.declared.place.Place.{Place}
+use Rattle.ic_link_ops.specs.Prelude.{Place, Cut, join, insert, IsDistinct, Table, ChangesOnlyIn}
 use Rattle.ic_link_ops.specs.declared.color.Color.TheVariants.{Red, Black}
 use Rattle.ic_link_ops.specs.declared.side.Side.{Side}
-use Rattle.ic_link_ops.specs.Sequences.{Cut, join, insert, IsDistinct}
-use Rattle.ic_link_ops.specs.Tables.{Table, KeepsBeside}
 use Rattle.ic_link_ops.specs.Trees.{Tree, top, in_order}
 use Rattle.ic_link_ops.specs.Shape.{top_color, blacks, IsRight}
-use Rattle.ic_link_ops.specs.RedBlackTree.{Node, IsTree, Shows}
+use Rattle.ic_link_ops.specs.RedBlackTree.{Node, IsTree, Represents}
 use Rattle.ic_link_ops.specs.Frames.{Frame, branch, plug, above}
 use Rattle.ic_rbtree.specs.declared.join.roots.Measured.{Measured}
-use Rattle.ic_rbtree.specs.Pieces.{Piece, loose, below, around, Held, Stands, Shown}
+use Rattle.ic_rbtree.specs.Pieces.{Piece, loose, below, around, Held, ClimbState, Represented}
 use Rattle.ic_rbtree.specs.Removal.{IsOn}
 use Rattle.ic_rbtree.specs.Sides.{beyond}
 
@@ -38,7 +36,7 @@ module _ {E : Type 0} (n : E → Node) where
   abbrev pub Grafts : Table E → Table E → Option Place → Option Place → Option Place → Side → Option Place → Place → Option Place → Bool → Type 0
   Grafts v w root new_root parent d near p far grown =
       (k : Graft E) → IsGraft v root parent d near p far k
-      → (h : Shown n k.base w new_root (in_order (plug k.frames (branch d Red k.far p k.near))) k.pieces) × (blacks h.tree ≡ blacks (plug k.frames k.near) + cond grown 1 0)
+      → (h : Represented n k.base w new_root (in_order (plug k.frames (branch d Red k.far p k.near))) k.pieces) × (blacks h.tree ≡ blacks (plug k.frames k.near) + cond grown 1 0)
 
   -- the place is the root of a tree; and this is how many black members it has on a way down
   abbrev pub IsRootOf : Table E → Option Place → Tree → Type 0
@@ -46,7 +44,7 @@ module _ {E : Type 0} (n : E → Node) where
 
   -- DOWN A SIDE of the tree t: `near` stands below `parent`, nothing is beyond it on that side, and it has so many black members
   pub record IsSpine (base v : Table E) (root : Option Place) (d : Side) (t : Tree) (ps : List Piece) (near parent : Option Place) (count : ℕ) (gs : List Frame) (u : Tree) : Type 0 where
-    pub stands : Stands n base v root gs u ps
+    pub stands : ClimbState n base v root gs u ps
     pub same : plug gs u ≡ t
     pub near_is : near ≡ top u
     pub parent_is : parent ≡ above gs
@@ -93,28 +91,28 @@ module _ {E : Type 0} (n : E → Node) where
 
   -- THEY ARE ONE TREE with the in-order list s, and its black height
   abbrev pub IsJoined : Table E → Table E → Measured → List Place → List Piece → Type 0
-  IsJoined base w m s ps = (h : Shown n base w m.root s ps) × (m.height ≡ blacks h.tree)
+  IsJoined base w m s ps = (h : Represented n base w m.root s ps) × (m.height ≡ blacks h.tree)
 
   -- TWO TREES CAN BE JOINED with p between them: p is linked, and no place stands twice in all
   pub record CanJoin (v : Table E) (left : Option Place) (p : Place) (right : Option Place) (gap : Cut) : Type 0 where
-    pub front : Shows n v left gap.front
-    pub back : Shows n v right gap.back
+    pub front : Represents n v left gap.front
+    pub back : Represents n v right gap.back
     pub linked : (n (v.entry p)).linked ≡ true
     pub distinct : IsDistinct (insert gap p)
 
--- `Shows t head s`: the table shows s for the tree with this head
-module _ {E H : Type 0} (Shows : Table E → H → List Place → Type 0) where
+-- `Represents t head s`: the table represents s for the tree with this head
+module _ {E H : Type 0} (Represents : Table E → H → List Place → Type 0) where
   -- THE TABLE SHOWS TWO PARTS: the front for the one tree and the back for the other, and no place stands in both
-  pub record ShowsParts (v : Table E) (left right : H) (gap : Cut) : Type 0 where
-    pub front : Shows v left gap.front
-    pub back : Shows v right gap.back
+  pub record RepresentsParts (v : Table E) (left right : H) (gap : Cut) : Type 0 where
+    pub front : Represents v left gap.front
+    pub back : Represents v right gap.back
     pub distinct : IsDistinct (join gap)
 
-  -- it shows some for them
-  abbrev pub ShowsPartsSome : Table E → H → H → Type 0
-  ShowsPartsSome v left right = (gap : Cut) × ShowsParts v left right gap
+  -- it represents some for them
+  abbrev pub RepresentsPartsSome : Table E → H → H → Type 0
+  RepresentsPartsSome v left right = (gap : Cut) × RepresentsParts v left right gap
 
   -- THE PARTS ARE ONE TREE, and nothing but entries of their members is changed
   pub record Appends (v w : Table E) (head : H) (gap : Cut) : Type 0 where
-    pub shows : Shows w head (join gap)
-    pub frame : KeepsBeside v w (join gap)
+    pub shows : Represents w head (join gap)
+    pub frame : ChangesOnlyIn v w (join gap)

@@ -1,17 +1,14 @@
 -- What a tree keeps of its members: its root, and maybe the first and the last of them.
 use Rattle.std.specs.Prelude.{◌≡◌, ℕ, ◌+◌, true, cond, Option, None, Some, List, []}
 use Rattle.std.specs.declared.cmp.Ordering.{Ordering}
-use Rattle.ic_unsafe_ref.specs.declared.place.Place.{Place}
-use Rattle.ic_unsafe_ref.specs.Objects.{Objects}
+use Rattle.ic_link_ops.specs.Prelude.{Place, Objects, Cut, first, last, Table}
 use Rattle.ic_link_ops.specs.declared.side.Side.{Side}
 use Rattle.ic_link_ops.specs.declared.side.Side.TheVariants.{Left, Right}
-use Rattle.ic_link_ops.specs.Sequences.{Cut, first, last}
-use Rattle.ic_link_ops.specs.Tables.{Table}
 use Rattle.ic_link_ops.specs.Walk.{is_end}
-use Rattle.ic_link_ops.specs.RedBlackTree.{Node, Shows, ShowsSome}
-use Rattle.ic_rbtree.specs.Comparing.{HasRoom, FewLooks, Looks, compared}
+use Rattle.ic_link_ops.specs.RedBlackTree.{Node, Represents, RepresentsSome}
+use Rattle.ic_rbtree.specs.Comparing.{HasRoom, WithinComparisonBound, Looks, compared}
 use Rattle.ic_rbtree.specs.Ends.{end_on}
-use Rattle.ic_rbtree.specs.Holes.{behind_there}
+use Rattle.ic_rbtree.specs.Holes.{after_there}
 use Rattle.ic_rbtree.specs.Insertion.{are_across}
 use Rattle.ic_rbtree.specs.Sides.{IsBeside}
 
@@ -51,36 +48,36 @@ IsEmptied (ended h) = h ≡ no_ends
 
 module _ {E : Type 0} (n : E → Node) where
   -- THE TABLE SHOWS s for the tree with this root and these ends: it does for the root, and they are the first and the last of s
-  pub record ShowsWithEnds (t : Table E) (h : RootAndEnds) (s : List Place) : Type 0 where
-    pub shown : Shows n t h.root s
+  pub record RepresentsWithEnds (t : Table E) (h : RootAndEnds) (s : List Place) : Type 0 where
+    pub shown : Represents n t h.root s
     pub front_is : h.front ≡ first s
     pub back_is : h.back ≡ last s
 
   -- THE TABLE SHOWS s for a tree that keeps this
-  abbrev pub ShowsFor : Table E → Kept → List Place → Type 0
-  ShowsFor t (alone root) = Shows n t root
-  ShowsFor t (ended h) = ShowsWithEnds t h
+  abbrev pub RepresentsFor : Table E → Kept → List Place → Type 0
+  RepresentsFor t (alone root) = Represents n t root
+  RepresentsFor t (ended h) = RepresentsWithEnds t h
 
-  -- the end on a side: as it is kept, or the outermost member of what is shown
+  -- the end on a side: as it is kept, or the outermost member of what is represented
   abbrev pub EndIs : Side → Table E → Kept → Option Place → Type 0
-  EndIs d t (alone root) end = (s : List Place) → Shows n t root s → end ≡ end_on d s
+  EndIs d t (alone root) end = (s : List Place) → Represents n t root s → end ≡ end_on d s
   EndIs Left t (ended h) end = end ≡ h.front
   EndIs Right t (ended h) end = end ≡ h.back
 
-  -- to find it the table has to show the tree, unless it is kept
+  -- to find it the table has to represent the tree, unless it is kept
   abbrev pub HasEnds : Table E → Kept → Type 0
-  HasEnds t (alone root) = ShowsSome n t root
+  HasEnds t (alone root) = RepresentsSome n t root
   HasEnds t (ended h) = Unit {0}
 
 -- `kept`: what a tree of this kind keeps
 module _ {H E : Type 0} (kept : H → Kept) (n : E → Node) where
   -- THE TABLE SHOWS s for the tree with this head
-  abbrev pub ShowsKept : Table E → H → List Place → Type 0
-  ShowsKept t head = ShowsFor n t (kept head)
+  abbrev pub RepresentsKept : Table E → H → List Place → Type 0
+  RepresentsKept t head = RepresentsFor n t (kept head)
 
-  -- it shows some sequence
-  abbrev pub ShowsKeptSome : Table E → H → Type 0
-  ShowsKeptSome t head = (s : List Place) × ShowsKept t head s
+  -- it represents some sequence
+  abbrev pub RepresentsKeptSome : Table E → H → Type 0
+  RepresentsKeptSome t head = (s : List Place) × RepresentsKept t head s
 
 -- a gap on this side of a member, or the one gap of a tree with none
 abbrev pub IsBelow : Option Place → Side → Cut → Type 0
@@ -107,8 +104,8 @@ module _ {P V : Type 0} (order : P → V → Ordering) (count : P → ℕ) where
   pub record EndLooks (objects : Objects V) (old new : P) (s : List Place) : Type 0 where
     pub looks : ℕ
     pub counted : count new ≡ count old + looks
-    pub few : FewLooks looks s
-    pub at_last : behind_there (compared (order old) objects) (last s) ≡ true → looks ≡ 1
+    pub few : WithinComparisonBound looks s
+    pub at_last : after_there (compared (order old) objects) (last s) ≡ true → looks ≡ 1
     pub order_is : order new ≡ order old
 
   -- and of one in a tree that keeps this

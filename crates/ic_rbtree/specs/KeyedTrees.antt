@@ -1,16 +1,14 @@
 -- Trees over the table with a number beside each link, the key of its place.
 use Rattle.std.specs.Prelude.{ℕ, Option}
-use Rattle.ic_unsafe_ref.specs.declared.place.Place.{Place}
-use Rattle.ic_unsafe_ref.specs.Objects.{Objects, at_indexes}
+use Rattle.ic_link_ops.specs.Prelude.{Place, Objects, at_indexes, Table}
 use Rattle.ic_link_ops.specs.declared.link.Link.{Link}
 use Rattle.ic_link_ops.specs.declared.rbtree.ThreeWords.{ThreeWords}
 use Rattle.ic_link_ops.specs.declared.table.PlainTable.{PlainTable}
 use Rattle.ic_link_ops.specs.PlainTables.{entries, table_beside, values_beside}
-use Rattle.ic_link_ops.specs.RedBlackTree.{Shows}
-use Rattle.ic_link_ops.specs.Tables.{Table}
+use Rattle.ic_link_ops.specs.RedBlackTree.{Represents}
 use Rattle.ic_link_ops.specs.ThreeWords.{no_words, node_of}
 use Rattle.ic_link_ops.specs.Widths.{wide}
-use Rattle.ic_rbtree.specs.SortedObjects.{ShowsSorted}
+use Rattle.ic_rbtree.specs.SortedObjects.{RepresentsSorted}
 
 module _ {A : Type 0} where
   -- what clauses see of it, and its keys by place
@@ -20,6 +18,6 @@ module _ {A : Type 0} where
   abbrev pub keys_of : PlainTable ThreeWords A ℕ → Objects ℕ
   keys_of links = at_indexes (values_beside (entries links))
 
-  -- it shows a tree in the order of its keys
-  abbrev pub ShowsKeys : PlainTable ThreeWords A ℕ → Option Place → Type 0
-  ShowsKeys links root = ShowsSorted (λ (v : ℕ). v) (Shows node_of (keyed_table links) root) (keys_of links)
+  -- it represents a tree in the order of its keys
+  abbrev pub RepresentsKeys : PlainTable ThreeWords A ℕ → Option Place → Type 0
+  RepresentsKeys links root = RepresentsSorted (λ (v : ℕ). v) (Represents node_of (keyed_table links) root) (keys_of links)

@@ -1,10 +1,8 @@
 -- The members of a tree, as the entries lead through them.
 use Rattle.std.specs.Prelude.{◌≡◌, ◌⊎◌, true, ℕ, zero, suc, cond, Option, Some, None, List, [], ◌∷◌, ◌++◌}
-use Rattle.ic_unsafe_ref.specs.declared.place.Place.{Place}
-use Rattle.ic_link_ops.specs.Sequences.{first, last}
-use Rattle.ic_link_ops.specs.Tables.{Table, IsCovered}
+use Rattle.ic_link_ops.specs.Prelude.{Place, first, last, Table, IsCovered}
 use Rattle.ic_link_ops.specs.Trees.{Tree, leaf, fork, in_order}
-use Rattle.ic_link_ops.specs.RedBlackTree.{Node, Shows}
+use Rattle.ic_link_ops.specs.RedBlackTree.{Node, Represents}
 use Rattle.ic_link_ops.specs.Walk.{is_end}
 
 -- the first of two, unless the second is there
@@ -59,6 +57,6 @@ module _ {E : Type 0} (n : E → Node) where
   pub record IsWalk (t : Table E) (root head tail : Option Place) (w : List Place) : Type 0 where
     pub front : List Place
     pub back : List Place
-    pub shown : Shows n t root (front ++ (w ++ back))
+    pub shown : Represents n t root (front ++ (w ++ back))
     pub starts : head ≡ first w
     pub ends : tail ≡ last w

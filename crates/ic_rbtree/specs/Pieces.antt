@@ -1,9 +1,8 @@
 -- A table in pieces that share no place: members on their own, trees, and what stands around a subtree.
 use Rattle.std.specs.Prelude.{◌≡◌, ℕ, ◌+◌, ◌≤◌, true, Option, List, [], ◌∷◌}
-use Rattle.ic_unsafe_ref.specs.declared.place.Place.{Place}
+use Rattle.ic_link_ops.specs.Prelude.{Place, Table}
 use Rattle.ic_link_ops.specs.declared.color.Color.{Color}
 use Rattle.ic_link_ops.specs.declared.side.Side.{Side}
-use Rattle.ic_link_ops.specs.Tables.{Table}
 use Rattle.ic_link_ops.specs.Trees.{Tree, top, in_order}
 use Rattle.ic_link_ops.specs.Shape.{IsRight}
 use Rattle.ic_link_ops.specs.RedBlackTree.{Node, IsTree}
@@ -53,12 +52,12 @@ module _ {E : Type 0} (n : E → Node) where
     pub extent : v.extent ≡ base.extent
 
   -- the tree t stands below these frames, beside the pieces ps
-  abbrev pub Stands : Table E → Table E → Option Place → List Frame → Tree → List Piece → Type 0
-  Stands base v root fs t ps = Held base v (around root fs (top t) ∷ below (above fs) t ∷ ps)
+  abbrev pub ClimbState : Table E → Table E → Option Place → List Frame → Tree → List Piece → Type 0
+  ClimbState base v root fs t ps = Held base v (around root fs (top t) ∷ below (above fs) t ∷ ps)
 
   -- a tree of the right shape with the in-order list s stands there
-  pub record Shown (base v : Table E) (root : Option Place) (s : List Place) (ps : List Piece) : Type 0 where
+  pub record Represented (base v : Table E) (root : Option Place) (s : List Place) (ps : List Piece) : Type 0 where
     pub tree : Tree
-    pub stands : Stands base v root [] tree ps
+    pub stands : ClimbState base v root [] tree ps
     pub order : in_order tree ≡ s
     pub shape : IsRight tree

@@ -1,16 +1,15 @@
 -- What the steps of a repair after a removal do.
 use Rattle.std.specs.Prelude.{◌≡◌, ◌<◌, Bool, true, false, ◌||◌, ◌⊎◌, Option, Some, None, List, [], ◌∷◌, length}
-use Rattle.ic_unsafe_ref.specs.declared.place.Place.{Place}
+use Rattle.ic_link_ops.specs.Prelude.{Place, Table}
 use Rattle.ic_link_ops.specs.declared.color.Color.{Color}
 use Rattle.ic_link_ops.specs.declared.color.Color.TheVariants.{Red, Black}
 use Rattle.ic_link_ops.specs.declared.side.Side.{Side}
-use Rattle.ic_link_ops.specs.Tables.{Table}
 use Rattle.ic_link_ops.specs.Trees.{Tree, leaf, fork, top, in_order}
 use Rattle.ic_link_ops.specs.Shape.{top_color}
 use Rattle.ic_link_ops.specs.RedBlackTree.{Node}
 use Rattle.ic_link_ops.specs.Frames.{Frame, frame, branch, plug, above}
 use Rattle.ic_rbtree.specs.Height.{turns}
-use Rattle.ic_rbtree.specs.Pieces.{Stands}
+use Rattle.ic_rbtree.specs.Pieces.{ClimbState}
 use Rattle.ic_rbtree.specs.Shortage.{IsShort}
 use Rattle.ic_rbtree.specs.Focus.{Focus, IsInFocus, IsRestored}
 
@@ -52,7 +51,7 @@ module _ {E : Type 0} (n : E → Node) where
 
   -- the same below a member q with the color c and another subtree; the frames are those above q
   pub record ShortAt (v : Table E) (root : Option Place) (q : Place) (d : Side) (c : Color) (sibling : Tree) (k : Focus E) : Type 0 where
-    pub stands : Stands n k.base v root (frame d c q sibling ∷ k.frames) k.subtree k.pieces
+    pub stands : ClimbState n k.base v root (frame d c q sibling ∷ k.frames) k.subtree k.pieces
     pub short : IsShort (frame d c q sibling ∷ k.frames) k.subtree
     pub order : in_order (plug (frame d c q sibling ∷ k.frames) k.subtree) ≡ k.sequence
 

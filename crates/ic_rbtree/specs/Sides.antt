@@ -1,16 +1,14 @@
 -- Gaps and descents by sides: what is said of one side holds of the other, mirrored.
 use Rattle.std.specs.Prelude.{◌≡◌, ◌<◌, Option, Some, None, List}
-use Rattle.ic_unsafe_ref.specs.declared.place.Place.{Place}
+use Rattle.ic_link_ops.specs.Prelude.{Place, Cut, first, last, IsAfter, IsBefore, Table}
 use Rattle.ic_link_ops.specs.declared.color.Color.{Color}
 use Rattle.ic_link_ops.specs.declared.side.Side.{Side}
 use Rattle.ic_link_ops.specs.declared.side.Side.TheVariants.{Left, Right}
-use Rattle.ic_link_ops.specs.Sequences.{Cut, first, last, IsAfter, IsBefore}
-use Rattle.ic_link_ops.specs.Tables.{Table}
 use Rattle.ic_link_ops.specs.Trees.{Tree, leaf, top, in_order}
 use Rattle.ic_link_ops.specs.RedBlackTree.{Node}
 use Rattle.ic_link_ops.specs.Frames.{Frame, across, child_on, branch, plug, before, after}
 use Rattle.ic_rbtree.specs.Height.{height, turns}
-use Rattle.ic_rbtree.specs.Pieces.{Piece, Stands}
+use Rattle.ic_rbtree.specs.Pieces.{Piece, ClimbState}
 
 -- the gap is beside the position: after it on the right, before it on the left
 abbrev pub IsBeside : Side → Cut → Option Place → Type 0
@@ -29,8 +27,8 @@ nearest Right s = first s
 
 module _ {E : Type 0} (n : E → Node) where
   -- p is the root of a subtree of a tree in the table
-  abbrev pub StandsAt : Table E → Place → Type 0
-  StandsAt v p = (base : Table E) × (root : Option Place) × (fs : List Frame) × (t : Tree) × (ps : List Piece) × Stands n base v root fs t ps × (top t ≡ Some p)
+  abbrev pub IsInTree : Table E → Place → Type 0
+  IsInTree v p = (base : Table E) × (root : Option Place) × (fs : List Frame) × (t : Tree) × (ps : List Piece) × ClimbState n base v root fs t ps × (top t ≡ Some p)
 
   -- y is the member of the subtree t below the frames fs that stands outermost on this side
   pub record IsEnd (v : Table E) (d : Side) (y : Place) (fs : List Frame) (t : Tree) : Type 0 where
@@ -45,21 +43,21 @@ module _ {E : Type 0} (n : E → Node) where
   -- y is the member at or below p that stands outermost on this side
   abbrev pub IsOutermost : Table E → Place → Side → Place → Type 0
   IsOutermost v p d y =
-      (base : Table E) (root : Option Place) (fs : List Frame) (t : Tree) (ps : List Piece) → Stands n base v root fs t ps → top t ≡ Some p → IsEnd v d y fs t
+      (base : Table E) (root : Option Place) (fs : List Frame) (t : Tree) (ps : List Piece) → ClimbState n base v root fs t ps → top t ≡ Some p → IsEnd v d y fs t
 
   -- the result is the member nearest to what stands at p and below, on this side of it, none if there is none
   abbrev pub IsNearestAbove : Table E → Place → Side → Option Place → Type 0
   IsNearestAbove v p d result =
-      (base : Table E) (root : Option Place) (fs : List Frame) (t : Tree) (ps : List Piece) → Stands n base v root fs t ps → top t ≡ Some p
+      (base : Table E) (root : Option Place) (fs : List Frame) (t : Tree) (ps : List Piece) → ClimbState n base v root fs t ps → top t ≡ Some p
       → result ≡ nearest d (beyond d fs)
 
   -- both, in a tree that is not too high: what so many turns find
   abbrev pub IsOutermostWithin : Table E → Place → Side → Place → Type 0
   IsOutermostWithin v p d y =
-      (base : Table E) (root : Option Place) (fs : List Frame) (t : Tree) (ps : List Piece) → Stands n base v root fs t ps → top t ≡ Some p
+      (base : Table E) (root : Option Place) (fs : List Frame) (t : Tree) (ps : List Piece) → ClimbState n base v root fs t ps → top t ≡ Some p
       → height (plug fs t) < turns → IsEnd v d y fs t
 
   abbrev pub IsNearestAboveWithin : Table E → Place → Side → Option Place → Type 0
   IsNearestAboveWithin v p d result =
-      (base : Table E) (root : Option Place) (fs : List Frame) (t : Tree) (ps : List Piece) → Stands n base v root fs t ps → top t ≡ Some p
+      (base : Table E) (root : Option Place) (fs : List Frame) (t : Tree) (ps : List Piece) → ClimbState n base v root fs t ps → top t ≡ Some p
       → height (plug fs t) < turns → result ≡ nearest d (beyond d fs)

@@ -2,9 +2,7 @@
 use Rattle.std.specs.Prelude.{ℕ, Option, None, Some, List, map}
 use Rattle.std.specs.Ordering.{nat_cmp}
 use Rattle.std.specs.declared.cmp.Ordering.{Ordering}
-use Rattle.ic_unsafe_ref.specs.declared.place.Place.{Place}
-use Rattle.ic_unsafe_ref.specs.Objects.{Objects, object_at}
-use Rattle.ic_link_ops.specs.PlacedObjects.{ShowsPlaced}
+use Rattle.ic_link_ops.specs.Prelude.{Place, Objects, object_at, RepresentsPlaced}
 use Rattle.ic_rbtree.specs.Borders.{IsSorted}
 use Rattle.ic_rbtree.specs.Comparing.{compared, own_order}
 
@@ -25,11 +23,11 @@ module _ {T : Type 0} (key : T → ℕ) where
   abbrev pub against : Objects T → Place → Place → Ordering
   against objects p = compared (own_order nat_cmp key objects p) objects
 
-  -- a sequence is shown, an object stands at each of its members, and from one to the next their keys never fall
-  pub record ShowsSorted (shows : List Place → Type 0) (objects : Objects T) : Type 0 where
-    pub placed : ShowsPlaced shows objects
+  -- a sequence is represented, an object stands at each of its members, and from one to the next their keys never fall
+  pub record RepresentsSorted (shows : List Place → Type 0) (objects : Objects T) : Type 0 where
+    pub placed : RepresentsPlaced shows objects
     pub sorted : IsSorted nat_cmp (keys_at objects placed.members)
 
   -- whatever objects there are: where they stood in the order of their keys, they do
   abbrev pub StaysSorted : (List Place → Type 0) → (List Place → Type 0) → Type 0
-  StaysSorted old new = (objects : Objects T) → ShowsSorted old objects → ShowsSorted new objects
+  StaysSorted old new = (objects : Objects T) → RepresentsSorted old objects → RepresentsSorted new objects

@@ -3,23 +3,19 @@ use Rattle.std.specs.Prelude.{◌≡◌, Bool, true, List, ◌∷◌, ◌++◌, 
 use Rattle.std.specs.List.{AllByRecursion}
 use Rattle.std.specs.Ordering.{is_lt}
 use Rattle.std.specs.declared.cmp.Ordering.{Ordering}
-use Rattle.ic_unsafe_ref.specs.declared.place.Place.{Place}
-use Rattle.ic_unsafe_ref.specs.Objects.{Objects}
-use Rattle.ic_link_ops.specs.PlacedObjects.{StandAt}
-use Rattle.ic_link_ops.specs.Sequences.{IsAbsent}
-use Rattle.ic_link_ops.specs.Tables.{Table, IsUnlinked}
+use Rattle.ic_link_ops.specs.Prelude.{Place, Objects, IsAbsent, Table, IsUnlinked, StandAt}
 use Rattle.ic_rbtree.specs.Borders.{IsSorted}
 
 module _ {V K : Type 0} (cmp : K → K → Ordering) (key_of : V → K) where
   -- THE TABLE HAS ONE TREE, with these values: they stand at its members, their keys never fall, and nothing else is linked
-  pub record HasSorted {E H : Type 0} (Shows : Table E → H → List Place → Type 0) (linked : E → Bool) (t : Table E) (root : H) (objects : Objects V) (values : List V) : Type 0 where
+  pub record HasSorted {E H : Type 0} (Represents : Table E → H → List Place → Type 0) (linked : E → Bool) (t : Table E) (root : H) (objects : Objects V) (values : List V) : Type 0 where
     pub members : List Place
-    pub shown : Shows t root members
+    pub shown : Represents t root members
     pub stand : StandAt objects members values
     pub sorted : IsSorted cmp (map key_of values)
     pub only : (p : Place) → IsAbsent p members → IsUnlinked linked t p
 
-  -- ONE VALUE MORE, in front of exactly those whose key is greater
+  -- ONE VALUE MORE, before exactly those whose key is greater
   pub record InsertsValue (old : List V) (value : V) (new : List V) : Type 0 where
     pub front : List V
     pub back : List V

@@ -1,20 +1,18 @@
 -- What the writers of children and parents do.
 use Rattle.std.specs.Prelude.{◌≡◌, Option, Some, List, ◌∷◌}
-use Rattle.ic_unsafe_ref.specs.declared.place.Place.{Place}
+use Rattle.ic_link_ops.specs.Prelude.{Place, Table, LinkStep}
 use Rattle.ic_link_ops.specs.declared.color.Color.{Color}
 use Rattle.ic_link_ops.specs.declared.side.Side.{Side}
 use Rattle.ic_link_ops.specs.declared.side.Side.TheVariants.{Left, Right}
-use Rattle.ic_link_ops.specs.Tables.{Table}
 use Rattle.ic_link_ops.specs.Trees.{Tree, top}
-use Rattle.ic_link_ops.specs.LinkSteps.{LinkStep}
 use Rattle.ic_link_ops.specs.RedBlackTree.{Node}
 use Rattle.ic_link_ops.specs.Frames.{Frame, branch, above}
 use Rattle.ic_link_ops.specs.Times.{times_around}
-use Rattle.ic_rbtree.specs.Pieces.{Piece, below, around, Held, Stands}
+use Rattle.ic_rbtree.specs.Pieces.{Piece, below, around, Held, ClimbState}
 
 -- whatever steps led to the old state lead to the new one: no step was taken in between
-abbrev pub TakesNoStep : {L : Type 0} → (L → L → List LinkStep → Type 0) → L → L → Type 0
-TakesNoStep {L} Does old new = (start : L) (s : List LinkStep) → Does start old s → Does start new s
+abbrev pub TraceStays : {L : Type 0} → (L → L → List LinkStep → Type 0) → L → L → Type 0
+TraceStays {L} Trace old new = (start : L) (s : List LinkStep) → Trace start old s → Trace start new s
 
 -- what a rotation of a member moves: its color and its near subtree, its far child `upper` and that one's color, and the subtrees of `upper`
 pub record Turn : Type 0 where
@@ -53,5 +51,5 @@ module _ {E : Type 0} (n : E → Node) where
   -- the place goes down on this side, `upper`, its child on the other side, comes up, and they get these colors
   abbrev pub Rotates : Table E → Table E → Option Place → Option Place → Place → Place → Side → Color → Color → Type 0
   Rotates v w old_root new_root p upper d low high =
-      (base : Table E) (fs : List Frame) (x : Turn) (ps : List Piece) → x.upper ≡ upper → Stands n base v old_root fs (unturned d p x) ps
-      → Stands n base w new_root fs (turned d p (record x { color = low; upper_color = high })) ps
+      (base : Table E) (fs : List Frame) (x : Turn) (ps : List Piece) → x.upper ≡ upper → ClimbState n base v old_root fs (unturned d p x) ps
+      → ClimbState n base w new_root fs (turned d p (record x { color = low; upper_color = high })) ps

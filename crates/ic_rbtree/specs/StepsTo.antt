@@ -1,9 +1,8 @@
 -- Where a step leads, on any links.
 use Rattle.std.specs.Prelude.{◌≡◌, ◌⊎◌, List, [], ◌∷◌, Option, Some, None}
-use Rattle.ic_unsafe_ref.specs.declared.place.Place.{Place}
+use Rattle.ic_link_ops.specs.Prelude.{Place, Table}
 use Rattle.ic_link_ops.specs.Frames.{across, child_on}
 use Rattle.ic_link_ops.specs.RedBlackTree.{Node, node_at}
-use Rattle.ic_link_ops.specs.Tables.{Table}
 use Rattle.ic_link_ops.specs.declared.side.Side.{Side}
 
 module _ {E : Type 0} (n : E → Node) (v : Table E) (side : Side) where

@@ -1,16 +1,15 @@
 -- What it is to take a member out, and to put a place in place of a member.
 use Rattle.std.specs.Prelude.{◌≡◌, ◌+◌, ◌<◌, ◌⊎◌, Option, Some, None, List, ◌∷◌, ◌++◌, length}
-use Rattle.ic_unsafe_ref.specs.declared.place.Place.{Place}
+use Rattle.ic_link_ops.specs.Prelude.{Place, Table}
 use Rattle.ic_link_ops.specs.declared.color.Color.{Color}
 use Rattle.ic_link_ops.specs.declared.color.Color.TheVariants.{Red, Black}
 use Rattle.ic_link_ops.specs.declared.side.Side.{Side}
-use Rattle.ic_link_ops.specs.Tables.{Table}
 use Rattle.ic_link_ops.specs.Trees.{Tree, leaf, fork, top, in_order}
 use Rattle.ic_link_ops.specs.Shape.{top_color, weight, blacks, IsEven, NoRedPair, IsRight}
 use Rattle.ic_link_ops.specs.RedBlackTree.{Node}
 use Rattle.ic_link_ops.specs.Frames.{Frame, plug, above, before, after}
 use Rattle.ic_rbtree.specs.Height.{turns}
-use Rattle.ic_rbtree.specs.Pieces.{Piece, below, around, loose, Held, Stands, Shown}
+use Rattle.ic_rbtree.specs.Pieces.{Piece, below, around, loose, Held, ClimbState, Represented}
 use Rattle.ic_rbtree.specs.Focus.{Focus, IsRestored}
 use Rattle.ic_rbtree.specs.Shortage.{EvenAround, PairsAround}
 use Rattle.ic_rbtree.specs.Removal.{IsOn}
@@ -67,14 +66,14 @@ module _ {E : Type 0} (n : E → Node) where
   -- a member with one child at most is spliced out: the tree is right without it, and it is on its own
   abbrev pub SplicesOut : Table E → Table E → Option Place → Option Place → Place → Type 0
   SplicesOut v w root new_root p =
-      (base : Table E) (fs : List Frame) (x : Parts) (ps : List Piece) → Stands n base v root fs (member p x) ps → IsLone x.left x.right → IsRight (plug fs (member p x))
-      → Shown n base w new_root (before fs ++ (in_order (only x.left x.right) ++ after fs)) (loose p ∷ ps)
+      (base : Table E) (fs : List Frame) (x : Parts) (ps : List Piece) → ClimbState n base v root fs (member p x) ps → IsLone x.left x.right → IsRight (plug fs (member p x))
+      → Represented n base w new_root (before fs ++ (in_order (only x.left x.right) ++ after fs)) (loose p ∷ ps)
 
   -- IN PLACE OF a member stands `new`, in its color, and the member is on its own
   abbrev pub TakesPlace : Table E → Table E → Option Place → Option Place → Place → Place → Type 0
   TakesPlace v w root new_root p new =
       (base : Table E) (fs : List Frame) (x : Parts) (ps : List Piece)
-      → Stands n base v root fs (member p x) (loose new ∷ ps) → Stands n base w new_root fs (member new x) (loose p ∷ ps)
+      → ClimbState n base v root fs (member p x) (loose new ∷ ps) → ClimbState n base w new_root fs (member new x) (loose p ∷ ps)
 
 -- the second of two, if both are there
 abbrev pub both_of : Option Place → Option Place → Option Place
@@ -86,4 +85,4 @@ module _ {E : Type 0} (n : E → Node) where
   abbrev pub TakesAway : Table E → Table E → Option Place → Option Place → Place → Type 0
   TakesAway v w root new_root p =
       (base : Table E) (front : List Place) (back : List Place) (ps : List Piece)
-      → Shown n base v root (front ++ p ∷ back) ps → Shown n base w new_root (front ++ back) (loose p ∷ ps)
+      → Represented n base v root (front ++ p ∷ back) ps → Represented n base w new_root (front ++ back) (loose p ∷ ps)

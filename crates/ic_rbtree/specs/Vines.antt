@@ -1,13 +1,11 @@
 -- A vine, a tree without left children: linked places, of which each is the right child of the one before. What else they read doesn't count.
 use Rattle.std.specs.Prelude.{◌≡◌, ℕ, ◌+◌, ◌^◌, ◌≤◌, length, Option, None, List}
-use Rattle.ic_unsafe_ref.specs.declared.place.Place.{Place}
+use Rattle.ic_link_ops.specs.Prelude.{Place, IsDistinct, first_or, Table, ChangesOnlyIn}
 use Rattle.ic_link_ops.specs.declared.color.Color.TheVariants.{Black}
-use Rattle.ic_link_ops.specs.Chains.{Ends, IsChain, ShowsBetween}
-use Rattle.ic_link_ops.specs.Sequences.{IsDistinct, first_or}
+use Rattle.ic_link_ops.specs.Chains.{Ends, IsChain, RepresentsBetween}
 use Rattle.ic_link_ops.specs.Shape.{top_color, blacks, IsEven, NoRedPair}
 use Rattle.ic_link_ops.specs.SinglyLinkedList.{Successor, IsFollowed}
 use Rattle.ic_link_ops.specs.RedBlackTree.{Node, IsTree}
-use Rattle.ic_link_ops.specs.Tables.{Table, KeepsBeside}
 use Rattle.ic_link_ops.specs.Trees.{Tree, top, in_order}
 use Rattle.ic_rbtree.specs.Height.{IsLowest}
 
@@ -20,15 +18,16 @@ module _ {E : Type 0} (n : E → Node) where
   abbrev pub IsVine : (Place → E) → List Place → Option Place → Type 0
   IsVine entry s behind = IsChain (IsFollowed along) entry None s behind
 
-  -- THE TABLE SHOWS s for the vine with these ends: s is a vine of distinct places, its last member has no right child, and the ends are the first and the last of s
-  abbrev pub ShowsVine : Table E → Ends → List Place → Type 0
-  ShowsVine = ShowsBetween (IsFollowed along)
+  -- THE TABLE SHOWS s for the vine with these ends: s is a vine of distinct places, its last member has no right child, and the ends are the first
+  -- and the last of s
+  abbrev pub RepresentsVine : Table E → Ends → List Place → Type 0
+  RepresentsVine = RepresentsBetween (IsFollowed along)
 
-  -- the table shows a sequence for the vine
-  abbrev pub ShowsVineSome : Table E → Ends → Type 0
-  ShowsVineSome v ends = (s : List Place) × ShowsVine v ends s
+  -- the table represents a sequence for the vine
+  abbrev pub RepresentsVineSome : Table E → Ends → Type 0
+  RepresentsVineSome v ends = (s : List Place) × RepresentsVine v ends s
 
-  -- A VINE OF SO MANY MEMBERS, from `first` on to the one in front of `behind`: as many as a tree may have with this black height
+  -- A VINE OF SO MANY MEMBERS, from `first` on to the one before `behind`: as many as a tree may have with this black height
   pub record IsVineOf (v : Table E) (first : Option Place) (count height : ℕ) (s : List Place) (behind : Option Place) : Type 0 where
     pub vine : IsVine v.entry s behind
     pub distinct : IsDistinct s
@@ -49,7 +48,7 @@ module _ {E : Type 0} (n : E → Node) where
     pub no_red_pair : NoRedPair tree
     pub black_root : 1 ≤ height → top_color tree ≡ Black
     pub lowest : IsLowest tree
-    pub frame : KeepsBeside v w s
+    pub frame : ChangesOnlyIn v w s
 
   -- A TREE of distinct places, whatever its colors: its root is this one, below this parent
   pub record IsTreeOf (v : Table E) (root up : Option Place) (t : Tree) : Type 0 where
@@ -57,15 +56,15 @@ module _ {E : Type 0} (n : E → Node) where
     pub distinct : IsDistinct (in_order t)
     pub root_is : root ≡ top t
 
-  -- ITS MEMBERS BECOME A VINE in front of `behind`, and no entry but theirs is changed
+  -- ITS MEMBERS BECOME A VINE before `behind`, and no entry but theirs is changed
   pub record BecomesVine (v w : Table E) (first : Option Place) (s : List Place) (behind : Option Place) : Type 0 where
     pub vine : IsVine w.entry s behind
     pub first_is : first ≡ first_or s behind
-    pub frame : KeepsBeside v w s
+    pub frame : ChangesOnlyIn v w s
 
--- `Shows t head s`: the table shows s for the collection with this head
-module _ {E H : Type 0} (Shows : Table E → H → List Place → Type 0) where
+-- `Represents t head s`: the table represents s for the collection with this head
+module _ {E H : Type 0} (Represents : Table E → H → List Place → Type 0) where
   -- THE MEMBERS ARE ARRANGED ANEW, for this head: they are s as before, and no entry but theirs is changed
   pub record Rearranges (v w : Table E) (head : H) (s : List Place) : Type 0 where
-    pub shows : Shows w head s
-    pub frame : KeepsBeside v w s
+    pub shows : Represents w head s
+    pub frame : ChangesOnlyIn v w s

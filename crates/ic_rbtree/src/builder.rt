@@ -2,29 +2,26 @@
 //!
 //! ```text
 //! let mut builder = RBTreeBuilder::new(ByDeadline);
-//! builder.push_back(&mut links, object)?; // each behind those before it, O(1)
+//! builder.push_back(&mut links, object)?; // each after those before it, O(1)
 //! let tree = builder.build(&mut links);   // O(n), and no look at a key
 //! let builder = tree.into_builder(&mut links);
 //! ```
 
 ghost use Rattle.std.specs.Prelude.{◌≡◌, Some, None, OnOk, OnErr, IfErr, IfSome, IfNone, List, [], ◌∷◌};
-ghost use Rattle.ic_unsafe_ref.specs.declared.place.Place.{Place};
+ghost use Rattle.ic_link_ops.specs.Prelude.{Place, first, at_front, at_back, IsCovered, acquires, releases};
 ghost use Rattle.ic_link_ops.specs.Chains.{no_members, list_head};
 ghost use Rattle.ic_link_ops.specs.Edits.{Inserts, Removes};
-ghost use Rattle.ic_link_ops.specs.LinkSteps.{acquires, releases};
-ghost use Rattle.ic_link_ops.specs.RedBlackTree.{Shows, ShowsSome};
-ghost use Rattle.ic_link_ops.specs.Sequences.{first, at_front, at_back};
-ghost use Rattle.ic_link_ops.specs.Tables.{IsCovered};
+ghost use Rattle.ic_link_ops.specs.RedBlackTree.{Represents, RepresentsSome};
 ghost use Rattle.ic_rbtree.specs.Builder.{ends_of, builder_adapter_of};
 ghost use Rattle.ic_rbtree.specs.Height.{IsLowest};
 ghost use Rattle.ic_rbtree.specs.Tree.{root_in, root_of, adapter_of};
-ghost use Rattle.ic_rbtree.specs.Vines.{ShowsVine, ShowsVineSome, Rearranges};
+ghost use Rattle.ic_rbtree.specs.Vines.{RepresentsVine, RepresentsVineSome, Rearranges};
 
 use crate::head::TreeHead;
-use crate::nodes::Nodes;
+use crate::nodes::NodeStore;
 use crate::readings::child;
 use crate::repair::TURNS;
-use crate::vine::{end_beyond, hang_behind, tree_to_vine, vine_length, vine_to_tree};
+use crate::vine::{end_beyond, hang_after, tree_to_vine, vine_length, vine_to_tree};
 use crate::{KeyAdapter, RBTree};
 use ic_link_ops::rbtree::RBTreeOps;
 use ic_link_ops::{AlreadyLinked, LinkOps, PlaceWord, Side};
@@ -92,15 +89,15 @@ impl<A> RBTreeBuilder<A> {
 
     /// The tree of all members in their order, with the builder's adapter. It is as low as a tree of so many members can be.
     ///
-    /// It requires that the table shows the members, as it does after [`new`](Self::new) and each [`push_back`](Self::push_back). No
+    /// It requires that the table represents the members, as it does after [`new`](Self::new) and each [`push_back`](Self::push_back). No
     /// link is acquired or released, and a collection that shares no member with the builder stays as it was. It reads no key and takes no
     /// memory. O(n).
-    pub fn build<N: Nodes>(self, nodes: &mut N) -> RBTree<A>
-        requires shown { ShowsVineSome N.node (N.table nodes.old) (ends_of self) }
-        ensures built { (s : List Place) → ShowsVine N.node (N.table nodes.old) (ends_of self) s
-            → Rearranges (Shows N.node) (N.table nodes.old) (N.table nodes.new) (root_of result) s }
-        ensures lowest { (s : List Place) (h : Shows N.node (N.table nodes.new) (root_of result) s) → IsLowest h.tree }
-        ensures quiet { N.Quiet nodes.old nodes.new }
+    pub fn build<N: NodeStore>(self, nodes: &mut N) -> RBTree<A>
+        requires shown { RepresentsVineSome N.node (N.table nodes.old) (ends_of self) }
+        ensures built { (s : List Place) → RepresentsVine N.node (N.table nodes.old) (ends_of self) s
+            → Rearranges (Represents N.node) (N.table nodes.old) (N.table nodes.new) (root_of result) s }
+        ensures lowest { (s : List Place) (h : Represents N.node (N.table nodes.new) (root_of result) s) → IsLowest h.tree }
+        ensures keeps_links { N.KeepsLinks nodes.old nodes.new }
         ensures adapter { adapter_of result ≡ builder_adapter_of self }
     {
         let RBTreeBuilder {
@@ -116,7 +113,7 @@ impl<A> RBTreeBuilder<A> {
 }
 
 impl<A: KeyAdapter> RBTreeBuilder<A> {
-    /// Puts the object behind all members, unless its link is refused.
+    /// Puts the object after all members, unless its link is refused.
     ///
     /// It requires that the object's place is covered. A refused object comes back, and the builder and all links are as they were.
     /// O(1).
@@ -126,10 +123,10 @@ impl<A: KeyAdapter> RBTreeBuilder<A> {
         object: UnsafeRef<A::Value>,
     ) -> Result<(), AlreadyLinked<A::Value>>
         requires covered { IsCovered (L.table links.old) object }
-        requires shown { ShowsVineSome L.node (L.table links.old) (ends_of self.old) }
-        ensures inserted { (s : List Place) → ShowsVine L.node (L.table links.old) (ends_of self.old) s → OnOk result
-            (Inserts (ShowsVine L.node) (L.table links.old) (L.table links.new) (ends_of self.new) (at_back s) object) }
-        ensures acquired { OnOk result (L.Does links.old links.new (acquires object ∷ [])) }
+        requires shown { RepresentsVineSome L.node (L.table links.old) (ends_of self.old) }
+        ensures inserted { (s : List Place) → RepresentsVine L.node (L.table links.old) (ends_of self.old) s → OnOk result
+            (Inserts (RepresentsVine L.node) (L.table links.old) (L.table links.new) (ends_of self.new) (at_back s) object) }
+        ensures acquired { OnOk result (L.Trace links.old links.new (acquires object ∷ [])) }
         ensures adapter { builder_adapter_of self.new ≡ builder_adapter_of self.old }
         ensures refused { OnErr result (L.Refused links.old links.new object) }
         ensures unchanged { IfErr result (λ refused. (refused.0 ≡ object) × (self.new ≡ self.old)) }
@@ -138,20 +135,20 @@ impl<A: KeyAdapter> RBTreeBuilder<A> {
         if !links.acquire_link(place) {
             return Err(AlreadyLinked(object));
         }
-        hang_behind(links, &mut self.front, self.back.get(), place);
+        hang_after(links, &mut self.front, self.back.get(), place);
         self.back = PlaceWord::of(Some(place));
         Ok(())
     }
 
     /// Takes the object at the front off the vine and returns it, or `None` if the builder has no members.
     ///
-    /// It requires that the table shows the members, of which the others stay in their order. It looks at no key. O(1).
+    /// It requires that the table represents the members, of which the others stay in their order. It looks at no key. O(1).
     pub fn pop_front<L: RBTreeOps>(&mut self, links: &mut L) -> Option<UnsafeRef<A::Value>>
-        requires shown { ShowsVineSome L.node (L.table links.old) (ends_of self.old) }
-        ensures answer { (s : List Place) → ShowsVine L.node (L.table links.old) (ends_of self.old) s → result ≡ first s }
-        ensures removed { (s : List Place) → ShowsVine L.node (L.table links.old) (ends_of self.old) s
-            → Removes (ShowsVine L.node) (L.table links.old) (L.table links.new) (ends_of self.new) (at_front s) }
-        ensures released { IfSome result (λ object. L.Does links.old links.new (releases object ∷ [])) }
+        requires shown { RepresentsVineSome L.node (L.table links.old) (ends_of self.old) }
+        ensures answer { (s : List Place) → RepresentsVine L.node (L.table links.old) (ends_of self.old) s → result ≡ first s }
+        ensures removed { (s : List Place) → RepresentsVine L.node (L.table links.old) (ends_of self.old) s
+            → Removes (RepresentsVine L.node) (L.table links.old) (L.table links.new) (ends_of self.new) (at_front s) }
+        ensures released { IfSome result (λ object. L.Trace links.old links.new (releases object ∷ [])) }
         ensures empty { IfNone result ((self.new ≡ self.old) × (links.new ≡ links.old)) }
         ensures adapter { builder_adapter_of self.new ≡ builder_adapter_of self.old }
     {
@@ -166,16 +163,16 @@ impl<A: KeyAdapter> RBTreeBuilder<A> {
 }
 
 impl<A: Copy, E: TreeHead> RBTree<A, E> {
-    /// A builder that has all members of this tree in their order, and its adapter: to put more behind them, or to build the tree anew,
+    /// A builder that has all members of this tree in their order, and its adapter: to put more after them, or to build the tree anew,
     /// as low as can be.
     ///
-    /// It requires that the table shows the members. No link is acquired or released, and a collection that shares no member with the tree
+    /// It requires that the table represents the members. No link is acquired or released, and a collection that shares no member with the tree
     /// stays as it was. It reads no key and takes no memory. O(n).
-    pub fn into_builder<N: Nodes>(self, nodes: &mut N) -> RBTreeBuilder<A>
-        requires shown { ShowsSome N.node (N.table nodes.old) (root_in E.kept self) }
-        ensures taken_apart { (s : List Place) → Shows N.node (N.table nodes.old) (root_in E.kept self) s
-            → Rearranges (ShowsVine N.node) (N.table nodes.old) (N.table nodes.new) (ends_of result) s }
-        ensures quiet { N.Quiet nodes.old nodes.new }
+    pub fn into_builder<N: NodeStore>(self, nodes: &mut N) -> RBTreeBuilder<A>
+        requires shown { RepresentsSome N.node (N.table nodes.old) (root_in E.kept self) }
+        ensures taken_apart { (s : List Place) → Represents N.node (N.table nodes.old) (root_in E.kept self) s
+            → Rearranges (RepresentsVine N.node) (N.table nodes.old) (N.table nodes.new) (ends_of result) s }
+        ensures keeps_links { N.KeepsLinks nodes.old nodes.new }
         ensures adapter { builder_adapter_of result ≡ adapter_of self }
     {
         let last = self.step(&*nodes, None, Side::Left);

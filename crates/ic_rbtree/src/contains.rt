@@ -5,11 +5,9 @@
 //! ```
 
 ghost use Rattle.std.specs.Prelude.{◌≡◌, ◌↔◌, ◌⊎◌, IsTrue, Some, List};
-ghost use Rattle.ic_unsafe_ref.specs.declared.place.Place.{Place};
-ghost use Rattle.ic_link_ops.specs.Sequences.{IsMember};
+ghost use Rattle.ic_link_ops.specs.Prelude.{Place, IsMember, IsCovered};
 ghost use Rattle.ic_link_ops.specs.PlainTables.{table_beside};
-ghost use Rattle.ic_link_ops.specs.RedBlackTree.{Shows, ShowsSome};
-ghost use Rattle.ic_link_ops.specs.Tables.{IsCovered};
+ghost use Rattle.ic_link_ops.specs.RedBlackTree.{Represents, RepresentsSome};
 ghost use Rattle.ic_rbtree.specs.Members.{HasChild};
 ghost use Rattle.ic_rbtree.specs.PlainTrees.{node_by};
 ghost use Rattle.ic_rbtree.specs.Tree.{root_in};
@@ -32,7 +30,7 @@ fn has_child<W: NodeWords, M: Allocator, V: LinkValue>(
     parent: Place,
     place: Place,
 ) -> bool
-    ensures { IsTrue result ↔ HasChild (node_by W.node) (table_beside W.width W.unlinked V.initial V.told links.now) parent place }
+    ensures { IsTrue result ↔ HasChild (node_by W.node) (table_beside W.width W.unlinked V.initial V.printed links.now) parent place }
 {
     if parent.index() >= links.covers() || !links.is_linked(parent) {
         return false;
@@ -50,9 +48,9 @@ impl<A: KeyAdapter, E: TreeHead> RBTree<A, E> {
         links: &PlainTable<W, M, V>,
         place: Place,
     ) -> bool
-        requires covered { IsCovered (table_beside W.width W.unlinked V.initial V.told links.now) place }
-        requires shown { ShowsSome (node_by W.node) (table_beside W.width W.unlinked V.initial V.told links.now) (root_in E.kept self.now) }
-        ensures { (s : List Place) → Shows (node_by W.node) (table_beside W.width W.unlinked V.initial V.told links.now) (root_in E.kept self.now) s
+        requires covered { IsCovered (table_beside W.width W.unlinked V.initial V.printed links.now) place }
+        requires shown { RepresentsSome (node_by W.node) (table_beside W.width W.unlinked V.initial V.printed links.now) (root_in E.kept self.now) }
+        ensures { (s : List Place) → Represents (node_by W.node) (table_beside W.width W.unlinked V.initial V.printed links.now) (root_in E.kept self.now) s
             → IsTrue result ↔ IsMember place s }
     {
         if !links.is_linked(place) {

@@ -14,8 +14,8 @@
 
 ghost use Rattle.std.specs.Prelude.{◌≡◌, Some, None};
 ghost use Rattle.ic_link_ops.specs.declared.side.Side.TheVariants.{Left, Right};
-ghost use Rattle.ic_link_ops.specs.Positions.{Stands, HasMember};
-ghost use Rattle.ic_rbtree.specs.Kept.{ShowsKept, EndIs, HasEnds};
+ghost use Rattle.ic_link_ops.specs.Positions.{IsValidCursor, HasMember};
+ghost use Rattle.ic_rbtree.specs.Kept.{RepresentsKept, EndIs, HasEnds};
 ghost use Rattle.ic_rbtree.specs.Tree.{head_of};
 
 use crate::head::{Root, TreeHead};
@@ -49,18 +49,18 @@ impl<A: KeyAdapter, E: TreeHead> RBTree<A, E> {
         links: &'a L,
         object: UnsafeRef<A::Value>,
     ) -> Cursor<'a, A, L, E>
-        requires member { HasMember (ShowsKept E.kept L.node (L.table links.now) (head_of self.now)) object }
+        requires member { HasMember (RepresentsKept E.kept L.node (L.table links.now) (head_of self.now)) object }
         ensures tree { tree_of result ≡ self.now }
         ensures links { links_of result ≡ links.now }
         ensures position { position result ≡ Some object }
-        ensures stands { Stands (ShowsKept E.kept L.node) L.table (site_of result) }
+        ensures stands { IsValidCursor (RepresentsKept E.kept L.node) L.table (site_of result) }
     {
         Cursor::new(self, links, PlaceWord::of(Some(object.place())))
     }
 
     /// A cursor on the first member, null in an empty tree. O(log n), and O(1) where it is kept.
     ///
-    /// It requires that the tree is shown, unless it keeps its ends.
+    /// It requires that the tree is represented, unless it keeps its ends.
     #[inline]
     pub fn front<'a, L: RBTreeOps>(&'a self, links: &'a L) -> Cursor<'a, A, L, E>
         requires shown { HasEnds L.node (L.table links.now) (E.kept (head_of self.now)) }
@@ -73,7 +73,7 @@ impl<A: KeyAdapter, E: TreeHead> RBTree<A, E> {
 
     /// A cursor on the last member, null in an empty tree. O(log n), and O(1) where it is kept.
     ///
-    /// It requires that the tree is shown, unless it keeps its ends.
+    /// It requires that the tree is represented, unless it keeps its ends.
     #[inline]
     pub fn back<'a, L: RBTreeOps>(&'a self, links: &'a L) -> Cursor<'a, A, L, E>
         requires shown { HasEnds L.node (L.table links.now) (E.kept (head_of self.now)) }
@@ -109,10 +109,10 @@ impl<A: KeyAdapter, E: TreeHead> RBTree<A, E> {
         links: &'a mut L,
         object: UnsafeRef<A::Value>,
     ) -> CursorMut<'a, A, L, E>
-        requires member { HasMember (ShowsKept E.kept L.node (L.table links.old) (head_of self.old)) object }
+        requires member { HasMember (RepresentsKept E.kept L.node (L.table links.old) (head_of self.old)) object }
         ensures borrows { IsBorrowed self.entry links.entry result }
         ensures position { position result ≡ Some object }
-        ensures stands { Stands (ShowsKept E.kept L.node) L.table (site_of result) }
+        ensures stands { IsValidCursor (RepresentsKept E.kept L.node) L.table (site_of result) }
     {
         let current = PlaceWord::of(Some(object.place()));
         CursorMut::new(self, links, current)
@@ -120,7 +120,7 @@ impl<A: KeyAdapter, E: TreeHead> RBTree<A, E> {
 
     /// A cursor that edits, on the first member, null in an empty tree. O(log n), and O(1) where it is kept.
     ///
-    /// It requires that the tree is shown, unless it keeps its ends.
+    /// It requires that the tree is represented, unless it keeps its ends.
     #[inline]
     pub fn front_mut<'a, L: RBTreeOps>(&'a mut self, links: &'a mut L) -> CursorMut<'a, A, L, E>
         requires shown { HasEnds L.node (L.table links.old) (E.kept (head_of self.old)) }
@@ -133,7 +133,7 @@ impl<A: KeyAdapter, E: TreeHead> RBTree<A, E> {
 
     /// A cursor that edits, on the last member, null in an empty tree. O(log n), and O(1) where it is kept.
     ///
-    /// It requires that the tree is shown, unless it keeps its ends.
+    /// It requires that the tree is represented, unless it keeps its ends.
     #[inline]
     pub fn back_mut<'a, L: RBTreeOps>(&'a mut self, links: &'a mut L) -> CursorMut<'a, A, L, E>
         requires shown { HasEnds L.node (L.table links.old) (E.kept (head_of self.old)) }
@@ -168,10 +168,10 @@ impl<A: KeyAdapter, E: TreeHead> RBTree<A, E> {
         links: &L,
         object: UnsafeRef<A::Value>,
     ) -> CursorOwning<A, E>
-        requires member { HasMember (ShowsKept E.kept L.node (L.table links.now) (head_of self)) object }
+        requires member { HasMember (RepresentsKept E.kept L.node (L.table links.now) (head_of self)) object }
         ensures tree { tree_of result ≡ self }
         ensures position { position result ≡ Some object }
-        ensures stands { Stands (ShowsKept E.kept L.node) L.table (site_of links.now result) }
+        ensures stands { IsValidCursor (RepresentsKept E.kept L.node) L.table (site_of links.now result) }
     {
         let _ = links;
         CursorOwning::new(self, PlaceWord::of(Some(object.place())))
@@ -179,7 +179,7 @@ impl<A: KeyAdapter, E: TreeHead> RBTree<A, E> {
 
     /// A cursor that keeps the tree, on the first member, null in an empty tree. O(log n), and O(1) where it is kept.
     ///
-    /// It requires that the tree is shown, unless it keeps its ends.
+    /// It requires that the tree is represented, unless it keeps its ends.
     #[inline]
     pub fn front_owning<L: RBTreeOps>(self, links: &L) -> CursorOwning<A, E>
         requires shown { HasEnds L.node (L.table links.now) (E.kept (head_of self)) }
@@ -192,7 +192,7 @@ impl<A: KeyAdapter, E: TreeHead> RBTree<A, E> {
 
     /// A cursor that keeps the tree, on the last member, null in an empty tree. O(log n), and O(1) where it is kept.
     ///
-    /// It requires that the tree is shown, unless it keeps its ends.
+    /// It requires that the tree is represented, unless it keeps its ends.
     #[inline]
     pub fn back_owning<L: RBTreeOps>(self, links: &L) -> CursorOwning<A, E>
         requires shown { HasEnds L.node (L.table links.now) (E.kept (head_of self)) }

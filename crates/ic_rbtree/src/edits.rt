@@ -1,17 +1,14 @@
 //! What a tree gives the cursors: moves and edits at a position, each O(log n), and a replacement, O(1).
 //!
-//! "After" is the gap behind the position's member, or the first gap at null; "before" is the gap in front of it, or
+//! "After" is the gap after the position's member, or the first gap at null; "before" is the gap before it, or
 //! the last gap at null. An edit looks at no key. What each does, the traits say.
 
 ghost use Rattle.std.specs.Prelude.{◌≡◌, None, Option, List, [], ◌∷◌, ◌++◌};
-ghost use Rattle.ic_unsafe_ref.specs.declared.place.Place.{Place};
+ghost use Rattle.ic_link_ops.specs.Prelude.{Place, IsCovered, ChangesOnlyIn, site, IsValidCursor, HasMember, releases};
 ghost use Rattle.ic_cursors.specs.Answers as answer;
 ghost use Rattle.ic_link_ops.specs.declared.side.Side.TheVariants.{Left, Right};
-ghost use Rattle.ic_link_ops.specs.Tables.{IsCovered, KeepsBeside};
-ghost use Rattle.ic_link_ops.specs.LinkSteps.{releases};
-ghost use Rattle.ic_link_ops.specs.Positions.{site, Stands, HasMember};
 ghost use Rattle.ic_link_ops.specs.EditsAt.{InsertsBeside};
-ghost use Rattle.ic_rbtree.specs.Kept.{ShowsKept, EndIs, HasEnds};
+ghost use Rattle.ic_rbtree.specs.Kept.{RepresentsKept, EndIs, HasEnds};
 ghost use Rattle.ic_rbtree.specs.Sides.{IsBeside};
 ghost use Rattle.ic_rbtree.specs.Tree.{head_of, adapter_of};
 
@@ -27,7 +24,7 @@ use ic_unsafe_ref::{Place, UnsafeRef};
 impl<A: KeyAdapter, E: TreeHead> RBTree<A, E> {
     /// The first member, `None` in an empty tree. O(log n), and O(1) where it is kept.
     ///
-    /// It requires that the tree is shown, unless it keeps its ends.
+    /// It requires that the tree is represented, unless it keeps its ends.
     #[inline]
     pub fn first<L: RBTreeOps>(&self, links: &L) -> Option<Place>
         requires shown { HasEnds L.node (L.table links.now) (E.kept (head_of self.now)) }
@@ -38,7 +35,7 @@ impl<A: KeyAdapter, E: TreeHead> RBTree<A, E> {
 
     /// The last member, `None` in an empty tree. O(log n), and O(1) where it is kept.
     ///
-    /// It requires that the tree is shown, unless it keeps its ends.
+    /// It requires that the tree is represented, unless it keeps its ends.
     #[inline]
     pub fn last<L: RBTreeOps>(&self, links: &L) -> Option<Place>
         requires shown { HasEnds L.node (L.table links.now) (E.kept (head_of self.now)) }
@@ -52,14 +49,14 @@ impl<A: KeyAdapter, E: TreeHead> RBTree<A, E> {
     /// The other members stay in their order, and so does every other collection of the table.
     #[inline]
     pub fn remove<L: RBTreeOps>(&mut self, links: &mut L, object: &UnsafeRef<A::Value>)
-        requires member { HasMember (ShowsKept E.kept L.node (L.table links.old) (head_of self.old)) object.now }
+        requires member { HasMember (RepresentsKept E.kept L.node (L.table links.old) (head_of self.old)) object.now }
         ensures removed { (front back : List Place)
-            → ShowsKept E.kept L.node (L.table links.old) (head_of self.old) (front ++ object.now ∷ back)
-            → ShowsKept E.kept L.node (L.table links.new) (head_of self.new) (front ++ back) }
-        ensures released { L.Does links.old links.new (releases object.now ∷ []) }
+            → RepresentsKept E.kept L.node (L.table links.old) (head_of self.old) (front ++ object.now ∷ back)
+            → RepresentsKept E.kept L.node (L.table links.new) (head_of self.new) (front ++ back) }
+        ensures released { L.Trace links.old links.new (releases object.now ∷ []) }
         ensures adapter { adapter_of self.new ≡ adapter_of self.old }
-        ensures frame { (s : List Place) → ShowsKept E.kept L.node (L.table links.old) (head_of self.old) s
-            → KeepsBeside (L.table links.old) (L.table links.new) s }
+        ensures frame { (s : List Place) → RepresentsKept E.kept L.node (L.table links.old) (head_of self.old) s
+            → ChangesOnlyIn (L.table links.old) (L.table links.new) s }
     {
         remove(links, &mut self.head, object.place());
     }
@@ -74,8 +71,8 @@ impl<A: KeyAdapter, E: TreeHead> RBTree<A, E> {
         object: Place,
     ) -> bool
         requires covered { IsCovered (L.table links.old) object }
-        requires stands { Stands (ShowsKept E.kept L.node) L.table (site links.old (head_of self.old) at.now) }
-        ensures inserted { InsertsBeside (ShowsKept E.kept L.node) L.table L.Does L.Refused (IsBeside side)
+        requires stands { IsValidCursor (RepresentsKept E.kept L.node) L.table (site links.old (head_of self.old) at.now) }
+        ensures inserted { InsertsBeside (RepresentsKept E.kept L.node) L.table L.Trace L.Refused (IsBeside side)
             (site links.old (head_of self.old) at.now) object (answer.inserted {T = A.Value} object result) (site links.new (head_of self.new) at.now) }
         ensures adapter { adapter_of self.new ≡ adapter_of self.old }
     {
@@ -104,9 +101,9 @@ impl<A: KeyAdapter, E: TreeHead> Collection for RBTree<A, E> {
 }
 
 impl<A: KeyAdapter, E: TreeHead, L: RBTreeOps> CursorOps<L> for RBTree<A, E> {
-    ghost Shows = { ShowsKept E.kept L.node };
+    ghost Represents = { RepresentsKept E.kept L.node };
 
-    ghost StandsAt = { λ links tree at. Stands (ShowsKept E.kept L.node) L.table (site links (head_of tree) at) };
+    ghost IsValidAt = { λ links tree at. IsValidCursor (RepresentsKept E.kept L.node) L.table (site links (head_of tree) at) };
 
     #[inline]
     fn next_of(&self, links: &L, at: &PlaceWord) -> PlaceWord {

@@ -6,17 +6,16 @@
 //! ```
 
 ghost use Rattle.std.specs.Prelude.{◌≡◌, ◌≢◌, Option, Some, None, List, [], ◌∷◌, ◌++◌};
-ghost use Rattle.ic_unsafe_ref.specs.declared.place.Place.{Place};
+ghost use Rattle.ic_link_ops.specs.Prelude.{Place, Cut, join, insert, IsDistinct};
 ghost use Rattle.ic_link_ops.specs.Frames.{across};
-ghost use Rattle.ic_link_ops.specs.RedBlackTree.{Shows, ShowsSome};
-ghost use Rattle.ic_link_ops.specs.Sequences.{Cut, join, insert, IsDistinct};
+ghost use Rattle.ic_link_ops.specs.RedBlackTree.{Represents, RepresentsSome};
 ghost use Rattle.ic_rbtree.specs.Closed.{IsSafe, IsSafeBut, StaysClosed, ClosesAt};
 ghost use Rattle.ic_rbtree.specs.Ends.{end_on};
 ghost use Rattle.ic_rbtree.specs.Insertion.{Attaches};
 ghost use Rattle.ic_rbtree.specs.Kept.{Kept, RootAndEnds, alone, ended, root_kept, last_kept, end_with, end_for, TellsEnds, IsEmptied, IsBelow, EndIs, HasEnds};
 ghost use Rattle.ic_rbtree.specs.Transplants.{TakesAway, TakesPlace};
 
-use crate::nodes::Nodes;
+use crate::nodes::NodeStore;
 use crate::readings::{is_across, is_at, other};
 use crate::repair::insertion::attach;
 use crate::repair::removal::unlink;
@@ -44,30 +43,36 @@ pub trait TreeHead: Drop {
         ensures { result ≡ root_kept (kept self.now) };
 
     /// Puts `place` in on this side of `parent`, as [`RBTree::attach`](crate::RBTree::attach) does. O(log n).
-    fn attach<N: Nodes>(&mut self, nodes: &mut N, parent: Option<Place>, side: Side, place: Place)
+    fn attach<N: NodeStore>(
+        &mut self,
+        nodes: &mut N,
+        parent: Option<Place>,
+        side: Side,
+        place: Place,
+    )
         requires { IsSafeBut N.node (N.table nodes.old) (root_kept (kept self.old)) place (Some place ∷ parent ∷ []) }
         ensures attached { Attaches N.node (N.table nodes.old) (N.table nodes.new) (root_kept (kept self.old)) (root_kept (kept self.new)) parent side place }
         ensures safe { ClosesAt N.node (N.table nodes.old) (N.table nodes.new) (root_kept (kept self.old)) (root_kept (kept self.new)) place (Some place ∷ parent ∷ []) }
-        ensures quiet { N.Quiet nodes.old nodes.new }
+        ensures keeps_links { N.KeepsLinks nodes.old nodes.new }
         ensures ends { (gap : Cut) → IsBelow parent side gap → IsDistinct (join gap) → TellsEnds (kept self.old) (join gap)
             → TellsEnds (kept self.new) (insert gap place) };
 
     /// Takes the member at `place` out, as [`RBTree::unlink`](crate::RBTree::unlink) does. O(log n).
-    fn unlink<N: Nodes>(&mut self, nodes: &mut N, place: Place)
+    fn unlink<N: NodeStore>(&mut self, nodes: &mut N, place: Place)
         requires { IsSafe N.node (N.table nodes.old) (root_kept (kept self.old)) (Some place ∷ []) }
         ensures taken { TakesAway N.node (N.table nodes.old) (N.table nodes.new) (root_kept (kept self.old)) (root_kept (kept self.new)) place }
         ensures safe { StaysClosed N.node (N.table nodes.old) (N.table nodes.new) (root_kept (kept self.old)) (root_kept (kept self.new)) (Some place ∷ []) [] }
-        ensures quiet { N.Quiet nodes.old nodes.new }
-        ensures ends { (front back : List Place) → Shows N.node (N.table nodes.old) (root_kept (kept self.old)) (front ++ place ∷ back)
+        ensures keeps_links { N.KeepsLinks nodes.old nodes.new }
+        ensures ends { (front back : List Place) → Represents N.node (N.table nodes.old) (root_kept (kept self.old)) (front ++ place ∷ back)
             → TellsEnds (kept self.old) (front ++ place ∷ back) → TellsEnds (kept self.new) (front ++ back) };
 
     /// Puts `new` in place of the member at `place`, as [`RBTree::take_place`](crate::RBTree::take_place) does. O(1).
-    fn take_place<N: Nodes>(&mut self, nodes: &mut N, place: Place, new: Place)
+    fn take_place<N: NodeStore>(&mut self, nodes: &mut N, place: Place, new: Place)
         requires safe { IsSafeBut N.node (N.table nodes.old) (root_kept (kept self.old)) new (Some place ∷ Some new ∷ []) }
         requires apart { place ≢ new }
         ensures taken { TakesPlace N.node (N.table nodes.old) (N.table nodes.new) (root_kept (kept self.old)) (root_kept (kept self.new)) place new }
         ensures safe { ClosesAt N.node (N.table nodes.old) (N.table nodes.new) (root_kept (kept self.old)) (root_kept (kept self.new)) new (Some place ∷ Some new ∷ []) }
-        ensures quiet { N.Quiet nodes.old nodes.new }
+        ensures keeps_links { N.KeepsLinks nodes.old nodes.new }
         ensures ends { (front back : List Place) → IsDistinct (front ++ place ∷ back) → TellsEnds (kept self.old) (front ++ place ∷ back)
             → TellsEnds (kept self.new) (front ++ new ∷ back) };
 
@@ -96,10 +101,10 @@ pub trait TreeHead: Drop {
         place: Place,
         back: Option<Place>,
     ) -> Self
-        requires shown { ShowsSome L.node (L.table links.now) front }
+        requires shown { RepresentsSome L.node (L.table links.now) front }
         ensures root { root_kept (kept self.new) ≡ front }
         ensures rest_root { root_kept (kept result) ≡ back }
-        ensures ends { (s t : List Place) → Shows L.node (L.table links.now) front s → TellsEnds (kept self.old) (s ++ place ∷ t)
+        ensures ends { (s t : List Place) → Represents L.node (L.table links.now) front s → TellsEnds (kept self.old) (s ++ place ∷ t)
             → TellsEnds (kept self.new) s × TellsEnds (kept result) (place ∷ t) };
 }
 
@@ -142,17 +147,23 @@ impl TreeHead for Root {
     }
 
     #[inline]
-    fn attach<N: Nodes>(&mut self, nodes: &mut N, parent: Option<Place>, side: Side, place: Place) {
+    fn attach<N: NodeStore>(
+        &mut self,
+        nodes: &mut N,
+        parent: Option<Place>,
+        side: Side,
+        place: Place,
+    ) {
         attach(nodes, &mut self.word, parent, side, place);
     }
 
     #[inline]
-    fn unlink<N: Nodes>(&mut self, nodes: &mut N, place: Place) {
+    fn unlink<N: NodeStore>(&mut self, nodes: &mut N, place: Place) {
         unlink(nodes, &mut self.word, place);
     }
 
     #[inline]
-    fn take_place<N: Nodes>(&mut self, nodes: &mut N, place: Place, new: Place) {
+    fn take_place<N: NodeStore>(&mut self, nodes: &mut N, place: Place, new: Place) {
         take_place(nodes, &mut self.word, place, new);
     }
 
@@ -190,7 +201,7 @@ impl TreeHead for Root {
 
 /// The root, the first member and the last one.
 ///
-/// Good for timers and run queues, where the first leaves, and what comes mostly goes behind the others.
+/// Good for timers and run queues, where the first leaves, and what comes mostly goes after the others.
 #[derive(Drop)]
 pub struct WithEnds {
     root: PlaceWord,
@@ -227,7 +238,7 @@ fn end_for(out: Place, new: Place, end: Option<Place>) -> Option<Place>
 
 // The end on side d once the member at `place` is out: the next one inwards, where that was the end.
 #[inline]
-fn end_without<N: Nodes>(
+fn end_without<N: NodeStore>(
     nodes: &N,
     root: Option<Place>,
     d: Side,
@@ -235,7 +246,7 @@ fn end_without<N: Nodes>(
     end: Option<Place>,
 ) -> Option<Place>
     requires { IsSafe N.node (N.table nodes.now) root (Some place ∷ []) }
-    ensures { (front back : List Place) → Shows N.node (N.table nodes.now) root (front ++ place ∷ back) → end ≡ end_on d (front ++ place ∷ back)
+    ensures { (front back : List Place) → Represents N.node (N.table nodes.now) root (front ++ place ∷ back) → end ≡ end_on d (front ++ place ∷ back)
         → result ≡ end_on d (front ++ back) }
 {
     if is_at(end, place) {
@@ -259,7 +270,13 @@ impl TreeHead for WithEnds {
     }
 
     #[inline]
-    fn attach<N: Nodes>(&mut self, nodes: &mut N, parent: Option<Place>, side: Side, place: Place) {
+    fn attach<N: NodeStore>(
+        &mut self,
+        nodes: &mut N,
+        parent: Option<Place>,
+        side: Side,
+        place: Place,
+    ) {
         attach(nodes, &mut self.root, parent, side, place);
         let Some(above) = parent else {
             self.front = PlaceWord::of(Some(place));
@@ -273,7 +290,7 @@ impl TreeHead for WithEnds {
     }
 
     #[inline]
-    fn unlink<N: Nodes>(&mut self, nodes: &mut N, place: Place) {
+    fn unlink<N: NodeStore>(&mut self, nodes: &mut N, place: Place) {
         let root = self.root.get();
         let front = end_without(&*nodes, root, Side::Left, place, self.front.get());
         let back = end_without(&*nodes, root, Side::Right, place, self.back.get());
@@ -283,7 +300,7 @@ impl TreeHead for WithEnds {
     }
 
     #[inline]
-    fn take_place<N: Nodes>(&mut self, nodes: &mut N, place: Place, new: Place) {
+    fn take_place<N: NodeStore>(&mut self, nodes: &mut N, place: Place, new: Place) {
         take_place(nodes, &mut self.root, place, new);
         self.front = PlaceWord::of(end_for(place, new, self.front.get()));
         self.back = PlaceWord::of(end_for(place, new, self.back.get()));

@@ -9,13 +9,11 @@
 
 ghost use Rattle.std.specs.Prelude.{◌≡◌, Some, List, [], ◌∷◌, IfSome, IfNone};
 ghost use Rattle.std.specs.Iterator.{item_count};
-ghost use Rattle.ic_unsafe_ref.specs.declared.place.Place.{Place};
-ghost use Rattle.ic_link_ops.specs.Tables.{KeepsBeside};
-ghost use Rattle.ic_link_ops.specs.LinkSteps.{releases, releases_each};
+ghost use Rattle.ic_link_ops.specs.Prelude.{Place, ChangesOnlyIn, releases, releases_each};
 ghost use Rattle.ic_rbtree.specs.Closed.{IsNamed};
-ghost use Rattle.ic_rbtree.specs.Ends.{end_on, others_on, ShowsFrom, Hangs, CanDescend, IsOuter};
-ghost use Rattle.ic_rbtree.specs.Kept.{ShowsKept, ShowsKeptSome};
-ghost use Rattle.ic_rbtree.specs.Steps.{TakesNoStep};
+ghost use Rattle.ic_rbtree.specs.Ends.{end_on, others_on, RepresentsFrom, Hangs, CanDescend, IsOuter};
+ghost use Rattle.ic_rbtree.specs.Kept.{RepresentsKept, RepresentsKeptSome};
+ghost use Rattle.ic_rbtree.specs.Steps.{TraceStays};
 ghost use Rattle.ic_rbtree.specs.Tree.{head_of};
 
 use crate::head::TreeHead;
@@ -59,7 +57,7 @@ impl<'a, A: KeyAdapter, L: RBTreeOps> Iterator for IntoIter<'a, A, L> {
 
     ghost can_next = { CanTake L.node L.table };
 
-    ghost next_gives = { TakesFirst L.node L.table L.Does };
+    ghost next_gives = { TakesFirst L.node L.table L.Trace };
 
     ghost remaining = { item_count (members_left L.node L.table) };
 
@@ -79,7 +77,7 @@ impl<'a, A: KeyAdapter, L: RBTreeOps> DoubleEndedIterator for IntoIter<'a, A, L>
 
     ghost can_next_back = { CanTake L.node L.table };
 
-    ghost next_back_gives = { TakesLast L.node L.table L.Does };
+    ghost next_back_gives = { TakesLast L.node L.table L.Trace };
 
     /// Takes the next object from the back off the tree, as [`next`](Self::next) does at the front.
     #[inline]
@@ -104,9 +102,9 @@ impl<'a, A, L: RBTreeOps> IntoIter<'a, A, L> {
     pub fn finish(self)
         requires can_take { CanTake L.node L.table self }
         ensures released { (w : List Place) → Leaves L.node L.table self.entry w
-            → L.Does self.entry.links.now self.exit.1.1.0.now (releases_each w) }
+            → L.Trace self.entry.links.now self.exit.1.1.0.now (releases_each w) }
         ensures frame { (w : List Place) → Leaves L.node L.table self.entry w
-            → KeepsBeside (L.table self.entry.links.now) (L.table self.exit.1.1.0.now) w }
+            → ChangesOnlyIn (L.table self.entry.links.now) (L.table self.exit.1.1.0.now) w }
     {
         let IntoIter {
             mut front,
@@ -123,8 +121,8 @@ impl<A: KeyAdapter, E: TreeHead> RBTree<A, E> {
 
     /// A walk that takes the members off, from either end. Nothing is unlinked yet. O(log n), and O(1) where the ends are kept.
     pub fn into_iter<'a, L: RBTreeOps>(self, links: &'a mut L) -> IntoIter<'a, A, L>
-        requires shown { ShowsKeptSome E.kept L.node (L.table links.old) (head_of self) }
-        ensures tree { (s : List Place) → ShowsKept E.kept L.node (L.table links.entry.now) (head_of self) s
+        requires shown { RepresentsKeptSome E.kept L.node (L.table links.old) (head_of self) }
+        ensures tree { (s : List Place) → RepresentsKept E.kept L.node (L.table links.entry.now) (head_of self) s
             → Leaves L.node L.table result s }
         ensures links { result.links.now ≡ links.entry.now }
         ensures same_links { result.links.ghost_name ≡ links.entry.ghost_name }
@@ -149,15 +147,15 @@ fn take_end<L: RBTreeOps>(
     far: &mut PlaceWord,
     side: Side,
 ) -> Option<Place>
-    requires shown { (w : List Place) × ShowsFrom L.node side (L.table links.old) near.old far.old w }
-    ensures answer { (w : List Place) → ShowsFrom L.node side (L.table links.old) near.old far.old w
+    requires shown { (w : List Place) × RepresentsFrom L.node side (L.table links.old) near.old far.old w }
+    ensures answer { (w : List Place) → RepresentsFrom L.node side (L.table links.old) near.old far.old w
         → result ≡ end_on side w }
-    ensures removed { (w : List Place) → ShowsFrom L.node side (L.table links.old) near.old far.old w
-        → ShowsFrom L.node side (L.table links.new) near.new far.new (others_on side w) }
-    ensures released { IfSome result (λ p. L.Does links.old links.new (releases p ∷ [])) }
+    ensures removed { (w : List Place) → RepresentsFrom L.node side (L.table links.old) near.old far.old w
+        → RepresentsFrom L.node side (L.table links.new) near.new far.new (others_on side w) }
+    ensures released { IfSome result (λ p. L.Trace links.old links.new (releases p ∷ [])) }
     ensures empty { IfNone result ((near.new ≡ near.old) × (far.new ≡ far.old) × (links.new ≡ links.old)) }
-    ensures frame { (w : List Place) → ShowsFrom L.node side (L.table links.old) near.old far.old w
-        → KeepsBeside (L.table links.old) (L.table links.new) w }
+    ensures frame { (w : List Place) → RepresentsFrom L.node side (L.table links.old) near.old far.old w
+        → ChangesOnlyIn (L.table links.old) (L.table links.new) w }
 {
     let place = near.get()?;
     let below = child(&*links, place, other(side));
@@ -176,7 +174,7 @@ fn hang<L: RBTreeOps>(links: &mut L, parent: Option<Place>, side: Side, to: Opti
     requires parent { IsNamed L.node (L.table links.old) parent }
     requires named { IsNamed L.node (L.table links.old) to }
     ensures moved { Hangs L.node (L.table links.old) (L.table links.new) parent side to }
-    ensures no_step { TakesNoStep L.Does links.old links.new }
+    ensures trace_stays { TraceStays L.Trace links.old links.new }
 {
     if let Some(parent) = parent {
         set_child(links, parent, side, to);

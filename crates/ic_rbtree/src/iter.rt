@@ -11,14 +11,14 @@ ghost use Rattle.std.specs.Prelude.{◌≡◌, List, Option, Some, ⊤};
 ghost use Rattle.std.specs.Iterator.{item_count};
 ghost use Rattle.ic_unsafe_ref.specs.declared.place.Place.{Place};
 ghost use Rattle.ic_link_ops.specs.Walk.{GivesFirst, GivesLast};
-ghost use Rattle.ic_rbtree.specs.Kept.{ShowsKept};
+ghost use Rattle.ic_rbtree.specs.Kept.{RepresentsKept};
 ghost use Rattle.ic_rbtree.specs.Tree.{head_of};
 
 use crate::head::TreeHead;
 use crate::readings::is_at;
 use crate::steps::step;
 use crate::{KeyAdapter, RBTree};
-use ic_cursors::Listing;
+use ic_cursors::DebugWalk;
 use ic_link_ops::rbtree::RBTreeOps;
 use ic_link_ops::{LinkOps, Side};
 use ic_unsafe_ref::{Objects, Place, Values};
@@ -137,7 +137,7 @@ impl<A: KeyAdapter, L: RBTreeOps, O: Values<A::Value>> Iter<'_, A, L, O> {
 }
 
 impl<A: KeyAdapter, E: TreeHead> RBTree<A, E> {
-    ghost use Rattle.ic_link_ops.specs.PlacedObjects.{ShowsPlaced, values_at};
+    ghost use Rattle.ic_link_ops.specs.PlacedObjects.{RepresentsPlaced, values_at};
     ghost use Rattle.ic_rbtree.specs.Iter.{objects_left, CanWalk};
 
     /// A walk over the objects of the tree, from either end. It requires that all members are placed.
@@ -146,8 +146,8 @@ impl<A: KeyAdapter, E: TreeHead> RBTree<A, E> {
         links: &'a L,
         objects: &'a O,
     ) -> Iter<'a, A, L, O>
-        requires placed { ShowsPlaced (ShowsKept E.kept L.node (L.table links.now) (head_of self.now)) (O.values objects.now) }
-        ensures walks { (s : List Place) → ShowsKept E.kept L.node (L.table links.now) (head_of self.now) s
+        requires placed { RepresentsPlaced (RepresentsKept E.kept L.node (L.table links.now) (head_of self.now)) (O.values objects.now) }
+        ensures walks { (s : List Place) → RepresentsKept E.kept L.node (L.table links.now) (head_of self.now) s
             → objects_left L.node L.table O.values result ≡ values_at (O.values objects.now) s }
         ensures can_walk { CanWalk L.node L.table O.values result }
     {
@@ -167,11 +167,11 @@ impl<A: KeyAdapter, E: TreeHead> RBTree<A, E> {
         &'a self,
         links: &'a L,
         objects: &'a O,
-    ) -> Listing<Iter<'a, A, L, O>>
-        requires placed { ShowsPlaced (ShowsKept E.kept L.node (L.table links.now) (head_of self.now)) (O.values objects.now) }
-        ensures lists { (s : List Place) → ShowsKept E.kept L.node (L.table links.now) (head_of self.now) s
+    ) -> DebugWalk<Iter<'a, A, L, O>>
+        requires placed { RepresentsPlaced (RepresentsKept E.kept L.node (L.table links.now) (head_of self.now)) (O.values objects.now) }
+        ensures lists { (s : List Place) → RepresentsKept E.kept L.node (L.table links.now) (head_of self.now) s
             → objects_left L.node L.table O.values result ≡ values_at (O.values objects.now) s }
     {
-        Listing::new(self.iter(links, objects))
+        DebugWalk::new(self.iter(links, objects))
     }
 }

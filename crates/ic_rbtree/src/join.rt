@@ -1,20 +1,16 @@
 //! Two trees become one, and one becomes two.
 //!
 //! ```text
-//! early.append(&mut links, &mut late);            // all of `late` behind all of `early`; `late` is empty now
-//! early.join(&mut links, object, &mut later)?;    // the object behind them, and then all of `later`
-//! let later = early.split_off(&mut links, &object); // the object, and all behind it
+//! early.append(&mut links, &mut late);            // all of `late` after all of `early`; `late` is empty now
+//! early.join(&mut links, object, &mut later)?;    // the object after them, and then all of `later`
+//! let later = early.split_off(&mut links, &object); // the object, and all after it
 //! ```
 
 ghost use Rattle.std.specs.Prelude.{◌≡◌, OnOk, OnErr, IfErr, List, [], ◌∷◌, ◌++◌};
-ghost use Rattle.ic_unsafe_ref.specs.declared.place.Place.{Place};
+ghost use Rattle.ic_link_ops.specs.Prelude.{Place, Cut, IsCovered, HasMember, acquires};
 ghost use Rattle.ic_link_ops.specs.Edits.{Inserts, Splits};
-ghost use Rattle.ic_link_ops.specs.LinkSteps.{acquires};
-ghost use Rattle.ic_link_ops.specs.Positions.{HasMember};
-ghost use Rattle.ic_link_ops.specs.Sequences.{Cut};
-ghost use Rattle.ic_link_ops.specs.Tables.{IsCovered};
-ghost use Rattle.ic_rbtree.specs.Join.{ShowsParts, ShowsPartsSome, Appends};
-ghost use Rattle.ic_rbtree.specs.Kept.{ShowsKept, IsEmptied};
+ghost use Rattle.ic_rbtree.specs.Join.{RepresentsParts, RepresentsPartsSome, Appends};
+ghost use Rattle.ic_rbtree.specs.Kept.{RepresentsKept, IsEmptied};
 ghost use Rattle.ic_rbtree.specs.Tree.{head_of, adapter_of};
 
 pub(crate) mod cut;
@@ -23,7 +19,7 @@ pub(crate) mod roots;
 use crate::head::TreeHead;
 use crate::join::cut::cut_at;
 use crate::join::roots::join;
-use crate::nodes::Nodes;
+use crate::nodes::NodeStore;
 use crate::steps::hole_beside;
 use crate::{KeyAdapter, RBTree};
 use ic_link_ops::rbtree::RBTreeOps;
@@ -31,16 +27,16 @@ use ic_link_ops::{AlreadyLinked, LinkOps, Side};
 use ic_unsafe_ref::UnsafeRef;
 
 impl<A, E: TreeHead> RBTree<A, E> {
-    /// Moves all members of `other` behind those of this tree, in their order, and leaves `other` empty. It looks at no key.
+    /// Moves all members of `other` after those of this tree, in their order, and leaves `other` empty. It looks at no key.
     ///
     /// It requires that the two trees share no member. Trees that share none with either stay, and no link is acquired or released. It
     /// appends as `LinkedList::append` of std does; `BTreeMap::append` puts each entry where its key belongs. O(log n).
-    pub fn append<N: Nodes>(&mut self, nodes: &mut N, other: &mut RBTree<A, E>)
-        requires shown { ShowsPartsSome (ShowsKept E.kept N.node) (N.table nodes.old) (head_of self.old) (head_of other.old) }
-        ensures appended { (gap : Cut) → ShowsParts (ShowsKept E.kept N.node) (N.table nodes.old) (head_of self.old) (head_of other.old) gap
-            → Appends (ShowsKept E.kept N.node) (N.table nodes.old) (N.table nodes.new) (head_of self.new) gap }
+    pub fn append<N: NodeStore>(&mut self, nodes: &mut N, other: &mut RBTree<A, E>)
+        requires shown { RepresentsPartsSome (RepresentsKept E.kept N.node) (N.table nodes.old) (head_of self.old) (head_of other.old) }
+        ensures appended { (gap : Cut) → RepresentsParts (RepresentsKept E.kept N.node) (N.table nodes.old) (head_of self.old) (head_of other.old) gap
+            → Appends (RepresentsKept E.kept N.node) (N.table nodes.old) (N.table nodes.new) (head_of self.new) gap }
         ensures emptied { IsEmptied (E.kept (head_of other.new)) }
-        ensures quiet { N.Quiet nodes.old nodes.new }
+        ensures keeps_links { N.KeepsLinks nodes.old nodes.new }
         ensures adapter { adapter_of self.new ≡ adapter_of self.old }
         ensures other_adapter { adapter_of other.new ≡ adapter_of other.old }
     {
@@ -54,7 +50,7 @@ impl<A, E: TreeHead> RBTree<A, E> {
 }
 
 impl<A: KeyAdapter, E: TreeHead> RBTree<A, E> {
-    /// Puts the object behind all members of this tree and moves all of `other` behind it, unless the object's link is refused. `other`
+    /// Puts the object after all members of this tree and moves all of `other` after it, unless the object's link is refused. `other`
     /// is empty then. It looks at no key.
     ///
     /// It requires that the object's place is covered, and that the two trees share no member. A refused object comes back, and both
@@ -66,11 +62,11 @@ impl<A: KeyAdapter, E: TreeHead> RBTree<A, E> {
         other: &mut RBTree<A, E>,
     ) -> Result<(), AlreadyLinked<A::Value>>
         requires covered { IsCovered (L.table links.old) object }
-        requires shown { ShowsPartsSome (ShowsKept E.kept L.node) (L.table links.old) (head_of self.old) (head_of other.old) }
-        ensures joined { (gap : Cut) → ShowsParts (ShowsKept E.kept L.node) (L.table links.old) (head_of self.old) (head_of other.old) gap → OnOk result
-            (Inserts (ShowsKept E.kept L.node) (L.table links.old) (L.table links.new) (head_of self.new) gap object) }
+        requires shown { RepresentsPartsSome (RepresentsKept E.kept L.node) (L.table links.old) (head_of self.old) (head_of other.old) }
+        ensures joined { (gap : Cut) → RepresentsParts (RepresentsKept E.kept L.node) (L.table links.old) (head_of self.old) (head_of other.old) gap → OnOk result
+            (Inserts (RepresentsKept E.kept L.node) (L.table links.old) (L.table links.new) (head_of self.new) gap object) }
         ensures emptied { OnOk result (IsEmptied (E.kept (head_of other.new))) }
-        ensures acquired { OnOk result (L.Does links.old links.new (acquires object ∷ [])) }
+        ensures acquired { OnOk result (L.Trace links.old links.new (acquires object ∷ [])) }
         ensures adapter { adapter_of self.new ≡ adapter_of self.old }
         ensures other_adapter { adapter_of other.new ≡ adapter_of other.old }
         ensures refused { OnErr result (L.Refused links.old links.new object) }
@@ -85,7 +81,7 @@ impl<A: KeyAdapter, E: TreeHead> RBTree<A, E> {
         Ok(())
     }
 
-    /// Keeps the members in front of the object, which has to be a member, and hands out the object and all behind it, as a tree with
+    /// Keeps the members before the object, which has to be a member, and hands out the object and all after it, as a tree with
     /// the same adapter. It looks at no key, and no link is acquired or released.
     ///
     /// Trees that share no member with this one stay. O(log n): it joins the subtrees beside one way up, each in the time of a difference of
@@ -96,10 +92,10 @@ impl<A: KeyAdapter, E: TreeHead> RBTree<A, E> {
         links: &mut L,
         object: &UnsafeRef<A::Value>,
     ) -> RBTree<A, E>
-        requires member { HasMember (ShowsKept E.kept L.node (L.table links.old) (head_of self.old)) object.now }
-        ensures split { (front back : List Place) → ShowsKept E.kept L.node (L.table links.old) (head_of self.old) (front ++ object.now ∷ back)
-            → Splits (ShowsKept E.kept L.node) (L.table links.old) (L.table links.new) (head_of self.new) (head_of result) front (object.now ∷ back) }
-        ensures no_step { L.Does links.old links.new [] }
+        requires member { HasMember (RepresentsKept E.kept L.node (L.table links.old) (head_of self.old)) object.now }
+        ensures split { (front back : List Place) → RepresentsKept E.kept L.node (L.table links.old) (head_of self.old) (front ++ object.now ∷ back)
+            → Splits (RepresentsKept E.kept L.node) (L.table links.old) (L.table links.new) (head_of self.new) (head_of result) front (object.now ∷ back) }
+        ensures trace_stays { L.Trace links.old links.new [] }
         ensures adapter { adapter_of self.new ≡ adapter_of self.old }
         ensures rest_adapter { adapter_of result ≡ adapter_of self.old }
     {

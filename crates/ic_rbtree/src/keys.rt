@@ -1,7 +1,7 @@
 //! Searches and inserts by keys: descents from the root, and what they ask of the objects.
 //!
 //! ```text
-//! tree.insert(&mut links, &objects, object)?; // behind all with no greater key
+//! tree.insert(&mut links, &objects, object)?; // after all with no greater key
 //! let cursor = tree.find(&links, &objects, &5); // the first with the key 5
 //! ```
 

@@ -4,7 +4,7 @@
 //!
 //! ```text
 //! let mut tree = RBTree::new(ByDeadline);
-//! tree.insert(&mut links, &objects, object)?; // behind all with no greater key
+//! tree.insert(&mut links, &objects, object)?; // after all with no greater key
 //! let first = tree.front_mut(&mut links).remove();
 //! ```
 //!
@@ -16,7 +16,7 @@
 //! ```
 //!
 //! Who keeps trees in words of his own makes a tree of the root that he keeps, makes one edit by the layer under these calls, and
-//! reads the root again. That layer runs over whatever implements [`Nodes`], and requires only that links lead out of no set of
+//! reads the root again. That layer runs over whatever implements [`NodeStore`], and requires only that links lead out of no set of
 //! linked places.
 //!
 //! ```text
@@ -50,7 +50,7 @@ mod within;
 pub use builder::RBTreeBuilder;
 pub use cursors::{Cursor, CursorMut, CursorOwning};
 pub use head::{Root, TreeHead, WithEnds};
-pub use ic_cursors::Listing;
+pub use ic_cursors::DebugWalk;
 pub use ic_link_ops::Color;
 pub use ic_link_ops::rbtree::{Link, LinkOps, RBTreeOps};
 pub use into_iter::IntoIter;
@@ -60,6 +60,6 @@ pub use keys::entry::{Entry, InsertCursor, RefusedInsert};
 pub use keys::key_adapter;
 pub use keys::key_adapter::{Bound, KeyAdapter};
 pub use keys::probe::{KeyProbe, Probe};
-pub use nodes::Nodes;
+pub use nodes::NodeStore;
 pub use tree::{RBTree, RBTreeCached};
 pub use within::step_within;

@@ -6,15 +6,11 @@
 
 ghost use Rattle.std.specs.Prelude.{◌≡◌, Some, List, [], ◌∷◌};
 ghost use Rattle.std.specs.Bool.{OnTrue, OnFalse};
-ghost use Rattle.ic_unsafe_ref.specs.declared.place.Place.{Place};
-ghost use Rattle.ic_link_ops.specs.Tables.{IsCovered};
-ghost use Rattle.ic_link_ops.specs.LinkSteps.{acquires, releases};
-ghost use Rattle.ic_link_ops.specs.Sequences.{Cut, join, IsBefore};
+ghost use Rattle.ic_link_ops.specs.Prelude.{Place, Cut, join, IsBefore, IsCovered, RepresentsPlaced, acquires, releases};
 ghost use Rattle.ic_link_ops.specs.Edits.{Removes, Inserts, Replaces};
-ghost use Rattle.ic_link_ops.specs.PlacedObjects.{ShowsPlaced};
 ghost use Rattle.ic_rbtree.specs.Comparing.{compared};
-ghost use Rattle.ic_rbtree.specs.Insertion.{IsHole};
-ghost use Rattle.ic_rbtree.specs.Kept.{ShowsKept, HasRoomFor, InsertLooks};
+ghost use Rattle.ic_rbtree.specs.Insertion.{IsInsertPos};
+ghost use Rattle.ic_rbtree.specs.Kept.{RepresentsKept, HasRoomFor, InsertLooks};
 ghost use Rattle.ic_rbtree.specs.Ordered.{InsertsInOrder};
 
 use crate::Probe;
@@ -34,12 +30,12 @@ pub(crate) fn insert<L: RBTreeOps, E: TreeHead>(
     place: Place,
 ) -> bool
     requires covered { IsCovered (L.table links.old) place }
-    requires hole { (gap : Cut) × ShowsKept E.kept L.node (L.table links.old) head.old (join gap)
-        × IsHole L.node (L.table links.old) parent side gap }
-    ensures inserted { (gap : Cut) → ShowsKept E.kept L.node (L.table links.old) head.old (join gap)
-        → IsHole L.node (L.table links.old) parent side gap → OnTrue result
-        (Inserts (ShowsKept E.kept L.node) (L.table links.old) (L.table links.new) head.new gap place) }
-    ensures acquired { OnTrue result (L.Does links.old links.new (acquires place ∷ [])) }
+    requires hole { (gap : Cut) × RepresentsKept E.kept L.node (L.table links.old) head.old (join gap)
+        × IsInsertPos L.node (L.table links.old) parent side gap }
+    ensures inserted { (gap : Cut) → RepresentsKept E.kept L.node (L.table links.old) head.old (join gap)
+        → IsInsertPos L.node (L.table links.old) parent side gap → OnTrue result
+        (Inserts (RepresentsKept E.kept L.node) (L.table links.old) (L.table links.new) head.new gap place) }
+    ensures acquired { OnTrue result (L.Trace links.old links.new (acquires place ∷ [])) }
     ensures refused { OnFalse result (L.Refused links.old links.new place) }
     ensures unchanged { OnFalse result (head.new ≡ head.old) }
 {
@@ -50,7 +46,7 @@ pub(crate) fn insert<L: RBTreeOps, E: TreeHead>(
     true
 }
 
-// Links the place as a new member where the probe's order wants it: behind the members that compare equal. It says whether
+// Links the place as a new member where the probe's order wants it: after the members that compare equal. It says whether
 // the link could be had. Where it could not, nothing is looked at.
 #[inline]
 pub(crate) fn insert_in_order<L: RBTreeOps, E: TreeHead, V, P: Probe<V>, O: Values<V>>(
@@ -61,13 +57,13 @@ pub(crate) fn insert_in_order<L: RBTreeOps, E: TreeHead, V, P: Probe<V>, O: Valu
     object: Place,
 ) -> bool
     requires covered { IsCovered (L.table links.old) object }
-    requires placed { ShowsPlaced (ShowsKept E.kept L.node (L.table links.old) head.old) (O.values objects.now) }
+    requires placed { RepresentsPlaced (RepresentsKept E.kept L.node (L.table links.old) head.old) (O.values objects.now) }
     requires room { HasRoomFor (E.kept head.old) (P.count probe.old) }
-    ensures inserted { (s : List Place) → ShowsKept E.kept L.node (L.table links.old) head.old s → OnTrue result
-        (InsertsInOrder (ShowsKept E.kept L.node) (compared (P.order probe.old) (O.values objects.now)) (L.table links.old) (L.table links.new)
+    ensures inserted { (s : List Place) → RepresentsKept E.kept L.node (L.table links.old) head.old s → OnTrue result
+        (InsertsInOrder (RepresentsKept E.kept L.node) (compared (P.order probe.old) (O.values objects.now)) (L.table links.old) (L.table links.new)
         head.new s object) }
-    ensures acquired { OnTrue result (L.Does links.old links.new (acquires object ∷ [])) }
-    ensures looks { (s : List Place) → ShowsKept E.kept L.node (L.table links.old) head.old s
+    ensures acquired { OnTrue result (L.Trace links.old links.new (acquires object ∷ [])) }
+    ensures looks { (s : List Place) → RepresentsKept E.kept L.node (L.table links.old) head.old s
         → OnTrue result (InsertLooks P.order P.count (E.kept head.old) (O.values objects.now) probe.old probe.new s) }
     ensures refused { OnFalse result (L.Refused links.old links.new object) }
     ensures unchanged { OnFalse result ((head.new ≡ head.old) × (probe.new ≡ probe.old)) }
@@ -82,10 +78,10 @@ pub(crate) fn insert_in_order<L: RBTreeOps, E: TreeHead, V, P: Probe<V>, O: Valu
 
 // Takes the member off the tree, and unlinks it.
 pub(crate) fn remove<L: RBTreeOps, E: TreeHead>(links: &mut L, head: &mut E, place: Place)
-    requires member { (gap : Cut) × ShowsKept E.kept L.node (L.table links.old) head.old (join gap) × IsBefore gap (Some place) }
-    ensures removed { (gap : Cut) → ShowsKept E.kept L.node (L.table links.old) head.old (join gap) → IsBefore gap (Some place)
-        → Removes (ShowsKept E.kept L.node) (L.table links.old) (L.table links.new) head.new gap }
-    ensures released { L.Does links.old links.new (releases place ∷ []) }
+    requires member { (gap : Cut) × RepresentsKept E.kept L.node (L.table links.old) head.old (join gap) × IsBefore gap (Some place) }
+    ensures removed { (gap : Cut) → RepresentsKept E.kept L.node (L.table links.old) head.old (join gap) → IsBefore gap (Some place)
+        → Removes (RepresentsKept E.kept L.node) (L.table links.old) (L.table links.new) head.new gap }
+    ensures released { L.Trace links.old links.new (releases place ∷ []) }
 {
     head.unlink(links, place);
     links.release_link(place);
@@ -99,10 +95,10 @@ pub(crate) fn replace<L: RBTreeOps, E: TreeHead>(
     new: Place,
 ) -> bool
     requires covered { IsCovered (L.table links.old) new }
-    requires member { (gap : Cut) × ShowsKept E.kept L.node (L.table links.old) head.old (join gap) × IsBefore gap (Some place) }
-    ensures replaced { (gap : Cut) → ShowsKept E.kept L.node (L.table links.old) head.old (join gap) → IsBefore gap (Some place)
-        → OnTrue result (Replaces (ShowsKept E.kept L.node) (L.table links.old) (L.table links.new) head.new gap new) }
-    ensures exchanged { OnTrue result (L.Does links.old links.new (acquires new ∷ releases place ∷ [])) }
+    requires member { (gap : Cut) × RepresentsKept E.kept L.node (L.table links.old) head.old (join gap) × IsBefore gap (Some place) }
+    ensures replaced { (gap : Cut) → RepresentsKept E.kept L.node (L.table links.old) head.old (join gap) → IsBefore gap (Some place)
+        → OnTrue result (Replaces (RepresentsKept E.kept L.node) (L.table links.old) (L.table links.new) head.new gap new) }
+    ensures exchanged { OnTrue result (L.Trace links.old links.new (acquires new ∷ releases place ∷ [])) }
     ensures refused { OnFalse result (L.Refused links.old links.new new) }
     ensures unchanged { OnFalse result (head.new ≡ head.old) }
 {

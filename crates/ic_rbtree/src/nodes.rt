@@ -19,7 +19,7 @@ use ic_unsafe_ref::Place;
 /// Entries that name two children and a parent and have a color, for whoever keeps them: what the surgery of a tree requires.
 ///
 /// Every table of tree links is one. It links and unlinks no place.
-pub trait Nodes {
+pub trait NodeStore {
     /// All that is kept at a place.
     type Entry;
 
@@ -30,7 +30,7 @@ pub trait Nodes {
     ghost node: { Self.Entry → Node };
 
     // From the one state to the other nothing was done but to set what nodes say.
-    ghost Quiet: { Self → Self → Type 0 };
+    ghost KeepsLinks: { Self → Self → Type 0 };
 
     /// The left child of `place`. It requires that the place is linked. O(1).
     fn left(&self, place: Place) -> Option<Place>
@@ -72,7 +72,7 @@ pub trait Nodes {
         requires named { IsNamed node (table self.old) left }
         ensures set { node_at node (table self.new) place ≡ record (node_at node (table self.old) place) { left = left } }
         ensures frame { ChangesOnly (table self.old) (table self.new) place }
-        ensures quiet { Quiet self.old self.new };
+        ensures keeps_links { KeepsLinks self.old self.new };
 
     /// Sets the right child of `place`. It requires that the place is linked, and what it names too. O(1).
     fn set_right(&mut self, place: Place, right: Option<Place>)
@@ -80,7 +80,7 @@ pub trait Nodes {
         requires named { IsNamed node (table self.old) right }
         ensures set { node_at node (table self.new) place ≡ record (node_at node (table self.old) place) { right = right } }
         ensures frame { ChangesOnly (table self.old) (table self.new) place }
-        ensures quiet { Quiet self.old self.new };
+        ensures keeps_links { KeepsLinks self.old self.new };
 
     /// Sets the parent of `place`. It requires that the place is linked, and what it names too. O(1).
     fn set_parent(&mut self, place: Place, parent: Option<Place>)
@@ -88,14 +88,14 @@ pub trait Nodes {
         requires named { IsNamed node (table self.old) parent }
         ensures set { node_at node (table self.new) place ≡ record (node_at node (table self.old) place) { parent = parent } }
         ensures frame { ChangesOnly (table self.old) (table self.new) place }
-        ensures quiet { Quiet self.old self.new };
+        ensures keeps_links { KeepsLinks self.old self.new };
 
     /// Sets the color of `place`. It requires that the place is linked. O(1).
     fn set_color(&mut self, place: Place, color: Color)
         requires linked { IsNode node (table self.old) place }
         ensures set { node_at node (table self.new) place ≡ record (node_at node (table self.old) place) { color = color } }
         ensures frame { ChangesOnly (table self.old) (table self.new) place }
-        ensures quiet { Quiet self.old self.new };
+        ensures keeps_links { KeepsLinks self.old self.new };
 
     /// Sets the parent and the color of `place`, at once. It requires that the place is linked, and what it names too. O(1).
     fn set_parent_and_color(&mut self, place: Place, parent: Option<Place>, color: Color)
@@ -103,18 +103,18 @@ pub trait Nodes {
         requires named { IsNamed node (table self.old) parent }
         ensures set { node_at node (table self.new) place ≡ record (node_at node (table self.old) place) { parent = parent; color = color } }
         ensures frame { ChangesOnly (table self.old) (table self.new) place }
-        ensures quiet { Quiet self.old self.new };
+        ensures keeps_links { KeepsLinks self.old self.new };
 
     // The laws: what stays is quiet, quiet changes are quiet together, and they link and unlink no place.
-    ghost quiet_still: { (t : Self) → Quiet t t };
+    ghost keeps_links_still: { (t : Self) → KeepsLinks t t };
 
-    ghost quiet_on: { (a b c : Self) → Quiet a b → Quiet b c → Quiet a c };
+    ghost keeps_links_on: { (a b c : Self) → KeepsLinks a b → KeepsLinks b c → KeepsLinks a c };
 
-    ghost quiet_keeps: { (old new : Self) → Quiet old new → KeepsNodes node (table old) (table new) };
+    ghost keeps_links_keeps: { (old new : Self) → KeepsLinks old new → KeepsNodes node (table old) (table new) };
 }
 
-impl<L: RBTreeOps> Nodes for L {
-    ghost use Rattle.ic_rbtree.specs.Steps.{TakesNoStep};
+impl<L: RBTreeOps> NodeStore for L {
+    ghost use Rattle.ic_rbtree.specs.Steps.{TraceStays};
     ghost use Rattle.std.proofs.Common.{sym, ◌∙◌};
 
     type Entry = L::Entry;
@@ -123,7 +123,7 @@ impl<L: RBTreeOps> Nodes for L {
 
     ghost node = { L.node };
 
-    ghost Quiet = { TakesNoStep L.Does };
+    ghost KeepsLinks = { TraceStays L.Trace };
 
     #[inline]
     fn left(&self, place: Place) -> Option<Place> {
@@ -170,10 +170,10 @@ impl<L: RBTreeOps> Nodes for L {
         RBTreeOps::set_parent_and_color(self, place, parent, color);
     }
 
-    ghost quiet_still = { λ t start s d. d };
+    ghost keeps_links_still = { λ t start s d. d };
 
-    ghost quiet_on = { λ a b c x y start s d. y start s (x start s d) };
+    ghost keeps_links_on = { λ a b c x y start s d. y start s (x start s d) };
 
-    ghost quiet_keeps = { λ old new same q. L.linked_alike ((L.table new).entry q)
+    ghost keeps_links_keeps = { λ old new same q. L.linked_alike ((L.table new).entry q)
         ∙ (L.does_replay old new [] (same old [] (L.does_nothing old)) q ∙ sym (L.linked_alike ((L.table old).entry q))) };
 }

@@ -1,4 +1,4 @@
-//! Members that leave at an end, and one that comes behind all others: no key is looked at.
+//! Members that leave at an end, and one that comes after all others: no key is looked at.
 //!
 //! ```text
 //! let due = timers.pop_front(&mut links);
@@ -6,12 +6,9 @@
 //! ```
 
 ghost use Rattle.std.specs.Prelude.{◌≡◌, OnOk, OnErr, IfErr, IfSome, IfNone, List, [], ◌∷◌};
-ghost use Rattle.ic_unsafe_ref.specs.declared.place.Place.{Place};
+ghost use Rattle.ic_link_ops.specs.Prelude.{Place, first, last, at_front, at_back, remove, but_last, IsCovered, ChangesOnlyIn, acquires, releases};
 ghost use Rattle.ic_link_ops.specs.Edits.{Inserts};
-ghost use Rattle.ic_link_ops.specs.LinkSteps.{acquires, releases};
-ghost use Rattle.ic_link_ops.specs.Sequences.{first, last, at_front, at_back, remove, but_last};
-ghost use Rattle.ic_link_ops.specs.Tables.{IsCovered, KeepsBeside};
-ghost use Rattle.ic_rbtree.specs.Kept.{ShowsKept, ShowsKeptSome};
+ghost use Rattle.ic_rbtree.specs.Kept.{RepresentsKept, RepresentsKeptSome};
 ghost use Rattle.ic_rbtree.specs.Tree.{head_of, adapter_of};
 
 use crate::head::TreeHead;
@@ -26,15 +23,15 @@ impl<A: KeyAdapter, E: TreeHead> RBTree<A, E> {
     /// the ends are kept, since it makes no descent then.
     #[inline]
     pub fn pop_front<L: RBTreeOps>(&mut self, links: &mut L) -> Option<UnsafeRef<A::Value>>
-        requires shown { ShowsKeptSome E.kept L.node (L.table links.old) (head_of self.old) }
-        ensures answer { (s : List Place) → ShowsKept E.kept L.node (L.table links.old) (head_of self.old) s → result ≡ first s }
-        ensures removed { (s : List Place) → ShowsKept E.kept L.node (L.table links.old) (head_of self.old) s
-            → ShowsKept E.kept L.node (L.table links.new) (head_of self.new) (remove (at_front s)) }
-        ensures released { IfSome result (λ object. L.Does links.old links.new (releases object ∷ [])) }
+        requires shown { RepresentsKeptSome E.kept L.node (L.table links.old) (head_of self.old) }
+        ensures answer { (s : List Place) → RepresentsKept E.kept L.node (L.table links.old) (head_of self.old) s → result ≡ first s }
+        ensures removed { (s : List Place) → RepresentsKept E.kept L.node (L.table links.old) (head_of self.old) s
+            → RepresentsKept E.kept L.node (L.table links.new) (head_of self.new) (remove (at_front s)) }
+        ensures released { IfSome result (λ object. L.Trace links.old links.new (releases object ∷ [])) }
         ensures empty { IfNone result ((self.new ≡ self.old) × (links.new ≡ links.old)) }
         ensures adapter { adapter_of self.new ≡ adapter_of self.old }
-        ensures frame { (s : List Place) → ShowsKept E.kept L.node (L.table links.old) (head_of self.old) s
-            → KeepsBeside (L.table links.old) (L.table links.new) s }
+        ensures frame { (s : List Place) → RepresentsKept E.kept L.node (L.table links.old) (head_of self.old) s
+            → ChangesOnlyIn (L.table links.old) (L.table links.new) s }
     {
         let object = UnsafeRef::new(self.first(&*links)?);
         self.remove(links, &object);
@@ -44,22 +41,22 @@ impl<A: KeyAdapter, E: TreeHead> RBTree<A, E> {
     /// Takes the last object off the tree and returns it, `None` if the tree is empty. O(log n), as [`pop_front`](Self::pop_front).
     #[inline]
     pub fn pop_back<L: RBTreeOps>(&mut self, links: &mut L) -> Option<UnsafeRef<A::Value>>
-        requires shown { ShowsKeptSome E.kept L.node (L.table links.old) (head_of self.old) }
-        ensures answer { (s : List Place) → ShowsKept E.kept L.node (L.table links.old) (head_of self.old) s → result ≡ last s }
-        ensures removed { (s : List Place) → ShowsKept E.kept L.node (L.table links.old) (head_of self.old) s
-            → ShowsKept E.kept L.node (L.table links.new) (head_of self.new) (but_last s) }
-        ensures released { IfSome result (λ object. L.Does links.old links.new (releases object ∷ [])) }
+        requires shown { RepresentsKeptSome E.kept L.node (L.table links.old) (head_of self.old) }
+        ensures answer { (s : List Place) → RepresentsKept E.kept L.node (L.table links.old) (head_of self.old) s → result ≡ last s }
+        ensures removed { (s : List Place) → RepresentsKept E.kept L.node (L.table links.old) (head_of self.old) s
+            → RepresentsKept E.kept L.node (L.table links.new) (head_of self.new) (but_last s) }
+        ensures released { IfSome result (λ object. L.Trace links.old links.new (releases object ∷ [])) }
         ensures empty { IfNone result ((self.new ≡ self.old) × (links.new ≡ links.old)) }
         ensures adapter { adapter_of self.new ≡ adapter_of self.old }
-        ensures frame { (s : List Place) → ShowsKept E.kept L.node (L.table links.old) (head_of self.old) s
-            → KeepsBeside (L.table links.old) (L.table links.new) s }
+        ensures frame { (s : List Place) → RepresentsKept E.kept L.node (L.table links.old) (head_of self.old) s
+            → ChangesOnlyIn (L.table links.old) (L.table links.new) s }
     {
         let object = UnsafeRef::new(self.last(&*links)?);
         self.remove(links, &object);
         Some(object)
     }
 
-    /// Inserts the object behind all others, whatever its key is, unless its link is refused. It makes no look. O(log n), and O(1) on
+    /// Inserts the object after all others, whatever its key is, unless its link is refused. It makes no look. O(log n), and O(1) on
     /// average over inserts where the ends are kept, since it makes no descent then.
     ///
     /// It requires that the object's place is covered. A refused object comes back, and the tree and its links are as they were.
@@ -70,10 +67,10 @@ impl<A: KeyAdapter, E: TreeHead> RBTree<A, E> {
         object: UnsafeRef<A::Value>,
     ) -> Result<(), AlreadyLinked<A::Value>>
         requires covered { IsCovered (L.table links.old) object }
-        requires shown { ShowsKeptSome E.kept L.node (L.table links.old) (head_of self.old) }
-        ensures inserted { (s : List Place) → ShowsKept E.kept L.node (L.table links.old) (head_of self.old) s → OnOk result
-            (Inserts (ShowsKept E.kept L.node) (L.table links.old) (L.table links.new) (head_of self.new) (at_back s) object) }
-        ensures acquired { OnOk result (L.Does links.old links.new (acquires object ∷ [])) }
+        requires shown { RepresentsKeptSome E.kept L.node (L.table links.old) (head_of self.old) }
+        ensures inserted { (s : List Place) → RepresentsKept E.kept L.node (L.table links.old) (head_of self.old) s → OnOk result
+            (Inserts (RepresentsKept E.kept L.node) (L.table links.old) (L.table links.new) (head_of self.new) (at_back s) object) }
+        ensures acquired { OnOk result (L.Trace links.old links.new (acquires object ∷ [])) }
         ensures adapter { adapter_of self.new ≡ adapter_of self.old }
         ensures refused { OnErr result (L.Refused links.old links.new object) }
         ensures unchanged { IfErr result (λ refused. (refused.0 ≡ object) × (self.new ≡ self.old)) }

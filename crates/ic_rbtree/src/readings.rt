@@ -11,7 +11,7 @@ ghost use Rattle.ic_rbtree.specs.Insertion.{color_below, are_across};
 ghost use Rattle.ic_rbtree.specs.Steps.{IsSideOf};
 ghost use Rattle.ic_rbtree.specs.Closed.{IsNode};
 
-use crate::nodes::Nodes;
+use crate::nodes::NodeStore;
 use ic_link_ops::{Color, PlaceWord, Side};
 use ic_unsafe_ref::Place;
 
@@ -24,7 +24,7 @@ pub(crate) fn other(side: Side) -> Side
     }
 }
 
-pub(crate) fn child<N: Nodes>(links: &N, place: Place, side: Side) -> Option<Place>
+pub(crate) fn child<N: NodeStore>(links: &N, place: Place, side: Side) -> Option<Place>
     requires { IsNode N.node (N.table links.now) place }
     ensures { result ≡ child_on side (node_at N.node (N.table links.now) place) }
 {
@@ -42,7 +42,7 @@ pub(crate) fn is_at(end: Option<Place>, place: Place) -> bool
     Place::to_word(end) == Place::to_word(Some(place))
 }
 
-pub(crate) fn is_red<N: Nodes>(links: &N, place: Option<Place>) -> bool
+pub(crate) fn is_red<N: NodeStore>(links: &N, place: Option<Place>) -> bool
     requires { (q : Place) → place ≡ Some q → IsNode N.node (N.table links.now) q }
     ensures { result ≡ red_at N.node (N.table links.now) place }
 {
@@ -55,7 +55,7 @@ pub(crate) fn is_red<N: Nodes>(links: &N, place: Option<Place>) -> bool
     }
 }
 
-pub(crate) fn has_red_child<N: Nodes>(links: &N, place: Place) -> bool
+pub(crate) fn has_red_child<N: NodeStore>(links: &N, place: Place) -> bool
     requires { AreRead N.node (N.table links.now) place }
     ensures { result ≡ red_below N.node (N.table links.now) place }
 {
@@ -63,7 +63,7 @@ pub(crate) fn has_red_child<N: Nodes>(links: &N, place: Place) -> bool
 }
 
 // The left child, or else the right one.
-pub(crate) fn only_child<N: Nodes>(links: &N, place: Place) -> Option<Place>
+pub(crate) fn only_child<N: NodeStore>(links: &N, place: Place) -> Option<Place>
     requires { IsNode N.node (N.table links.now) place }
     ensures { result ≡ or_else (node_at N.node (N.table links.now) place).left
         (node_at N.node (N.table links.now) place).right }
@@ -77,7 +77,7 @@ pub(crate) fn only_child<N: Nodes>(links: &N, place: Place) -> Option<Place>
 }
 
 /// On which side of its parent a member stands.
-pub(crate) fn side_of<N: Nodes>(links: &N, place: Place, parent: Place) -> Side
+pub(crate) fn side_of<N: NodeStore>(links: &N, place: Place, parent: Place) -> Side
     requires { IsNode N.node (N.table links.now) parent }
     ensures { IsSideOf N.node (N.table links.now) place parent result }
 {
@@ -88,7 +88,7 @@ pub(crate) fn side_of<N: Nodes>(links: &N, place: Place, parent: Place) -> Side
     }
 }
 
-pub(crate) fn side_below<N: Nodes>(links: &N, place: Place, parent: Option<Place>) -> Side
+pub(crate) fn side_below<N: NodeStore>(links: &N, place: Place, parent: Option<Place>) -> Side
     requires { (q : Place) → parent ≡ Some q → IsNode N.node (N.table links.now) q }
     ensures { IsSideBelow N.node (N.table links.now) place parent result }
 {
@@ -99,7 +99,7 @@ pub(crate) fn side_below<N: Nodes>(links: &N, place: Place, parent: Option<Place
 }
 
 // The right child of a member that has both.
-pub(crate) fn second_child<N: Nodes>(links: &N, place: Place) -> Option<Place>
+pub(crate) fn second_child<N: NodeStore>(links: &N, place: Place) -> Option<Place>
     requires { IsNode N.node (N.table links.now) place }
     ensures { result ≡ both_of (node_at N.node (N.table links.now) place).left
         (node_at N.node (N.table links.now) place).right }
@@ -111,7 +111,7 @@ pub(crate) fn second_child<N: Nodes>(links: &N, place: Place) -> Option<Place>
 }
 
 // Red below a parent, and black at the root.
-pub(crate) fn color_here<N: Nodes>(links: &N, place: Place) -> Color
+pub(crate) fn color_here<N: NodeStore>(links: &N, place: Place) -> Color
     requires { IsNode N.node (N.table links.now) place }
     ensures { result ≡ color_below (node_at N.node (N.table links.now) place).parent }
 {

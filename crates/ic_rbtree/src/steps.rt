@@ -4,13 +4,11 @@
 //! outermost one below that child; beside one without stands the lowest member above, on the other side of which it is.
 
 ghost use Rattle.std.specs.Prelude.{◌≡◌, List, Option, Some, None};
-ghost use Rattle.ic_unsafe_ref.specs.declared.place.Place.{Place};
-ghost use Rattle.ic_link_ops.specs.Sequences.{Cut, join};
+ghost use Rattle.ic_link_ops.specs.Prelude.{Place, Cut, join, site, IsValidCursor};
 ghost use Rattle.ic_link_ops.specs.Frames.{across};
-ghost use Rattle.ic_link_ops.specs.RedBlackTree.{Shows, ShowsSome};
-ghost use Rattle.ic_link_ops.specs.Positions.{site, Stands};
-ghost use Rattle.ic_rbtree.specs.Insertion.{IsHole};
-ghost use Rattle.ic_rbtree.specs.Sides.{IsBeside, nearest, StandsAt, IsOutermost, IsNearestAbove};
+ghost use Rattle.ic_link_ops.specs.RedBlackTree.{Represents, RepresentsSome};
+ghost use Rattle.ic_rbtree.specs.Insertion.{IsInsertPos};
+ghost use Rattle.ic_rbtree.specs.Sides.{IsBeside, nearest, IsInTree, IsOutermost, IsNearestAbove};
 
 use crate::readings::{child, is_at, other};
 use ic_link_ops::rbtree::RBTreeOps;
@@ -20,7 +18,7 @@ use ic_unsafe_ref::Place;
 // The member at or below a place that stands outermost on a side.
 #[inline]
 pub(crate) fn outermost<L: RBTreeOps>(links: &L, place: Place, side: Side) -> Place
-    requires { StandsAt L.node (L.table links.now) place }
+    requires { IsInTree L.node (L.table links.now) place }
     ensures { IsOutermost L.node (L.table links.now) place side result }
 {
     let mut place = place;
@@ -33,7 +31,7 @@ pub(crate) fn outermost<L: RBTreeOps>(links: &L, place: Place, side: Side) -> Pl
 // The lowest member above a place that stands on this side of it, `None` if there is none.
 #[inline]
 pub(crate) fn above_on<L: RBTreeOps>(links: &L, place: Place, side: Side) -> Option<Place>
-    requires { StandsAt L.node (L.table links.now) place }
+    requires { IsInTree L.node (L.table links.now) place }
     ensures { IsNearestAbove L.node (L.table links.now) place side result }
 {
     let mut place = place;
@@ -51,8 +49,8 @@ pub(crate) fn above_on<L: RBTreeOps>(links: &L, place: Place, side: Side) -> Opt
 // The outermost member on a side, `None` in an empty tree.
 #[inline]
 pub(crate) fn end_on<L: RBTreeOps>(links: &L, root: Option<Place>, side: Side) -> Option<Place>
-    requires shown { ShowsSome L.node (L.table links.now) root }
-    ensures end { (s : List Place) → Shows L.node (L.table links.now) root s → result ≡ nearest (across side) s }
+    requires shown { RepresentsSome L.node (L.table links.now) root }
+    ensures end { (s : List Place) → Represents L.node (L.table links.now) root s → result ≡ nearest (across side) s }
 {
     Some(outermost(links, root?, side))
 }
@@ -62,8 +60,8 @@ pub(crate) fn end_on<L: RBTreeOps>(links: &L, root: Option<Place>, side: Side) -
 #[cold]
 #[inline(never)]
 fn end_from_null<L: RBTreeOps>(links: &L, root: Option<Place>, side: Side) -> Option<Place>
-    requires shown { ShowsSome L.node (L.table links.now) root }
-    ensures end { (s : List Place) → Shows L.node (L.table links.now) root s → result ≡ nearest (across side) s }
+    requires shown { RepresentsSome L.node (L.table links.now) root }
+    ensures end { (s : List Place) → Represents L.node (L.table links.now) root s → result ≡ nearest (across side) s }
 {
     end_on(links, root, side)
 }
@@ -76,8 +74,8 @@ pub(crate) fn step<L: RBTreeOps>(
     current: Option<Place>,
     side: Side,
 ) -> Option<Place>
-    requires stands { Stands (Shows L.node) L.table (site links.now root current) }
-    ensures leads { (gap : Cut) → Shows L.node (L.table links.now) root (join gap) → IsBeside side gap current
+    requires stands { IsValidCursor (Represents L.node) L.table (site links.now root current) }
+    ensures leads { (gap : Cut) → Represents L.node (L.table links.now) root (join gap) → IsBeside side gap current
         → IsBeside (across side) gap result }
 {
     let Some(place) = current else {
@@ -98,9 +96,9 @@ pub(crate) fn hole_beside<L: RBTreeOps>(
     current: Option<Place>,
     side: Side,
 ) -> (Option<Place>, Side)
-    requires stands { Stands (Shows L.node) L.table (site links.now root current) }
-    ensures { (gap : Cut) → Shows L.node (L.table links.now) root (join gap) → IsBeside side gap current
-        → IsHole L.node (L.table links.now) result.0 result.1 gap }
+    requires stands { IsValidCursor (Represents L.node) L.table (site links.now root current) }
+    ensures { (gap : Cut) → Represents L.node (L.table links.now) root (join gap) → IsBeside side gap current
+        → IsInsertPos L.node (L.table links.now) result.0 result.1 gap }
 {
     let below = match current {
         None => root,

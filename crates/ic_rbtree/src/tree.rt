@@ -6,16 +6,14 @@
 //! ```
 
 ghost use Rattle.std.specs.Prelude.{◌≡◌, ◌≢◌, ◌↔◌, Bool, Some, None, List, [], ◌∷◌, ◌++◌, IsTrue};
-ghost use Rattle.ic_unsafe_ref.specs.declared.place.Place.{Place};
+ghost use Rattle.ic_link_ops.specs.Prelude.{Place, Cut, join, insert, IsDistinct, RepresentsPlaced};
 ghost use Rattle.ic_link_ops.specs.Frames.{across};
-ghost use Rattle.ic_link_ops.specs.PlacedObjects.{ShowsPlaced};
-ghost use Rattle.ic_link_ops.specs.RedBlackTree.{Shows, ShowsSome};
-ghost use Rattle.ic_link_ops.specs.Sequences.{Cut, join, insert, IsDistinct};
+ghost use Rattle.ic_link_ops.specs.RedBlackTree.{Represents, RepresentsSome};
 ghost use Rattle.ic_rbtree.specs.Closed.{IsIn, IsClosed, IsSafe, IsSafeBut, StaysClosed, ClosesAt, KeepsNodes};
 ghost use Rattle.ic_rbtree.specs.Comparing.{compared, HasRoom, Looks};
 ghost use Rattle.ic_rbtree.specs.Descents.{EndsAt};
 ghost use Rattle.ic_rbtree.specs.Insertion.{Attaches};
-ghost use Rattle.ic_rbtree.specs.Kept.{no_ends, TellsEnds, IsEmptied, IsBelow, ShowsWithEnds};
+ghost use Rattle.ic_rbtree.specs.Kept.{no_ends, TellsEnds, IsEmptied, IsBelow, RepresentsWithEnds};
 ghost use Rattle.ic_rbtree.specs.Sides.{IsBeside};
 ghost use Rattle.ic_rbtree.specs.Transplants.{TakesAway, TakesPlace};
 ghost use Rattle.ic_rbtree.specs.Tree.{head_of, root_in, root_of, ends_of, adapter_of};
@@ -23,7 +21,7 @@ ghost use Rattle.ic_rbtree.specs.Tree.{head_of, root_in, root_of, ends_of, adapt
 use crate::Probe;
 use crate::head::{Root, TreeHead, WithEnds};
 use crate::keys::descent::{Descent, descend};
-use crate::nodes::Nodes;
+use crate::nodes::NodeStore;
 use crate::within::step_within;
 use ic_link_ops::Side;
 use ic_link_ops::rbtree::RBTreeOps;
@@ -31,7 +29,7 @@ use ic_unsafe_ref::{Place, Values};
 
 /// A red-black tree of objects in an order, of which it keeps the root, and the adapter that finds their keys.
 ///
-/// Good for objects in order that come and leave anywhere. Which sequence it has is what the table shows for its root. What it keeps beside
+/// Good for objects in order that come and leave anywhere. Which sequence it has is what the table represents for its root. What it keeps beside
 /// the root is a parameter: nothing, or with [`WithEnds`](crate::WithEnds) its first and its last member.
 pub struct RBTree<A, E = Root> {
     pub(crate) head: E,
@@ -60,7 +58,7 @@ impl<A: Default, E: TreeHead> Default for RBTree<A, E> {
 }
 
 impl<A> RBTree<A> {
-    /// An empty tree with this adapter: every table shows the empty sequence for it.
+    /// An empty tree with this adapter: every table represents the empty sequence for it.
     pub fn new(adapter: A) -> RBTree<A>
         ensures empty { root_of result ≡ None }
         ensures adapter { adapter_of result ≡ adapter }
@@ -82,11 +80,11 @@ impl<A> RBTree<A> {
         }
     }
 
-    /// The tree with its ends, which are read from the table. It requires that the tree is shown. O(log n).
+    /// The tree with its ends, which are read from the table. It requires that the tree is represented. O(log n).
     pub fn keep_ends<L: RBTreeOps>(self, links: &L) -> RBTree<A, WithEnds>
-        requires shown { ShowsSome L.node (L.table links.now) (root_of self) }
+        requires shown { RepresentsSome L.node (L.table links.now) (root_of self) }
         ensures root { (ends_of result).root ≡ root_of self }
-        ensures ends { (s : List Place) → Shows L.node (L.table links.now) (root_of self) s → ShowsWithEnds L.node (L.table links.now) (ends_of result) s }
+        ensures ends { (s : List Place) → Represents L.node (L.table links.now) (root_of self) s → RepresentsWithEnds L.node (L.table links.now) (ends_of result) s }
         ensures adapter { adapter_of result ≡ adapter_of self }
     {
         let first = self.head.end(links, Side::Left);
@@ -100,7 +98,7 @@ impl<A> RBTree<A> {
 }
 
 impl<A> RBTree<A, WithEnds> {
-    /// An empty tree with this adapter that keeps its ends: every table shows the empty sequence for it.
+    /// An empty tree with this adapter that keeps its ends: every table represents the empty sequence for it.
     pub fn with_ends(adapter: A) -> RBTree<A, WithEnds>
         ensures empty { ends_of result ≡ no_ends }
         ensures adapter { adapter_of result ≡ adapter }
@@ -167,7 +165,7 @@ impl<A, E: TreeHead> RBTree<A, E> {
     ///
     /// It requires a set that has `place` and `parent` and is closed, but that `place` may lead anywhere. It ends and leaves that
     /// set closed whatever the words say, and of a tree it makes one with `place`. O(log n).
-    pub fn attach<N: Nodes>(
+    pub fn attach<N: NodeStore>(
         &mut self,
         nodes: &mut N,
         parent: Option<Place>,
@@ -180,7 +178,7 @@ impl<A, E: TreeHead> RBTree<A, E> {
         ensures linked { KeepsNodes N.node (N.table nodes.old) (N.table nodes.new) }
         ensures ends { (gap : Cut) → IsBelow parent side gap → IsDistinct (join gap) → TellsEnds (E.kept (head_of self.old)) (join gap)
             → TellsEnds (E.kept (head_of self.new)) (insert gap place) }
-        ensures quiet { N.Quiet nodes.old nodes.new }
+        ensures keeps_links { N.KeepsLinks nodes.old nodes.new }
         ensures adapter { adapter_of self.new ≡ adapter_of self.old }
     {
         self.head.attach(nodes, parent, side, place);
@@ -190,14 +188,14 @@ impl<A, E: TreeHead> RBTree<A, E> {
     ///
     /// It requires a closed set that has `place`. It ends and leaves that set closed whatever the words say, and of a tree it makes
     /// one without `place`. O(log n).
-    pub fn unlink<N: Nodes>(&mut self, nodes: &mut N, place: Place)
+    pub fn unlink<N: NodeStore>(&mut self, nodes: &mut N, place: Place)
         requires { IsSafe N.node (N.table nodes.old) (root_in E.kept self.old) (Some place ∷ []) }
         ensures taken { TakesAway N.node (N.table nodes.old) (N.table nodes.new) (root_in E.kept self.old) (root_in E.kept self.new) place }
         ensures safe { StaysClosed N.node (N.table nodes.old) (N.table nodes.new) (root_in E.kept self.old) (root_in E.kept self.new) (Some place ∷ []) [] }
         ensures linked { KeepsNodes N.node (N.table nodes.old) (N.table nodes.new) }
-        ensures ends { (front back : List Place) → Shows N.node (N.table nodes.old) (root_in E.kept self.old) (front ++ place ∷ back)
+        ensures ends { (front back : List Place) → Represents N.node (N.table nodes.old) (root_in E.kept self.old) (front ++ place ∷ back)
             → TellsEnds (E.kept (head_of self.old)) (front ++ place ∷ back) → TellsEnds (E.kept (head_of self.new)) (front ++ back) }
-        ensures quiet { N.Quiet nodes.old nodes.new }
+        ensures keeps_links { N.KeepsLinks nodes.old nodes.new }
         ensures adapter { adapter_of self.new ≡ adapter_of self.old }
     {
         self.head.unlink(nodes, place);
@@ -207,7 +205,7 @@ impl<A, E: TreeHead> RBTree<A, E> {
     ///
     /// It requires two places, and for a set that has both and is closed, but that `new` may lead anywhere. It leaves that set closed
     /// whatever the words say, and of a tree it makes one with `new` where `place` was. O(1).
-    pub fn take_place<N: Nodes>(&mut self, nodes: &mut N, place: Place, new: Place)
+    pub fn take_place<N: NodeStore>(&mut self, nodes: &mut N, place: Place, new: Place)
         requires safe { IsSafeBut N.node (N.table nodes.old) (root_in E.kept self.old) new (Some place ∷ Some new ∷ []) }
         requires apart { place ≢ new }
         ensures taken { TakesPlace N.node (N.table nodes.old) (N.table nodes.new) (root_in E.kept self.old) (root_in E.kept self.new) place new }
@@ -215,7 +213,7 @@ impl<A, E: TreeHead> RBTree<A, E> {
         ensures linked { KeepsNodes N.node (N.table nodes.old) (N.table nodes.new) }
         ensures ends { (front back : List Place) → IsDistinct (front ++ place ∷ back) → TellsEnds (E.kept (head_of self.old)) (front ++ place ∷ back)
             → TellsEnds (E.kept (head_of self.new)) (front ++ new ∷ back) }
-        ensures quiet { N.Quiet nodes.old nodes.new }
+        ensures keeps_links { N.KeepsLinks nodes.old nodes.new }
         ensures adapter { adapter_of self.new ≡ adapter_of self.old }
     {
         self.head.take_place(nodes, place, new);
@@ -226,15 +224,15 @@ impl<A, E: TreeHead> RBTree<A, E> {
     ///
     /// It requires a closed set that has the position. It ends whatever the words say. O(log n), and O(1) on average over a walk.
     #[inline]
-    pub fn step<N: Nodes>(&self, nodes: &N, current: Option<Place>, side: Side) -> Option<Place>
+    pub fn step<N: NodeStore>(&self, nodes: &N, current: Option<Place>, side: Side) -> Option<Place>
         requires { IsSafe N.node (N.table nodes.now) (root_in E.kept self.now) (current ∷ []) }
-        ensures { (gap : Cut) → Shows N.node (N.table nodes.now) (root_in E.kept self.now) (join gap) → IsBeside side gap current
+        ensures { (gap : Cut) → Represents N.node (N.table nodes.now) (root_in E.kept self.now) (join gap) → IsBeside side gap current
             → IsBeside (across side) gap result }
     {
         step_within(nodes, self.head.root(), current, side)
     }
 
-    /// Goes down from the root to the gap to which a probe sends: behind the members that are less than what is searched, in front of
+    /// Goes down from the root to the gap to which a probe sends: after the members that are less than what is searched, before
     /// those that are greater, and past equal ones to the side `equals`.
     ///
     /// It requires that an object stands at each member, and that the probe's count is at most `u64::MAX - 66`. O(log n): v looks in a
@@ -247,11 +245,11 @@ impl<A, E: TreeHead> RBTree<A, E> {
         probe: &mut P,
         equals: Side,
     ) -> Descent
-        requires placed { ShowsPlaced (Shows L.node (L.table links.now) (root_in E.kept self.now)) (O.values values.now) }
+        requires placed { RepresentsPlaced (Represents L.node (L.table links.now) (root_in E.kept self.now)) (O.values values.now) }
         requires room { HasRoom (P.count probe.old) }
-        ensures ends { (s : List Place) (h : Shows L.node (L.table links.now) (root_in E.kept self.now) s)
+        ensures ends { (s : List Place) (h : Represents L.node (L.table links.now) (root_in E.kept self.now) s)
             → EndsAt L.node (L.table links.now) (compared (P.order probe.old) (O.values values.now)) equals h.tree result }
-        ensures looks { (s : List Place) → Shows L.node (L.table links.now) (root_in E.kept self.now) s
+        ensures looks { (s : List Place) → Represents L.node (L.table links.now) (root_in E.kept self.now) s
             → Looks P.order P.count probe.old probe.new s }
     {
         descend(links, self.head.root(), values, probe, equals)

@@ -10,25 +10,23 @@
 //! ```
 
 ghost use Rattle.std.specs.Prelude.{◌≡◌, ◌≤◌, ◌+◌, ◌-◌, Option, Some, None, List, length};
-ghost use Rattle.ic_unsafe_ref.specs.declared.place.Place.{Place};
+ghost use Rattle.ic_link_ops.specs.Prelude.{Place, IsAbsent, at_back, Table};
 ghost use Rattle.ic_link_ops.specs.Chains.{list_head, end_of};
 ghost use Rattle.ic_link_ops.specs.Edits.{Inserts};
-ghost use Rattle.ic_link_ops.specs.Sequences.{IsAbsent, at_back};
 ghost use Rattle.ic_link_ops.specs.Shape.{weight};
 ghost use Rattle.ic_link_ops.specs.SinglyLinkedList.{IsWalk};
-ghost use Rattle.ic_link_ops.specs.Tables.{Table};
 ghost use Rattle.ic_link_ops.specs.Trees.{Tree, in_order};
 ghost use Rattle.ic_rbtree.specs.Closed.{IsNode, IsNamed};
 ghost use Rattle.ic_rbtree.specs.Height.{height};
-ghost use Rattle.ic_rbtree.specs.Vines.{along, ShowsVine, IsVineOf, IsTreeOf, BecomesTree, BecomesVine};
+ghost use Rattle.ic_rbtree.specs.Vines.{along, RepresentsVine, IsVineOf, IsTreeOf, BecomesTree, BecomesVine};
 
-use crate::nodes::Nodes;
+use crate::nodes::NodeStore;
 use crate::repair::writers::{adopt, set_node};
 use ic_link_ops::{Color, PlaceWord};
 use ic_unsafe_ref::Place;
 
 // How many members a vine has from its first one on.
-pub(crate) fn vine_length<N: Nodes>(links: &N, first: Option<Place>) -> u64
+pub(crate) fn vine_length<N: NodeStore>(links: &N, first: Option<Place>) -> u64
     requires { (s : List Place) × IsWalk (along N.node) (Table.entry (N.table links.now)) first s }
     ensures { (s : List Place) → IsWalk (along N.node) (Table.entry (N.table links.now)) first s → result ≡ length s }
 {
@@ -43,17 +41,17 @@ pub(crate) fn vine_length<N: Nodes>(links: &N, first: Option<Place>) -> u64
 }
 
 // A linked place becomes the last of a vine that ended with `back`.
-pub(crate) fn hang_behind<N: Nodes>(
+pub(crate) fn hang_after<N: NodeStore>(
     links: &mut N,
     front: &mut PlaceWord,
     back: Option<Place>,
     place: Place,
 )
     requires linked { IsNode N.node (N.table links.old) place }
-    requires shown { (s : List Place) × ShowsVine N.node (N.table links.old) (list_head front.old back) s }
-    ensures hung { (s : List Place) → ShowsVine N.node (N.table links.old) (list_head front.old back) s → IsAbsent place s
-        → Inserts (ShowsVine N.node) (N.table links.old) (N.table links.new) (list_head front.new (Some place)) (at_back s) place }
-    ensures quiet { N.Quiet links.old links.new }
+    requires shown { (s : List Place) × RepresentsVine N.node (N.table links.old) (list_head front.old back) s }
+    ensures hung { (s : List Place) → RepresentsVine N.node (N.table links.old) (list_head front.old back) s → IsAbsent place s
+        → Inserts (RepresentsVine N.node) (N.table links.old) (N.table links.new) (list_head front.new (Some place)) (at_back s) place }
+    ensures keeps_links { N.KeepsLinks links.old links.new }
 {
     links.set_right(place, None);
     match back {
@@ -83,9 +81,9 @@ fn color_at(height: u32) -> Color
     }
 }
 
-// The tree of the first `count` members of a vine, and the member behind them. Each way down it has `height` black members: its sizes
+// The tree of the first `count` members of a vine, and the member after them. Each way down it has `height` black members: its sizes
 // left and right differ by one at most, all levels but the lowest are full, and the members of that one are red if it is not full.
-pub(crate) fn vine_to_tree<N: Nodes>(
+pub(crate) fn vine_to_tree<N: NodeStore>(
     links: &mut N,
     first: Option<Place>,
     count: u64,
@@ -94,7 +92,7 @@ pub(crate) fn vine_to_tree<N: Nodes>(
     requires { (s : List Place) × (behind : Option Place) × IsVineOf N.node (N.table links.old) first count height s behind }
     ensures grown { (s : List Place) (behind : Option Place) → IsVineOf N.node (N.table links.old) first count height s behind
         → BecomesTree N.node (N.table links.old) (N.table links.new) result.0 result.1 height s behind }
-    ensures quiet { N.Quiet links.old links.new }
+    ensures keeps_links { N.KeepsLinks links.old links.new }
 {
     if count == 0 {
         return (None, first);
@@ -113,8 +111,8 @@ pub(crate) fn vine_to_tree<N: Nodes>(
     (Some(place), rest)
 }
 
-// The members of the tree with this root become a vine in front of `behind`, of which this is the first.
-pub(crate) fn tree_to_vine<N: Nodes>(
+// The members of the tree with this root become a vine before `behind`, of which this is the first.
+pub(crate) fn tree_to_vine<N: NodeStore>(
     links: &mut N,
     root: Option<Place>,
     behind: Option<Place>,
@@ -124,7 +122,7 @@ pub(crate) fn tree_to_vine<N: Nodes>(
     requires named { IsNamed N.node (N.table links.old) behind }
     ensures laid { (up : Option Place) (t : Tree) → IsTreeOf N.node (N.table links.old) root up t → height t ≤ turns
         → BecomesVine N.node (N.table links.old) (N.table links.new) result (in_order t) behind }
-    ensures quiet { N.Quiet links.old links.new }
+    ensures keeps_links { N.KeepsLinks links.old links.new }
 {
     let Some(place) = root else {
         return behind;

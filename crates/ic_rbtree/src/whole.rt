@@ -6,10 +6,8 @@
 //! ```
 
 ghost use Rattle.std.specs.Prelude.{◌≡◌, List};
-ghost use Rattle.ic_unsafe_ref.specs.declared.place.Place.{Place};
-ghost use Rattle.ic_link_ops.specs.Tables.{KeepsBeside};
-ghost use Rattle.ic_link_ops.specs.LinkSteps.{releases_each};
-ghost use Rattle.ic_rbtree.specs.Kept.{ShowsKept, ShowsKeptSome, IsEmptied};
+ghost use Rattle.ic_link_ops.specs.Prelude.{Place, ChangesOnlyIn, releases_each};
+ghost use Rattle.ic_rbtree.specs.Kept.{RepresentsKept, RepresentsKeptSome, IsEmptied};
 ghost use Rattle.ic_rbtree.specs.Tree.{head_of, adapter_of};
 
 use crate::head::TreeHead;
@@ -23,26 +21,26 @@ impl<A: KeyAdapter, E: TreeHead> RBTree<A, E> {
     ///
     /// One step for each member, and no memory. Trees that share no member with this one stay.
     pub fn clear<L: RBTreeOps>(&mut self, links: &mut L)
-        requires shown { ShowsKeptSome E.kept L.node (L.table links.old) (head_of self.old) }
+        requires shown { RepresentsKeptSome E.kept L.node (L.table links.old) (head_of self.old) }
 
         ensures empty { IsEmptied (E.kept (head_of self.new)) }
         ensures adapter { adapter_of self.new ≡ adapter_of self.old }
-        ensures released { (s : List Place) → ShowsKept E.kept L.node (L.table links.old) (head_of self.old) s
-            → L.Does links.old links.new (releases_each s) }
-        ensures frame { (s : List Place) → ShowsKept E.kept L.node (L.table links.old) (head_of self.old) s
-            → KeepsBeside (L.table links.old) (L.table links.new) s }
+        ensures released { (s : List Place) → RepresentsKept E.kept L.node (L.table links.old) (head_of self.old) s
+            → L.Trace links.old links.new (releases_each s) }
+        ensures frame { (s : List Place) → RepresentsKept E.kept L.node (L.table links.old) (head_of self.old) s
+            → ChangesOnlyIn (L.table links.old) (L.table links.new) s }
     {
         self.take().dispose(links);
     }
 
     /// Takes all objects off a tree that is given up. What [`clear`](Self::clear) says of the table holds here as well.
     pub fn dispose<L: RBTreeOps>(self, links: &mut L)
-        requires shown { ShowsKeptSome E.kept L.node (L.table links.old) (head_of self) }
+        requires shown { RepresentsKeptSome E.kept L.node (L.table links.old) (head_of self) }
 
-        ensures released { (s : List Place) → ShowsKept E.kept L.node (L.table links.old) (head_of self) s
-            → L.Does links.old links.new (releases_each s) }
-        ensures frame { (s : List Place) → ShowsKept E.kept L.node (L.table links.old) (head_of self) s
-            → KeepsBeside (L.table links.old) (L.table links.new) s }
+        ensures released { (s : List Place) → RepresentsKept E.kept L.node (L.table links.old) (head_of self) s
+            → L.Trace links.old links.new (releases_each s) }
+        ensures frame { (s : List Place) → RepresentsKept E.kept L.node (L.table links.old) (head_of self) s
+            → ChangesOnlyIn (L.table links.old) (L.table links.new) s }
     {
         self.into_iter(links).finish();
     }

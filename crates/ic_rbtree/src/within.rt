@@ -5,15 +5,14 @@
 //! ```
 
 ghost use Rattle.std.specs.Prelude.{◌≡◌, Bool, Option, Some, None, List, [], ◌∷◌};
-ghost use Rattle.ic_unsafe_ref.specs.declared.place.Place.{Place};
+ghost use Rattle.ic_link_ops.specs.Prelude.{Place, Cut, join};
 ghost use Rattle.ic_link_ops.specs.Frames.{across};
-ghost use Rattle.ic_link_ops.specs.RedBlackTree.{Shows};
-ghost use Rattle.ic_link_ops.specs.Sequences.{Cut, join};
+ghost use Rattle.ic_link_ops.specs.RedBlackTree.{Represents};
 ghost use Rattle.ic_rbtree.specs.Closed.{IsIn, IsClosed, IsSafe, StaysClosed};
 ghost use Rattle.ic_rbtree.specs.Sides.{IsBeside, IsOutermostWithin, IsNearestAboveWithin};
 ghost use Rattle.ic_rbtree.specs.StepsTo.{ComesUpTo, IsBelow, StepEnds, StepsTo};
 
-use crate::nodes::Nodes;
+use crate::nodes::NodeStore;
 use crate::readings::{child, other};
 use crate::repair::TURNS;
 use ic_link_ops::Side;
@@ -21,7 +20,7 @@ use ic_unsafe_ref::Place;
 
 // The member at or below a place that stands outermost on a side.
 #[inline]
-pub(crate) fn outermost_within<N: Nodes>(nodes: &N, place: Place, side: Side) -> Place
+pub(crate) fn outermost_within<N: NodeStore>(nodes: &N, place: Place, side: Side) -> Place
     requires { (root : Option Place) × IsSafe N.node (N.table nodes.now) root (Some place ∷ []) }
     ensures outermost { IsOutermostWithin N.node (N.table nodes.now) place side result }
     ensures below { IsBelow N.node (N.table nodes.now) side place result }
@@ -39,9 +38,9 @@ pub(crate) fn outermost_within<N: Nodes>(nodes: &N, place: Place, side: Side) ->
 
 // The lowest member above a place that stands on this side of it, `None` if there is none. On links that are no tree it gives the place to which
 // the last turn came, so that it gives `None` only at an end. Of each member above both words are read one after the other, and turns are
-// counted behind the test: so written, a turn takes half as many instructions.
+// counted after the test: so written, a turn takes half as many instructions.
 #[inline]
-fn above_within<N: Nodes>(nodes: &N, place: Place, side: Side) -> Option<Place>
+fn above_within<N: NodeStore>(nodes: &N, place: Place, side: Side) -> Option<Place>
     requires { (root : Option Place) × IsSafe N.node (N.table nodes.now) root (Some place ∷ []) }
     ensures nearest { IsNearestAboveWithin N.node (N.table nodes.now) place side result }
     ensures up { ComesUpTo N.node (N.table nodes.now) side place result }
@@ -68,16 +67,17 @@ fn above_within<N: Nodes>(nodes: &N, place: Place, side: Side) -> Option<Place>
 /// side, from that end to null.
 ///
 /// It requires a closed set that has the position, and leads out of none. It ends whatever the words say, comes only to a place to which the links
-/// lead, and gives `None` only where they come to an end. O(log n), and O(1) on average over a walk. [`RBTree::step`](crate::RBTree::step) is the same of a tree.
+/// lead, and gives `None` only where they come to an end. O(log n), and O(1) on average over a walk. [`RBTree::step`](crate::RBTree::step) is the
+/// same of a tree.
 #[inline]
-pub fn step_within<N: Nodes>(
+pub fn step_within<N: NodeStore>(
     nodes: &N,
     root: Option<Place>,
     current: Option<Place>,
     side: Side,
 ) -> Option<Place>
     requires { IsSafe N.node (N.table nodes.now) root (current ∷ []) }
-    ensures leads { (gap : Cut) → Shows N.node (N.table nodes.now) root (join gap) → IsBeside side gap current
+    ensures leads { (gap : Cut) → Represents N.node (N.table nodes.now) root (join gap) → IsBeside side gap current
         → IsBeside (across side) gap result }
     ensures reached { (y : Place) → result ≡ Some y → StepsTo N.node (N.table nodes.now) root side current y }
     ensures ended { result ≡ None → StepEnds N.node (N.table nodes.now) root side current }

@@ -1,12 +1,9 @@
 -- Circles of places: read from another place, opened and closed, and apart from one another.
 use Rattle.std.proofs.Common.{◌≡◌, ◌≢◌, Option, Some, None, IsSome, List, [], ◌∷◌, ◌++◌, Bool, true, false, refl, sym, subst, ◌∙◌, ap, append-nil, ◌⊎◌, inl, inr, eqb, eqb-true, eq-eqb}
-use Rattle.ic_unsafe_ref.specs.declared.place.Place.{Place}
-use Rattle.ic_unsafe_ref.specs.Places.{same_word}
+use Rattle.ic_link_ops.specs.Prelude.{Place, same_word, IsAbsent, IsMember, IsDisjoint, first_or, last_or, first, last, but_last, Table, LinksAlso, ChangesOnly}
 use Rattle.ic_unsafe_ref.proofs.PlaceLemmas.{same_or_not}
-use Rattle.ic_link_ops.specs.Sequences.{IsAbsent, IsMember, IsDisjoint, first_or, last_or, first, last, but_last}
-use Rattle.ic_link_ops.specs.Tables.{Table, LinksAlso, ChangesOnly}
 use Rattle.ic_link_ops.specs.Chains.{Ends}
-use Rattle.ic_link_ops.specs.Turns.{TurnsBehind, TurnsBefore}
+use Rattle.ic_link_ops.specs.Turns.{TurnsAfter, TurnsBefore}
 use Rattle.ic_link_ops.specs.LinkedList.{Neighbors, neighbors_at, IsBetween, IsChain}
 use Rattle.ic_link_ops.specs.LinkedList as doubly
 use Rattle.ic_link_ops.proofs.SequenceLemmas.{IsOutside, last_outside, split_last, absent_both, member_split, absent_turned, last_or-append, distinct_disjoint, distinct_left, distinct_right, distinct_splice, disjoint_sym, last_not, first_not, none_not, some_same}
@@ -116,7 +113,7 @@ module _ {E : Type 0} {n : E → Neighbors} where
       let m = member_split p r member in
       (m.1 ++ m.0, rotated m.0 (p ∷ m.1) (subst (IsCircle n t) m.2 c), λ q out. absent_turned q (p ∷ m.1) m.0 (subst (IsAbsent q) m.2 out))
 
-  -- FACING: what stands behind a place of a ring has that place in front of itself
+  -- FACING: what stands after a place of a ring has that place before itself
   pub facing : {t : Place → E} (x : Place) (s : List Place) {b : Place} → IsCircle n t (x ∷ s) → (n (t x)).next ≡ Some b → (n (t b)).prev ≡ Some x
   facing {t} x [] c e = subst (λ z. (n (t z)).prev ≡ Some x) (some_same (sym c.chain.0.next ∙ e)) c.chain.0.prev
   facing {t} x (y ∷ s) c e = subst (λ z. (n (t z)).prev ≡ Some x) (some_same (sym c.chain.0.next ∙ e)) c.chain.1.0.prev
@@ -127,7 +124,7 @@ module _ {E : Type 0} {n : E → Neighbors} where
 
   -- OUT: p leaves the circle where its two neighbors are turned to each other
   pub circle_closed : {t0 t1 t2 : Place → E} (p : Place) (r : List Place) → IsCircle n t0 (p ∷ r)
-      → TurnsBehind (IsBetween n) t0 t1 (last r) (Some p) (first r) → TurnsBefore (IsBetween n) t1 t2 (first r) (Some p) (last r) → IsCircle n t2 r
+      → TurnsAfter (IsBetween n) t0 t1 (last r) (Some p) (first r) → TurnsBefore (IsBetween n) t1 t2 (first r) (Some p) (last r) → IsCircle n t2 r
   circle_closed {t0} {t1} {t2} p r c behind before = record {
     distinct = c.distinct.1;
     chain = chain_first (IsBetween n) t1 t2 (Some p) (last r) r (first r) before c.distinct.1
@@ -136,7 +133,7 @@ module _ {E : Type 0} {n : E → Neighbors} where
 
   -- and so of any stretch
   pub circle_bypassed : {t0 t1 t2 : Place → E} (out r : List Place) → IsCircle n t0 (out ++ r)
-      → TurnsBehind (IsBetween n) t0 t1 (last r) (first (out ++ r)) (first r)
+      → TurnsAfter (IsBetween n) t0 t1 (last r) (first (out ++ r)) (first r)
       → TurnsBefore (IsBetween n) t1 t2 (first r) (last_or (last (out ++ r)) out) (last r) → IsCircle n t2 r
   circle_bypassed {t0} {t1} {t2} out r c behind before =
       let b = IsBetween n in
@@ -151,7 +148,7 @@ module _ {E : Type 0} {n : E → Neighbors} where
   -- IN: p, which stands between the last and the first already, is put between them where both are turned to it
   pub circle_filled : {t0 t1 t2 : Place → E} (p : Place) (r : List Place) {b : Place} → Some b ≡ first r → IsCircle n t0 r → IsAbsent p r
       → IsBetween n (t0 p) (last r) (first r)
-      → TurnsBehind (IsBetween n) t0 t1 (last r) (first r) (Some p) → TurnsBefore (IsBetween n) t1 t2 (first r) (last r) (Some p)
+      → TurnsAfter (IsBetween n) t0 t1 (last r) (first r) (Some p) → TurnsBefore (IsBetween n) t1 t2 (first r) (last r) (Some p)
       → IsCircle n t2 (p ∷ r)
   circle_filled p [] {b} e c out stands behind before = absurd (none_not b (sym e))
   circle_filled {t0} {t1} {t2} p (x ∷ r) e c out stands behind before =
@@ -165,11 +162,11 @@ module _ {E : Type 0} {n : E → Neighbors} where
         );
       }
 
-  -- EXCHANGED: the last places of two circles exchange what stands behind them, and the circles are one
+  -- EXCHANGED: the last places of two circles exchange what stands after them, and the circles are one
   pub circles_joined : {t0 t1 t2 t3 t4 : Place → E} (x : Place) (r : List Place) (y : Place) (u : List Place) → IsCircle n t0 (x ∷ r) → IsCircle n t0 (y ∷ u)
       → IsDisjoint (x ∷ r) (y ∷ u)
-      → TurnsBehind (IsBetween n) t0 t1 (last (x ∷ r)) (Some x) (Some y) → TurnsBefore (IsBetween n) t1 t2 (Some y) (last (y ∷ u)) (last (x ∷ r))
-      → TurnsBehind (IsBetween n) t2 t3 (last (y ∷ u)) (Some y) (Some x) → TurnsBefore (IsBetween n) t3 t4 (Some x) (last (x ∷ r)) (last (y ∷ u))
+      → TurnsAfter (IsBetween n) t0 t1 (last (x ∷ r)) (Some x) (Some y) → TurnsBefore (IsBetween n) t1 t2 (Some y) (last (y ∷ u)) (last (x ∷ r))
+      → TurnsAfter (IsBetween n) t2 t3 (last (y ∷ u)) (Some y) (Some x) → TurnsBefore (IsBetween n) t3 t4 (Some x) (last (x ∷ r)) (last (y ∷ u))
       → IsCircle n t4 (x ∷ r ++ y ∷ u)
   circles_joined {t0} {t1} {t2} {t3} {t4} x r y u c k apart turn1 turn2 turn3 turn4 =
       let b = IsBetween n in
@@ -193,8 +190,8 @@ module _ {E : Type 0} {n : E → Neighbors} where
 
   -- and those of two parts of one circle, which is two circles then
   pub circle_cut : {t0 t1 t2 t3 t4 : Place → E} (x : Place) (r : List Place) (y : Place) (u : List Place) → IsCircle n t0 (x ∷ r ++ y ∷ u)
-      → TurnsBehind (IsBetween n) t0 t1 (last (x ∷ r)) (Some y) (Some x) → TurnsBefore (IsBetween n) t1 t2 (Some x) (last (y ∷ u)) (last (x ∷ r))
-      → TurnsBehind (IsBetween n) t2 t3 (last (y ∷ u)) (Some x) (Some y) → TurnsBefore (IsBetween n) t3 t4 (Some y) (last (x ∷ r)) (last (y ∷ u))
+      → TurnsAfter (IsBetween n) t0 t1 (last (x ∷ r)) (Some y) (Some x) → TurnsBefore (IsBetween n) t1 t2 (Some x) (last (y ∷ u)) (last (x ∷ r))
+      → TurnsAfter (IsBetween n) t2 t3 (last (y ∷ u)) (Some x) (Some y) → TurnsBefore (IsBetween n) t3 t4 (Some y) (last (x ∷ r)) (last (y ∷ u))
       → IsCircle n t4 (x ∷ r) × IsCircle n t4 (y ∷ u)
   circle_cut {t0} {t1} {t2} {t3} {t4} x r y u c turn1 turn2 turn3 turn4 =
       let b = IsBetween n in
@@ -221,8 +218,8 @@ module _ {E : Type 0} {n : E → Neighbors} where
   pub before_apart : {t : Place → E} (r : List Place) (p : Place) {q : Place} → IsCircle n t r → IsAbsent p r → (n (t q)).next ≡ Some p → IsAbsent q r
   before_apart {t} r p c out leads = next_out n t (last r) (first r) r (Some p) c.chain (λ e. first_not r None p (none_not p) out (sym e)) out leads
 
-  pub behind_apart : {t : Place → E} (r : List Place) (p : Place) {q : Place} → IsCircle n t r → IsAbsent p r → (n (t q)).prev ≡ Some p → IsAbsent q r
-  behind_apart {t} r p c out leads = prev_out n t (last r) (first r) r p c.chain (last_not None r p (none_not p) out) out leads
+  pub after_apart : {t : Place → E} (r : List Place) (p : Place) {q : Place} → IsCircle n t r → IsAbsent p r → (n (t q)).prev ≡ Some p → IsAbsent q r
+  after_apart {t} r p c out leads = prev_out n t (last r) (first r) r p c.chain (last_not None r p (none_not p) out) out leads
 
   -- a chain whose end is not in the circle shares no place with it
   pub chain_apart : {t : Place → E} (r : List Place) (b : Option Place) (s : List Place) (a : Option Place) → IsCircle n t r → first r ≢ a → IsOutside a r
@@ -249,7 +246,7 @@ module _ {E : Type 0} {n : E → Neighbors} where
       disjoint_sym (g ∷ v) (h ∷ s) (circles_apart (h ∷ s) g v c other out_g)
 
   -- and a list is apart from each circle
-  pub list_apart : {t : Table E} {list : Ends} {s : List Place} (p : Place) (r : List Place) → IsCircle n t.entry (p ∷ r) → doubly.Shows n t list s → IsDisjoint s (p ∷ r)
+  pub list_apart : {t : Table E} {list : Ends} {s : List Place} (p : Place) (r : List Place) → IsCircle n t.entry (p ∷ r) → doubly.Represents n t list s → IsDisjoint s (p ∷ r)
   list_apart {s = s} p r c shown = chain_apart (p ∷ r) None s None c (λ e. none_not p (sym e)) tt shown.chain
 
   -- it stays where another place changes, and where three others do

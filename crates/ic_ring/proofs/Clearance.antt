@@ -1,12 +1,10 @@
 -- A ring whose members are unlinked one after the other, from the front.
 use Rattle.std.proofs.Common.{◌≡◌, Option, Some, None, IsSome, List, [], ◌∷◌, ◌++◌, drop, refl, sym, subst, ap, ◌∙◌, append_assoc, append-nil}
 use Rattle.std.specs.Prelude.{is_some, false}
-use Rattle.ic_unsafe_ref.specs.declared.place.Place.{Place}
-use Rattle.ic_link_ops.specs.Sequences.{IsAbsent, first}
-use Rattle.ic_link_ops.specs.Tables.{Table, KeepsBeside}
+use Rattle.ic_link_ops.specs.Prelude.{Place, IsAbsent, first, Table, ChangesOnlyIn}
 use Rattle.ic_link_ops.specs.LinkedList.{Neighbors}
 use Rattle.ic_link_ops.proofs.SequenceLemmas.{absent_right, nothing_first}
-use Rattle.ic_ring.specs.Rings.{Shows}
+use Rattle.ic_ring.specs.Rings.{Represents}
 
 module _ {E : Type 0} (n : E → Neighbors) where
   -- of the members s, those that are done are out of the ring, and the rest is in it
@@ -14,8 +12,8 @@ module _ {E : Type 0} (n : E → Neighbors) where
     pub done : List Place
     pub rest : List Place
     pub parts : s ≡ done ++ rest
-    pub shown : Shows n new head rest
-    pub kept : KeepsBeside old new (head ∷ s)
+    pub shown : Represents n new head rest
+    pub kept : ChangesOnlyIn old new (head ∷ s)
 
 -- what is told of a result that is none
 pub none_is : (r : Option Place) → is_some r ≡ false → r ≡ None
@@ -28,16 +26,16 @@ not_some (Some x) e some = cc
 
 module _ {E : Type 0} {n : E → Neighbors} where
   -- at first none is done
-  unfoldable pub clears_none : {t : Table E} {head : Place} {s : List Place} → Shows n t head s → Clears n t t head s
+  unfoldable pub clears_none : {t : Table E} {head : Place} {s : List Place} → Represents n t head s → Clears n t t head s
   clears_none {s = s} shown = record { done = []; rest = s; parts = refl; shown = shown; kept = record { extent = refl; others = λ q out. refl } }
 
   -- ONE STEP: the first of the rest is taken off
   pub clears_more : {old mid new : Table E} {head : Place} {s : List Place} (k : Clears n old mid head s) {result : Option Place} → IsSome result
-      → ((r : List Place) → Shows n mid head r → result ≡ first r) → ((r : List Place) → Shows n mid head r → Shows n new head (drop 1 r))
-      → ((r : List Place) → Shows n mid head r → KeepsBeside mid new (head ∷ r))
+      → ((r : List Place) → Represents n mid head r → result ≡ first r) → ((r : List Place) → Represents n mid head r → Represents n new head (drop 1 r))
+      → ((r : List Place) → Represents n mid head r → ChangesOnlyIn mid new (head ∷ r))
       → (x : Place) × (result ≡ Some x) × (k' : Clears n old new head s) × (k.rest ≡ x ∷ k'.rest) × (k'.done ≡ k.done ++ x ∷ [])
   clears_more {old} {mid} {new} {head} {s} k {result} some is removed frame = more k.rest k.parts k.shown where
-    more : (rest : List Place) → s ≡ k.done ++ rest → Shows n mid head rest
+    more : (rest : List Place) → s ≡ k.done ++ rest → Represents n mid head rest
         → (x : Place) × (result ≡ Some x) × (k' : Clears n old new head s) × (rest ≡ x ∷ k'.rest) × (k'.done ≡ k.done ++ x ∷ [])
     more [] parts shown = absurd (not_some result (is [] shown) some)
     more (x ∷ rest) parts shown =
@@ -60,7 +58,7 @@ module _ {E : Type 0} {n : E → Neighbors} where
 
   -- THE END: where none is left, all are done
   pub clears_all : {old mid : Table E} {head : Place} {s : List Place} (k : Clears n old mid head s) {result : Option Place} → result ≡ None
-      → ((r : List Place) → Shows n mid head r → result ≡ first r) → k.done ≡ s
+      → ((r : List Place) → Represents n mid head r → result ≡ first r) → k.done ≡ s
   clears_all k none is =
       let over = nothing_first k.rest (sym none ∙ is k.rest k.shown) in
       sym (k.parts ∙ ap (λ (r : List Place). k.done ++ r) over ∙ append-nil k.done)

@@ -1,14 +1,12 @@
 -- What stays where a ring changes: the other rings, and all lists. And where an object moves, its ring without it.
 use Rattle.std.proofs.Common.{◌≡◌, ◌≢◌, List, [], ◌∷◌, ◌++◌, Bool, false, inl, inr, subst, sym}
-use Rattle.ic_unsafe_ref.specs.declared.place.Place.{Place}
-use Rattle.ic_link_ops.specs.Sequences.{IsAbsent, IsDisjoint, first, last}
-use Rattle.ic_link_ops.specs.Tables.{Table}
+use Rattle.ic_link_ops.specs.Prelude.{Place, IsAbsent, IsDisjoint, first, last, Table}
 use Rattle.ic_link_ops.specs.LinkedList.{Neighbors, IsBetween}
 use Rattle.ic_link_ops.proofs.SequenceLemmas.{absent_without, member_split, distinct_middle, disjoint_cons, disjoint_both, disjoint_sym, disjoint_nothing}
 use Rattle.ic_link_ops.proofs.Chains.{chain_frame}
-use Rattle.ic_link_ops.proofs.ShownLists.{shows_frame, free_absent}
+use Rattle.ic_link_ops.proofs.RepresentedLists.{represents_frame, free_absent}
 use Rattle.ic_link_ops.proofs.DoublyLists.{between_linked}
-use Rattle.ic_ring.specs.Rings.{IsCircle, ShowsBeside, OthersStay}
+use Rattle.ic_ring.specs.Rings.{IsCircle, RepresentsBeside, OthersStay}
 use Rattle.ic_ring.proofs.Circles.{in_or_out, rotated, seen_from, circles_apart, list_apart, free_outside}
 
 module _ {E : Type 0} {n : E → Neighbors} where
@@ -25,7 +23,7 @@ module _ {E : Type 0} {n : E → Neighbors} where
       → OthersStay n old new (p ∷ [])
   others_stay p s c same = record {
     rings = λ r circle out. circle_stays r (p ∷ s) circle (disjoint_sym (p ∷ s) r (circles_apart r p s circle c out.0)) same;
-    lists = λ list t shown. shows_frame (p ∷ s) shown (list_apart p s c shown) same;
+    lists = λ list t shown. represents_frame (p ∷ s) shown (list_apart p s c shown) same;
   }
 
   -- of two rings,
@@ -38,7 +36,7 @@ module _ {E : Type 0} {n : E → Neighbors} where
             circle_stays r both circle (disjoint_sym both r apart) same;
         lists = λ list t shown.
             let apart = disjoint_both (p ∷ s) (q ∷ u) t (disjoint_sym t (p ∷ s) (list_apart p s c shown)) (disjoint_sym t (q ∷ u) (list_apart q u k shown)) in
-            shows_frame both shown (disjoint_sym both t apart) same;
+            represents_frame both shown (disjoint_sym both t apart) same;
       }
 
   -- and where nothing is
@@ -55,11 +53,11 @@ module _ {E : Type 0} {n : E → Neighbors} where
   others_from too k = record { rings = λ r c out. k.rings r c (too r c out.0, tt); lists = k.lists }
 
   -- THE RING BESIDE p: when p is taken out, wherever it stood, this is its circle, and p is not in it
-  pub beside_shown : {old new : Table E} (p : Place) (head : Place) (s : List Place) → ShowsBeside n old p head s
+  pub beside_represented : {old new : Table E} (p : Place) (head : Place) (s : List Place) → RepresentsBeside n old p head s
       → ((r : List Place) → IsCircle n old.entry (p ∷ r) → IsCircle n new.entry r) → OthersStay n old new (p ∷ [])
       → IsCircle n new.entry (head ∷ s) × IsAbsent p (head ∷ s)
-  beside_shown p head s (inl k) taken others = (others.rings (head ∷ s) k.0 (k.1, tt), k.1)
-  beside_shown {new = new} p head s (inr k) taken others =
+  beside_represented p head s (inl k) taken others = (others.rings (head ∷ s) k.0 (k.1, tt), k.1)
+  beside_represented {new = new} p head s (inr k) taken others =
       let there = taken (k.1 ++ head ∷ k.0) (seen_from k.0 p k.1 k.2) in (
         subst (λ s. IsCircle n new.entry (head ∷ s)) (sym k.3) (rotated k.1 (head ∷ k.0) there),
         subst (λ s. IsAbsent p (head ∷ s)) (sym k.3) (distinct_middle (head ∷ k.0) k.1 p k.2.distinct),
@@ -89,12 +87,12 @@ module _ {E : Type 0} {n : E → Neighbors} where
           circle_stays r (x ∷ p ∷ s) circle
           (disjoint_cons x r (p ∷ s) (free_outside alike circle free) (disjoint_sym (p ∷ s) r (circles_apart r p s circle c out.0))) same;
       lists = λ list t shown.
-          shows_frame (x ∷ p ∷ s) shown (disjoint_cons x t (p ∷ s) (free_absent (between_linked alike) shown free) (list_apart p s c shown)) same;
+          represents_frame (x ∷ p ∷ s) shown (disjoint_cons x t (p ∷ s) (free_absent (between_linked alike) shown free) (list_apart p s c shown)) same;
     }
 
     -- and where that entry alone is
     pub others_stay_new : {old new : Table E} (x : Place) → linked (old.entry x) ≡ false → ((q : Place) → q ≢ x → new.entry q ≡ old.entry q) → OthersStay n old new []
     others_stay_new x free same = record {
       rings = λ r circle out. circle_stays r (x ∷ []) circle (disjoint_cons x r [] (free_outside alike circle free) (disjoint_nothing r)) (λ q out. same q out.0);
-      lists = λ list t shown. shows_frame (x ∷ []) shown (disjoint_cons x t [] (free_absent (between_linked alike) shown free) (disjoint_nothing t)) (λ q out. same q out.0);
+      lists = λ list t shown. represents_frame (x ∷ []) shown (disjoint_cons x t [] (free_absent (between_linked alike) shown free) (disjoint_nothing t)) (λ q out. same q out.0);
     }

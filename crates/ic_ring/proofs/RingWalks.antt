@@ -4,20 +4,16 @@ use Rattle.std.specs.Option.{option_copied}
 use Rattle.std.specs.List.{cons_option}
 use Rattle.std.specs.Iterator.{MakesProgress, item_count}
 use Rattle.std.proofs.lemmas.List.Elements.{filter_map-append}
-use Rattle.ic_unsafe_ref.specs.declared.place.Place.{Place}
-use Rattle.ic_unsafe_ref.specs.Objects.{Objects, object_at}
-use Rattle.ic_link_ops.specs.Sequences.{first_or, last, but_last}
-use Rattle.ic_link_ops.specs.Tables.{Table, IsCovered}
+use Rattle.ic_link_ops.specs.Prelude.{Place, Objects, object_at, first_or, last, but_last, Table, IsCovered, ArePlaced, values_at}
 use Rattle.ic_link_ops.specs.Walk.{is_end, GivesFirst, GivesLast}
 use Rattle.ic_link_ops.specs.LinkedList.{Neighbors, IsBetween, IsWalk}
-use Rattle.ic_link_ops.specs.PlacedObjects.{ArePlaced, values_at}
 use Rattle.ic_link_ops.proofs.SequenceLemmas.{some_same, absent_right, distinct_right, first_or-append, last_or-append, split_last}
 use Rattle.ic_link_ops.proofs.Chains.{chain_cut}
-use Rattle.ic_link_ops.proofs.DoublyLists.{walk_shown}
+use Rattle.ic_link_ops.proofs.DoublyLists.{walk_represented}
 use Rattle.ic_link_ops.proofs.PlacedEnds.{all_but_last}
 use Rattle.ic_link_ops.proofs.Walks.{is_end_not, yields_placed, makes_progress, yields_placed_back, makes_progress_back}
 use Rattle.ic_ring.specs.declared.iter.Iter.{Iter}
-use Rattle.ic_ring.specs.Rings.{IsCircle, Shows, members_until, members}
+use Rattle.ic_ring.specs.Rings.{IsCircle, Represents, members_until, members}
 use Rattle.ic_ring.specs.Iter.{objects_left, IsLeft, CanWalk}
 use Rattle.ic_ring.proofs.Circles.{rotated, seen_from}
 
@@ -25,11 +21,11 @@ is_end_self : (p : Place) → is_end (Some p) p ≡ true
 is_end_self p = eq-eqb _ _ refl
 
 module _ {E : Type 0} {n : E → Neighbors} (t : Table E) (covered : (q : Place) → (n (t.entry q)).linked ≡ true → IsCovered t q) where
-  -- what stands between two places of a ring is what stands behind `given`, up to the end
-  pub until_shown : (end : Place) (given w : List Place) {front : Option Place} → IsCircle n t.entry (end ∷ (given ++ w)) → front ≡ first_or w (Some end)
+  -- what stands between two places of a ring is what stands after `given`, up to the end
+  pub until_represented : (end : Place) (given w : List Place) {front : Option Place} → IsCircle n t.entry (end ∷ (given ++ w)) → front ≡ first_or w (Some end)
       → members_until n t front end ≡ w
-  until_shown end given [] {front} c starts = rw (starts, is_end_self end) refl
-  until_shown end given (x ∷ w) {front} c starts =
+  until_represented end given [] {front} c starts = rw (starts, is_end_self end) refl
+  until_represented end given (x ∷ w) {front} c starts =
       let other = absent_right end given (x ∷ w) c.distinct.0 in
       let goes : is_end (Some x) end ≡ false = is_end_not (Some x) end (λ e. other.0 (sym (some_same e))) in
       let ends : last (end ∷ (given ++ x ∷ w)) ≡ last (x ∷ w) = last_or-append None (end ∷ given) (x ∷ w) in
@@ -39,17 +35,17 @@ module _ {E : Type 0} {n : E → Neighbors} (t : Table E) (covered : (q : Place)
         behind = Some end;
         part = record { distinct = distinct_right (end ∷ given) (x ∷ w) c.distinct; chain = cut.1; starts = refl; ends = refl };
       } in
-      rw (starts, goes, c.chain.0.prev, ends) (walk_shown t covered (Some x) (last (x ∷ w)) (x ∷ w) walk)
+      rw (starts, goes, c.chain.0.prev, ends) (walk_represented t covered (Some x) (last (x ∷ w)) (x ∷ w) walk)
 
-  -- THE MEMBERS of a ring are the one sequence that the table shows for it
-  pub members_shown : (head : Place) (s : List Place) → Shows n t head s → members n t head ≡ s
-  members_shown head s shown = until_shown head [] s shown shown.chain.0.next
+  -- THE MEMBERS of a ring are the one sequence that the table represents for it
+  pub members_represented : (head : Place) (s : List Place) → Represents n t head s → members n t head ≡ s
+  members_represented head s shown = until_represented head [] s shown shown.chain.0.next
 
-  pub one_ring_is_shown : (head : Place) (s u : List Place) → Shows n t head s → Shows n t head u → s ≡ u
-  one_ring_is_shown head s u shown other = sym (members_shown head s shown) ∙ members_shown head u other
+  pub one_ring_is_represented : (head : Place) (s u : List Place) → Represents n t head s → Represents n t head u → s ≡ u
+  one_ring_is_represented head s u shown other = sym (members_represented head s shown) ∙ members_represented head u other
 
 module _ {T L O E : Type 0} (n : E → Neighbors) (table : L → Table E) (values : O → Objects T) where
-  -- the walk gave out the member at p, and goes on behind it
+  -- the walk gave out the member at p, and goes on after it
   pub record Steps (old new : Iter T L O) (p : Place) : Type 0 where
     pub members : List Place
     pub walk : IsLeft n table values new members
@@ -57,7 +53,7 @@ module _ {T L O E : Type 0} (n : E → Neighbors) (table : L → Table E) (value
     pub placed : ArePlaced (values old.objects.now) (p ∷ members)
     pub objects : values new.objects.now ≡ values old.objects.now
 
-  -- the same from the back: it gave out the member at p, and ends in front of it
+  -- the same from the back: it gave out the member at p, and ends before it
   pub record StepsBack (old new : Iter T L O) (p : Place) : Type 0 where
     pub members : List Place
     pub walk : IsLeft n table values new members
@@ -118,7 +114,7 @@ module _ {T L O E : Type 0} (n : E → Neighbors) (table : L → Table E) (value
   module _ (law : (t : L) (q : Place) → (n ((table t).entry q)).linked ≡ true → IsCovered (table t) q) where
     -- what is left is what stands at these members
     pub left_is : (t : Iter T L O) (w : List Place) → IsLeft n table values t w → objects_left n table values t ≡ values_at (values t.objects.now) w
-    left_is t w k = ap (values_at (values t.objects.now)) (until_shown (table t.links.now) (law t.links.now) t.end k.given w k.ring k.starts)
+    left_is t w k = ap (values_at (values t.objects.now)) (until_represented (table t.links.now) (law t.links.now) t.end k.given w k.ring k.starts)
 
     -- nothing, where the two ends are one
     pub none_left : (t : Iter T L O) → CanWalk n table values t → t.front ≡ t.end → objects_left n table values t ≡ []

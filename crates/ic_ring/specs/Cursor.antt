@@ -1,9 +1,8 @@
 -- What clauses see of a cursor that reads.
 use Rattle.std.specs.Prelude.{◌≡◌}
-use Rattle.ic_unsafe_ref.specs.declared.place.Place.{Place}
-use Rattle.ic_link_ops.specs.Tables.{Table}
+use Rattle.ic_link_ops.specs.Prelude.{Place, Table}
 use Rattle.ic_link_ops.specs.LinkedList.{Neighbors}
-use Rattle.ic_ring.specs.RingCursors.{Stands}
+use Rattle.ic_ring.specs.RingCursors.{IsValidCursor}
 use Rattle.ic_ring.specs.declared.cursor.Cursor.{Cursor}
 
 module _ {T L : Type 0} where
@@ -18,8 +17,8 @@ module _ {T L : Type 0} where
   at_of c = c.at
 
   -- it stands in the ring
-  abbrev pub IsStanding : {E : Type 0} → (E → Neighbors) → (L → Table E) → Cursor T L → Type 0
-  IsStanding neighbors table c = Stands neighbors (table (links_of c)) (head_of c) (at_of c)
+  abbrev pub IsValid : {E : Type 0} → (E → Neighbors) → (L → Table E) → Cursor T L → Type 0
+  IsValid neighbors table c = IsValidCursor neighbors (table (links_of c)) (head_of c) (at_of c)
 
   -- it reads the same ring of the same table
   abbrev pub SameRing : Cursor T L → Cursor T L → Type 0

@@ -1,11 +1,10 @@
 -- What clauses see of a cursor that edits.
 use Rattle.std.specs.Prelude.{◌≡◌, List, [], ◌∷◌}
 use Rattle.std.specs.Borrow.{MutBor}
-use Rattle.ic_unsafe_ref.specs.declared.place.Place.{Place}
-use Rattle.ic_link_ops.specs.Tables.{Table, KeepsBeside}
+use Rattle.ic_link_ops.specs.Prelude.{Place, Table, ChangesOnlyIn}
 use Rattle.ic_link_ops.specs.LinkedList.{Neighbors}
-use Rattle.ic_ring.specs.Rings.{Shows, OthersStay}
-use Rattle.ic_ring.specs.RingCursors.{Stands}
+use Rattle.ic_ring.specs.Rings.{Represents, OthersStay}
+use Rattle.ic_ring.specs.RingCursors.{IsValidCursor}
 use Rattle.ic_ring.specs.declared.cursor_mut.CursorMut.{CursorMut}
 
 module _ {T L : Type 0} where
@@ -29,20 +28,20 @@ module _ {T L : Type 0} where
 
   module _ {E : Type 0} (neighbors : E → Neighbors) (table : L → Table E) where
     -- THE TABLE SHOWS s for the ring of the cursor
-    abbrev pub ShowsAt : CursorMut T L → List Place → Type 0
-    ShowsAt c s = Shows neighbors (table (links_of c)) (head_of c) s
+    abbrev pub RepresentsAt : CursorMut T L → List Place → Type 0
+    RepresentsAt c s = Represents neighbors (table (links_of c)) (head_of c) s
 
     -- it stands in the ring
-    abbrev pub IsStanding : CursorMut T L → Type 0
-    IsStanding c = Stands neighbors (table (links_of c)) (head_of c) (at_of c)
+    abbrev pub IsValid : CursorMut T L → Type 0
+    IsValid c = IsValidCursor neighbors (table (links_of c)) (head_of c) (at_of c)
 
     -- nothing is changed but entries of the ring and of these places
-    abbrev pub KeepsBesideRing : CursorMut T L → CursorMut T L → (List Place → List Place) → Type 0
-    KeepsBesideRing old new and = (s : List Place) → ShowsAt old s → KeepsBeside (table (links_of old)) (table (links_of new)) (and s)
+    abbrev pub ChangesOnlyInRing : CursorMut T L → CursorMut T L → (List Place → List Place) → Type 0
+    ChangesOnlyInRing old new and = (s : List Place) → RepresentsAt old s → ChangesOnlyIn (table (links_of old)) (table (links_of new)) (and s)
 
     -- AN EDIT LEAVES THE CURSOR in its ring, which has changed alone: the others stay, and each entry but its own and those of these places
     pub record StaysInRing (old new : CursorMut T L) (and : List Place → List Place) : Type 0 where
-      pub stands : IsStanding new
+      pub stands : IsValid new
       pub same : SameRing old new
       pub others : OthersStay neighbors (table (links_of old)) (table (links_of new)) (head_of old ∷ [])
-      pub frame : KeepsBesideRing old new and
+      pub frame : ChangesOnlyInRing old new and

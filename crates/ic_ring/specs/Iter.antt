@@ -1,12 +1,8 @@
 -- What clauses see of a walk over a ring's objects.
 use Rattle.std.specs.Prelude.{◌≡◌, Some, List, ◌++◌}
-use Rattle.ic_unsafe_ref.specs.declared.place.Place.{Place}
-use Rattle.ic_unsafe_ref.specs.Objects.{Objects}
-use Rattle.ic_link_ops.specs.Sequences.{first_or}
-use Rattle.ic_link_ops.specs.Tables.{Table}
+use Rattle.ic_link_ops.specs.Prelude.{Place, Objects, first_or, Table, ArePlaced, values_at}
 use Rattle.ic_link_ops.specs.LinkedList.{Neighbors}
-use Rattle.ic_link_ops.specs.PlacedObjects.{ArePlaced, values_at}
-use Rattle.ic_ring.specs.Rings.{Shows, members_until}
+use Rattle.ic_ring.specs.Rings.{Represents, members_until}
 use Rattle.ic_ring.specs.declared.iter.Iter.{Iter}
 
 -- `values`: the values by place
@@ -18,7 +14,7 @@ module _ {T L O E : Type 0} (neighbors : E → Neighbors) (table : L → Table E
   -- these members are left: read from the walk's end, they are the last ones of the ring
   pub record IsLeft (t : Iter T L O) (w : List Place) : Type 0 where
     pub given : List Place
-    pub ring : Shows neighbors (table t.links.now) t.end (given ++ w)
+    pub ring : Represents neighbors (table t.links.now) t.end (given ++ w)
     pub starts : Some t.front ≡ first_or w (Some t.end)
 
   -- there are such members, all of them placed

@@ -1,42 +1,40 @@
--- Which members a table shows for a ring, whose head is a place of the table, and what stays where a ring changes.
+-- Which members a table represents for a ring, whose head is a place of the table, and what stays where a ring changes.
 use Rattle.std.specs.Prelude.{◌≡◌, ◌≢◌, ◌⊎◌, cond, Option, Some, List, [], ◌∷◌, ◌++◌}
-use Rattle.ic_unsafe_ref.specs.declared.place.Place.{Place}
-use Rattle.ic_link_ops.specs.Sequences.{IsAbsent, IsMember, IsDistinct, IsDisjoint, first, last}
-use Rattle.ic_link_ops.specs.Tables.{Table}
+use Rattle.ic_link_ops.specs.Prelude.{Place, IsAbsent, IsMember, IsDistinct, IsDisjoint, first, last, Table}
 use Rattle.ic_link_ops.specs.Chains.{Ends}
 use Rattle.ic_link_ops.specs.Walk.{is_end}
 use Rattle.ic_link_ops.specs.LinkedList as doubly
 use Rattle.ic_link_ops.specs.LinkedList.{Neighbors, neighbors_at, IsChain, members_between}
 
 module _ {E : Type 0} (neighbors : E → Neighbors) where
-  -- r IS A CIRCLE: no place stands twice in it, each stands between its neighbors, and behind the last stands the first
+  -- r IS A CIRCLE: no place stands twice in it, each stands between its neighbors, and after the last stands the first
   pub record IsCircle (entry : Place → E) (r : List Place) : Type 0 where
     pub distinct : IsDistinct r
     pub chain : IsChain neighbors entry (last r) r (first r)
 
   -- THE TABLE SHOWS s for the ring with this head: the head, and then the members, are a circle
-  abbrev pub Shows : Table E → Place → List Place → Type 0
-  Shows t head s = IsCircle t.entry (head ∷ s)
+  abbrev pub Represents : Table E → Place → List Place → Type 0
+  Represents t head s = IsCircle t.entry (head ∷ s)
 
   -- the place stands in a ring, as its head or as a member: a ring can be read from each of its places
   abbrev pub InRing : Table E → Place → Type 0
-  InRing t p = (s : List Place) × Shows t p s
+  InRing t p = (s : List Place) × Represents t p s
 
   -- r is the ring in which the place stands, with its head, read from whichever place
   abbrev pub IsRingOf : Table E → Place → List Place → Type 0
   IsRingOf t p r = IsCircle t.entry r × IsMember p r
 
   -- beside p, the ring with this head has the members s: p is one more of them, or stands elsewhere
-  abbrev pub ShowsBeside : Table E → Place → Place → List Place → Type 0
-  ShowsBeside t p head s = (Shows t head s × IsAbsent p (head ∷ s))
-      ⊎ ((front back : List Place) × Shows t head (front ++ p ∷ back) × (s ≡ front ++ back))
+  abbrev pub RepresentsBeside : Table E → Place → Place → List Place → Type 0
+  RepresentsBeside t p head s = (Represents t head s × IsAbsent p (head ∷ s))
+      ⊎ ((front back : List Place) × Represents t head (front ++ p ∷ back) × (s ≡ front ++ back))
 
   -- THE OTHERS STAY: each ring in which none of these places stands, and each list
   pub record OthersStay (old new : Table E) (places : List Place) : Type 0 where
     pub rings : (r : List Place) → IsCircle old.entry r → IsDisjoint places r → IsCircle new.entry r
-    pub lists : (list : Ends) (s : List Place) → doubly.Shows neighbors old list s → doubly.Shows neighbors new list s
+    pub lists : (list : Ends) (s : List Place) → doubly.Represents neighbors old list s → doubly.Represents neighbors new list s
 
-  -- THESE TWO ARE TURNED: `next` stands behind the first, and `prev` in front of the second. What stands behind and in front of each other
+  -- THESE TWO ARE TURNED: `next` stands after the first, and `prev` before the second. What stands after and before each other
   -- place stays, and so does which places are linked
   pub record TurnsTo (old new : Table E) (first second next prev : Place) : Type 0 where
     pub next_is : (neighbors_at neighbors new first).next ≡ Some next

@@ -8,37 +8,34 @@
 
 ghost use Rattle.std.specs.Prelude.{◌≡◌, ◌≢◌, ◌∷◌, ◌++◌, List, [], Some, OnOk, OnErr, IfErr};
 ghost use Rattle.std.specs.Bool.{OnTrue, OnFalse};
-ghost use Rattle.ic_unsafe_ref.specs.declared.place.Place.{Place};
-ghost use Rattle.ic_link_ops.specs.Sequences.{first_or, last};
-ghost use Rattle.ic_link_ops.specs.Tables.{IsCovered, KeepsBeside};
-ghost use Rattle.ic_link_ops.specs.LinkSteps.{acquires, releases};
+ghost use Rattle.ic_link_ops.specs.Prelude.{Place, first_or, last, IsCovered, ChangesOnlyIn, acquires, releases};
 ghost use Rattle.ic_link_ops.specs.LinkedList.{neighbors_at};
-ghost use Rattle.ic_ring.specs.Rings.{IsCircle, Shows, InRing, IsRingOf, OthersStay};
+ghost use Rattle.ic_ring.specs.Rings.{IsCircle, Represents, InRing, IsRingOf, OthersStay};
 
 use crate::surgery::{bypass, next_of, prev_of, turn_to};
 use ic_link_ops::linked_list::LinkedListOps;
 use ic_link_ops::{AlreadyLinked, LinkOps};
 use ic_unsafe_ref::{Place, UnsafeRef};
 
-/// The place behind one that stands in a ring. Behind the last member stands the head. O(1).
+/// The place after one that stands in a ring. After the last member stands the head. O(1).
 ///
 /// It requires that the place stands in a ring of the table.
 #[inline]
 pub fn next<L: LinkedListOps>(links: &L, place: Place) -> Place
     requires ring { InRing L.neighbors (L.table links.now) place }
-    ensures behind { (s : List Place) → Shows L.neighbors (L.table links.now) place s → Some result ≡ first_or s (Some place) }
+    ensures behind { (s : List Place) → Represents L.neighbors (L.table links.now) place s → Some result ≡ first_or s (Some place) }
     ensures ring { InRing L.neighbors (L.table links.now) result }
 {
     next_of(links, place)
 }
 
-/// The place in front of one that stands in a ring. In front of the first member stands the head. O(1).
+/// The place before one that stands in a ring. Before the first member stands the head. O(1).
 ///
 /// It requires that the place stands in a ring of the table.
 #[inline]
 pub fn prev<L: LinkedListOps>(links: &L, place: Place) -> Place
     requires ring { InRing L.neighbors (L.table links.now) place }
-    ensures before { (s : List Place) → Shows L.neighbors (L.table links.now) place s → Some result ≡ last (place ∷ s) }
+    ensures before { (s : List Place) → Represents L.neighbors (L.table links.now) place s → Some result ≡ last (place ∷ s) }
     ensures ring { InRing L.neighbors (L.table links.now) result }
 {
     prev_of(links, place)
@@ -55,9 +52,9 @@ pub(crate) fn insert_between<L: LinkedListOps>(
     requires covered { IsCovered (L.table links.old) place }
     requires ring { InRing L.neighbors (L.table links.old) behind }
     requires before { (neighbors_at L.neighbors (L.table links.old) behind).prev ≡ Some before }
-    ensures inserted { (s : List Place) → Shows L.neighbors (L.table links.old) behind s
+    ensures inserted { (s : List Place) → Represents L.neighbors (L.table links.old) behind s
         → OnTrue result (IsCircle L.neighbors (L.table links.new).entry (place ∷ behind ∷ s)) }
-    ensures acquired { OnTrue result (L.Does links.old links.new (acquires place ∷ [])) }
+    ensures acquired { OnTrue result (L.Trace links.old links.new (acquires place ∷ [])) }
     ensures refused { OnFalse result (L.Refused links.old links.new place) }
     ensures others { OthersStay L.neighbors (L.table links.old) (L.table links.new) (behind ∷ []) }
     ensures extent { (L.table links.new).extent ≡ (L.table links.old).extent }
@@ -76,8 +73,8 @@ pub(crate) fn unlink<L: LinkedListOps>(links: &mut L, before: Place, place: Plac
     requires ring { InRing L.neighbors (L.table links.old) place }
     requires before { (neighbors_at L.neighbors (L.table links.old) place).prev ≡ Some before }
     requires behind { (neighbors_at L.neighbors (L.table links.old) place).next ≡ Some behind }
-    ensures taken { (r : List Place) → Shows L.neighbors (L.table links.old) place r → IsCircle L.neighbors (L.table links.new).entry r }
-    ensures released { L.Does links.old links.new (releases place ∷ []) }
+    ensures taken { (r : List Place) → Represents L.neighbors (L.table links.old) place r → IsCircle L.neighbors (L.table links.new).entry r }
+    ensures released { L.Trace links.old links.new (releases place ∷ []) }
     ensures others { OthersStay L.neighbors (L.table links.old) (L.table links.new) (place ∷ []) }
     ensures extent { (L.table links.new).extent ≡ (L.table links.old).extent }
     ensures beside { (q : Place) → q ≢ before → q ≢ place → q ≢ behind → (L.table links.new).entry q ≡ (L.table links.old).entry q }
@@ -93,12 +90,12 @@ pub(crate) fn unlink<L: LinkedListOps>(links: &mut L, before: Place, place: Plac
 #[inline]
 pub fn remove<T, L: LinkedListOps>(links: &mut L, object: &UnsafeRef<T>)
     requires member { InRing L.neighbors (L.table links.old) object.now }
-    ensures removed { (head : Place) (front back : List Place) → Shows L.neighbors (L.table links.old) head (front ++ object.now ∷ back)
-        → Shows L.neighbors (L.table links.new) head (front ++ back) }
-    ensures released { L.Does links.old links.new (releases object.now ∷ []) }
+    ensures removed { (head : Place) (front back : List Place) → Represents L.neighbors (L.table links.old) head (front ++ object.now ∷ back)
+        → Represents L.neighbors (L.table links.new) head (front ++ back) }
+    ensures released { L.Trace links.old links.new (releases object.now ∷ []) }
     ensures others { OthersStay L.neighbors (L.table links.old) (L.table links.new) (object.now ∷ []) }
     ensures frame { (r : List Place) → IsRingOf L.neighbors (L.table links.old) object.now r
-        → KeepsBeside (L.table links.old) (L.table links.new) r }
+        → ChangesOnlyIn (L.table links.old) (L.table links.new) r }
 {
     let place = object.place();
     let prev = prev_of(&*links, place);
@@ -106,9 +103,9 @@ pub fn remove<T, L: LinkedListOps>(links: &mut L, object: &UnsafeRef<T>)
     unlink(links, prev, place, next);
 }
 
-/// Puts the object in front of a place that stands in a ring, unless its link is refused. O(1), and it takes no memory.
+/// Puts the object before a place that stands in a ring, unless its link is refused. O(1), and it takes no memory.
 ///
-/// In front of a head it is the last member. It requires that the object's place is covered, and that the other place stands in a ring. A
+/// Before a head it is the last member. It requires that the object's place is covered, and that the other place stands in a ring. A
 /// refused object comes back, and nothing has changed: over a plain table that is so exactly if the object is linked in it. Linux:
 /// `list_add_tail`.
 #[inline]
@@ -120,16 +117,16 @@ pub fn insert_before<T, L: LinkedListOps>(
     requires covered { IsCovered (L.table links.old) object }
     requires ring { InRing L.neighbors (L.table links.old) at }
 
-    ensures inserted { (head : Place) (front back : List Place) → Shows L.neighbors (L.table links.old) head (front ++ at ∷ back)
-        → OnOk result (Shows L.neighbors (L.table links.new) head (front ++ object ∷ at ∷ back)) }
-    ensures at_head { (s : List Place) → Shows L.neighbors (L.table links.old) at s
-        → OnOk result (Shows L.neighbors (L.table links.new) at (s ++ object ∷ [])) }
-    ensures acquired { OnOk result (L.Does links.old links.new (acquires object ∷ [])) }
+    ensures inserted { (head : Place) (front back : List Place) → Represents L.neighbors (L.table links.old) head (front ++ at ∷ back)
+        → OnOk result (Represents L.neighbors (L.table links.new) head (front ++ object ∷ at ∷ back)) }
+    ensures at_head { (s : List Place) → Represents L.neighbors (L.table links.old) at s
+        → OnOk result (Represents L.neighbors (L.table links.new) at (s ++ object ∷ [])) }
+    ensures acquired { OnOk result (L.Trace links.old links.new (acquires object ∷ [])) }
     ensures refused { OnErr result (L.Refused links.old links.new object) }
     ensures unchanged { IfErr result (λ refused. refused.0 ≡ object) }
     ensures others { OthersStay L.neighbors (L.table links.old) (L.table links.new) (at ∷ []) }
     ensures frame { (r : List Place) → IsRingOf L.neighbors (L.table links.old) at r
-        → KeepsBeside (L.table links.old) (L.table links.new) (object ∷ r) }
+        → ChangesOnlyIn (L.table links.old) (L.table links.new) (object ∷ r) }
 {
     let prev = prev_of(&*links, at);
     if !insert_between(links, prev, object.place(), at) {
@@ -138,9 +135,9 @@ pub fn insert_before<T, L: LinkedListOps>(
     Ok(())
 }
 
-/// Puts the object behind a place that stands in a ring, unless its link is refused. O(1), and it takes no memory.
+/// Puts the object after a place that stands in a ring, unless its link is refused. O(1), and it takes no memory.
 ///
-/// Behind a head it is the first member. It requires and returns what [`insert_before`] does. Linux: `list_add`.
+/// After a head it is the first member. It requires and returns what [`insert_before`] does. Linux: `list_add`.
 #[inline]
 pub fn insert_after<T, L: LinkedListOps>(
     links: &mut L,
@@ -150,16 +147,16 @@ pub fn insert_after<T, L: LinkedListOps>(
     requires covered { IsCovered (L.table links.old) object }
     requires ring { InRing L.neighbors (L.table links.old) at }
 
-    ensures inserted { (head : Place) (front back : List Place) → Shows L.neighbors (L.table links.old) head (front ++ at ∷ back)
-        → OnOk result (Shows L.neighbors (L.table links.new) head (front ++ at ∷ object ∷ back)) }
-    ensures at_head { (s : List Place) → Shows L.neighbors (L.table links.old) at s
-        → OnOk result (Shows L.neighbors (L.table links.new) at (object ∷ s)) }
-    ensures acquired { OnOk result (L.Does links.old links.new (acquires object ∷ [])) }
+    ensures inserted { (head : Place) (front back : List Place) → Represents L.neighbors (L.table links.old) head (front ++ at ∷ back)
+        → OnOk result (Represents L.neighbors (L.table links.new) head (front ++ at ∷ object ∷ back)) }
+    ensures at_head { (s : List Place) → Represents L.neighbors (L.table links.old) at s
+        → OnOk result (Represents L.neighbors (L.table links.new) at (object ∷ s)) }
+    ensures acquired { OnOk result (L.Trace links.old links.new (acquires object ∷ [])) }
     ensures refused { OnErr result (L.Refused links.old links.new object) }
     ensures unchanged { IfErr result (λ refused. refused.0 ≡ object) }
     ensures others { OthersStay L.neighbors (L.table links.old) (L.table links.new) (at ∷ []) }
     ensures frame { (r : List Place) → IsRingOf L.neighbors (L.table links.old) at r
-        → KeepsBeside (L.table links.old) (L.table links.new) (object ∷ r) }
+        → ChangesOnlyIn (L.table links.old) (L.table links.new) (object ∷ r) }
 {
     let next = next_of(&*links, at);
     if !insert_between(links, at, object.place(), next) {
@@ -181,14 +178,14 @@ pub fn replace<T, L: LinkedListOps>(
     requires covered { IsCovered (L.table links.old) object }
     requires member { InRing L.neighbors (L.table links.old) out.now }
 
-    ensures replaced { (head : Place) (front back : List Place) → Shows L.neighbors (L.table links.old) head (front ++ out.now ∷ back)
-        → OnOk result (Shows L.neighbors (L.table links.new) head (front ++ object ∷ back)) }
-    ensures exchanged { OnOk result (L.Does links.old links.new (acquires object ∷ releases out.now ∷ [])) }
+    ensures replaced { (head : Place) (front back : List Place) → Represents L.neighbors (L.table links.old) head (front ++ out.now ∷ back)
+        → OnOk result (Represents L.neighbors (L.table links.new) head (front ++ object ∷ back)) }
+    ensures exchanged { OnOk result (L.Trace links.old links.new (acquires object ∷ releases out.now ∷ [])) }
     ensures refused { OnErr result (L.Refused links.old links.new object) }
     ensures unchanged { IfErr result (λ refused. refused.0 ≡ object) }
     ensures others { OthersStay L.neighbors (L.table links.old) (L.table links.new) (out.now ∷ []) }
     ensures frame { (r : List Place) → IsRingOf L.neighbors (L.table links.old) out.now r
-        → KeepsBeside (L.table links.old) (L.table links.new) (object ∷ r) }
+        → ChangesOnlyIn (L.table links.old) (L.table links.new) (object ∷ r) }
 {
     insert_before(links, out.place(), object)?;
     remove(links, out);

@@ -7,11 +7,9 @@
 //! ```
 
 ghost use Rattle.std.specs.Prelude.{◌≡◌, ◌≢◌, ◌↔◌, ◌∷◌, List, None, IsTrue, ⊤};
-ghost use Rattle.ic_unsafe_ref.specs.declared.place.Place.{Place};
+ghost use Rattle.ic_link_ops.specs.Prelude.{Place, object_at, IsMember};
 ghost use Rattle.std.specs.Option.{option_copied};
-ghost use Rattle.ic_unsafe_ref.specs.Objects.{object_at};
-ghost use Rattle.ic_link_ops.specs.Sequences.{IsMember};
-ghost use Rattle.ic_ring.specs.Rings.{InRing, Shows};
+ghost use Rattle.ic_ring.specs.Rings.{InRing, Represents};
 ghost use Rattle.ic_ring.specs.RingCursors.{IsOn, MovesOn, MovesBack};
 
 use crate::ring::Ring;
@@ -63,7 +61,7 @@ pub(crate) fn object_on<T, A: Allocator>(
 }
 
 impl<'a, T, L: LinkedListOps> Cursor<'a, T, L> {
-    ghost use Rattle.ic_ring.specs.Cursor.{links_of, head_of, at_of, IsStanding, SameRing};
+    ghost use Rattle.ic_ring.specs.Cursor.{links_of, head_of, at_of, IsValid, SameRing};
 
     // A cursor at that place of the ring with this head.
     #[inline]
@@ -107,12 +105,12 @@ impl<'a, T, L: LinkedListOps> Cursor<'a, T, L> {
 
     /// Moves to the next member, from the head to the first one, and from the last one to the head. O(1).
     ///
-    /// It requires that the cursor stands in the ring. The gap that was behind the cursor is then in front of it.
+    /// It requires that the cursor stands in the ring. The gap that was after the cursor is then before it.
     #[inline]
     pub fn move_next(&mut self)
-        requires stands { IsStanding L.neighbors L.table self.old }
+        requires stands { IsValid L.neighbors L.table self.old }
         ensures moved { MovesOn L.neighbors (L.table (links_of self.old)) (head_of self.old) (at_of self.old) (at_of self.new) }
-        ensures stands { IsStanding L.neighbors L.table self.new }
+        ensures stands { IsValid L.neighbors L.table self.new }
         ensures same { SameRing self.old self.new }
     {
         self.at = next_of(self.links, self.at);
@@ -120,12 +118,12 @@ impl<'a, T, L: LinkedListOps> Cursor<'a, T, L> {
 
     /// Moves to the previous member, from the head to the last one, and from the first one to the head. O(1).
     ///
-    /// It requires that the cursor stands in the ring. The gap that was in front of the cursor is then behind it.
+    /// It requires that the cursor stands in the ring. The gap that was before the cursor is then after it.
     #[inline]
     pub fn move_prev(&mut self)
-        requires stands { IsStanding L.neighbors L.table self.old }
+        requires stands { IsValid L.neighbors L.table self.old }
         ensures moved { MovesBack L.neighbors (L.table (links_of self.old)) (head_of self.old) (at_of self.old) (at_of self.new) }
-        ensures stands { IsStanding L.neighbors L.table self.new }
+        ensures stands { IsValid L.neighbors L.table self.new }
         ensures same { SameRing self.old self.new }
     {
         self.at = prev_of(self.links, self.at);
@@ -149,18 +147,18 @@ impl<T, L> Clone for Cursor<'_, T, L> {
 }
 
 impl<T> Ring<T> {
-    ghost use Rattle.ic_ring.specs.Cursor.{links_of, head_of, at_of, IsStanding};
+    ghost use Rattle.ic_ring.specs.Cursor.{links_of, head_of, at_of, IsValid};
 
     /// A cursor on the head, that reads. O(1).
     ///
-    /// It requires that the table shows the ring.
+    /// It requires that the table represents the ring.
     #[inline]
     pub fn cursor<'a, L: LinkedListOps>(&self, links: &'a L) -> Cursor<'a, T, L>
         requires shown { InRing L.neighbors (L.table links.now) self.now }
         ensures links { links_of result ≡ links.now }
         ensures head { head_of result ≡ self.now }
         ensures at { at_of result ≡ self.now }
-        ensures stands { IsStanding L.neighbors L.table result }
+        ensures stands { IsValid L.neighbors L.table result }
     {
         Cursor::new(links, self.head(), self.head())
     }
@@ -170,11 +168,11 @@ impl<T> Ring<T> {
     /// It requires that the place stands in this ring.
     #[inline]
     pub fn cursor_at<'a, L: LinkedListOps>(&self, links: &'a L, at: Place) -> Cursor<'a, T, L>
-        requires here { (r : List Place) × Shows L.neighbors (L.table links.now) self.now r × IsMember at (self.now ∷ r) }
+        requires here { (r : List Place) × Represents L.neighbors (L.table links.now) self.now r × IsMember at (self.now ∷ r) }
         ensures links { links_of result ≡ links.now }
         ensures head { head_of result ≡ self.now }
         ensures at { at_of result ≡ at }
-        ensures stands { IsStanding L.neighbors L.table result }
+        ensures stands { IsValid L.neighbors L.table result }
     {
         Cursor::new(links, self.head(), at)
     }

@@ -3,19 +3,15 @@
 //! ```text
 //! let mut cursor = ready.cursor_mut(&mut links); // on the head
 //! cursor.move_next();                            // on the first member
-//! cursor.insert_after(object)?;                  // behind it
+//! cursor.insert_after(object)?;                  // after it
 //! let removed = cursor.remove();                 // and the cursor is on the object
 //! ```
 
 ghost use Rattle.std.specs.Prelude.{◌≡◌, ◌≢◌, ◌↔◌, ◌∷◌, ◌++◌, List, [], None, Some, IsTrue, OnOk, OnErr, OnSome, IfOk, IfErr, IfSome, IfNone, drop};
 ghost use Rattle.std.specs.Option.{option_copied};
-ghost use Rattle.ic_unsafe_ref.specs.declared.place.Place.{Place};
-ghost use Rattle.ic_unsafe_ref.specs.Objects.{object_at};
+ghost use Rattle.ic_link_ops.specs.Prelude.{Place, object_at, Cut, join, insert, remove, replace, splice, first_or, IsAbsent, IsMember, IsCovered, ChangesOnlyIn, acquires, releases};
 ghost use Rattle.ic_link_ops.specs.Errors.{object_of, ByCause};
-ghost use Rattle.ic_link_ops.specs.LinkSteps.{acquires, releases};
-ghost use Rattle.ic_link_ops.specs.Sequences.{Cut, join, insert, remove, replace, splice, first_or, IsAbsent, IsMember};
-ghost use Rattle.ic_link_ops.specs.Tables.{IsCovered, KeepsBeside};
-ghost use Rattle.ic_ring.specs.Rings.{InRing, Shows, OthersStay};
+ghost use Rattle.ic_ring.specs.Rings.{InRing, Represents, OthersStay};
 ghost use Rattle.ic_ring.specs.RingCursors.{IsAfter, IsBefore, IsOn, MovesOn, MovesBack};
 
 use crate::beside::{insert_after, insert_before, replace, unlink};
@@ -51,7 +47,7 @@ impl<T, L> Drop for CursorMut<'_, T, L> {
 }
 
 impl<'a, T, L: LinkedListOps> CursorMut<'a, T, L> {
-    ghost use Rattle.ic_ring.specs.CursorMut.{links_of, head_of, at_of, IsBorrowed, IsStanding, SameRing, ShowsAt, KeepsBesideRing, StaysInRing};
+    ghost use Rattle.ic_ring.specs.CursorMut.{links_of, head_of, at_of, IsBorrowed, IsValid, SameRing, RepresentsAt, ChangesOnlyInRing, StaysInRing};
     ghost use Rattle.ic_ring.specs.Cursor as reading;
 
     // A cursor at that place of the ring with this head.
@@ -106,12 +102,12 @@ impl<'a, T, L: LinkedListOps> CursorMut<'a, T, L> {
 
     /// Moves to the next member, from the head to the first one, and from the last one to the head. O(1).
     ///
-    /// It requires that the cursor stands in the ring. The gap that was behind the cursor is then in front of it.
+    /// It requires that the cursor stands in the ring. The gap that was after the cursor is then before it.
     #[inline]
     pub fn move_next(&mut self)
-        requires stands { IsStanding L.neighbors L.table self.old }
+        requires stands { IsValid L.neighbors L.table self.old }
         ensures moved { MovesOn L.neighbors (L.table (links_of self.old)) (head_of self.old) (at_of self.old) (at_of self.new) }
-        ensures stands { IsStanding L.neighbors L.table self.new }
+        ensures stands { IsValid L.neighbors L.table self.new }
         ensures same { SameRing self.old self.new }
         ensures links { links_of self.new ≡ links_of self.old }
     {
@@ -120,29 +116,29 @@ impl<'a, T, L: LinkedListOps> CursorMut<'a, T, L> {
 
     /// Moves to the previous member, from the head to the last one, and from the first one to the head. O(1).
     ///
-    /// It requires that the cursor stands in the ring. The gap that was in front of the cursor is then behind it.
+    /// It requires that the cursor stands in the ring. The gap that was before the cursor is then after it.
     #[inline]
     pub fn move_prev(&mut self)
-        requires stands { IsStanding L.neighbors L.table self.old }
+        requires stands { IsValid L.neighbors L.table self.old }
         ensures moved { MovesBack L.neighbors (L.table (links_of self.old)) (head_of self.old) (at_of self.old) (at_of self.new) }
-        ensures stands { IsStanding L.neighbors L.table self.new }
+        ensures stands { IsValid L.neighbors L.table self.new }
         ensures same { SameRing self.old self.new }
         ensures links { links_of self.new ≡ links_of self.old }
     {
         self.at = prev_of(&*self.links, self.at);
     }
 
-    /// Puts the object behind the cursor, on the head in front of the first member, unless its link is refused. O(1), and no memory.
+    /// Puts the object after the cursor, on the head before the first member, unless its link is refused. O(1), and no memory.
     ///
     /// It requires that the cursor stands in the ring, and that the object's place is covered. The cursor stays where it is. A refused
     /// object comes back, and nothing has changed.
     #[inline]
     pub fn insert_after(&mut self, object: UnsafeRef<T>) -> Result<(), AlreadyLinked<T>>
         requires covered { IsCovered (L.table (links_of self.old)) object }
-        requires stands { IsStanding L.neighbors L.table self.old }
-        ensures inserted { (gap : Cut) → ShowsAt L.neighbors L.table self.old (join gap) → IsAfter (head_of self.old) gap (at_of self.old)
-            → OnOk result (ShowsAt L.neighbors L.table self.new (insert gap object)) }
-        ensures acquired { OnOk result (L.Does (links_of self.old) (links_of self.new) (acquires object ∷ [])) }
+        requires stands { IsValid L.neighbors L.table self.old }
+        ensures inserted { (gap : Cut) → RepresentsAt L.neighbors L.table self.old (join gap) → IsAfter (head_of self.old) gap (at_of self.old)
+            → OnOk result (RepresentsAt L.neighbors L.table self.new (insert gap object)) }
+        ensures acquired { OnOk result (L.Trace (links_of self.old) (links_of self.new) (acquires object ∷ [])) }
         ensures refused { OnErr result (L.Refused (links_of self.old) (links_of self.new) object) }
         ensures unchanged { IfErr result (λ refused. refused.0 ≡ object) }
         ensures at { at_of self.new ≡ at_of self.old }
@@ -151,16 +147,16 @@ impl<'a, T, L: LinkedListOps> CursorMut<'a, T, L> {
         insert_after(self.links, self.at, object)
     }
 
-    /// Puts the object in front of the cursor, on the head behind the last member, unless its link is refused. O(1), and no memory.
+    /// Puts the object before the cursor, on the head after the last member, unless its link is refused. O(1), and no memory.
     ///
     /// It requires and returns what [`CursorMut::insert_after`] does.
     #[inline]
     pub fn insert_before(&mut self, object: UnsafeRef<T>) -> Result<(), AlreadyLinked<T>>
         requires covered { IsCovered (L.table (links_of self.old)) object }
-        requires stands { IsStanding L.neighbors L.table self.old }
-        ensures inserted { (gap : Cut) → ShowsAt L.neighbors L.table self.old (join gap) → IsBefore (head_of self.old) gap (at_of self.old)
-            → OnOk result (ShowsAt L.neighbors L.table self.new (insert gap object)) }
-        ensures acquired { OnOk result (L.Does (links_of self.old) (links_of self.new) (acquires object ∷ [])) }
+        requires stands { IsValid L.neighbors L.table self.old }
+        ensures inserted { (gap : Cut) → RepresentsAt L.neighbors L.table self.old (join gap) → IsBefore (head_of self.old) gap (at_of self.old)
+            → OnOk result (RepresentsAt L.neighbors L.table self.new (insert gap object)) }
+        ensures acquired { OnOk result (L.Trace (links_of self.old) (links_of self.new) (acquires object ∷ [])) }
         ensures refused { OnErr result (L.Refused (links_of self.old) (links_of self.new) object) }
         ensures unchanged { IfErr result (λ refused. refused.0 ≡ object) }
         ensures at { at_of self.new ≡ at_of self.old }
@@ -175,13 +171,13 @@ impl<'a, T, L: LinkedListOps> CursorMut<'a, T, L> {
     /// changed.
     #[inline]
     pub fn remove(&mut self) -> Option<UnsafeRef<T>>
-        requires stands { IsStanding L.neighbors L.table self.old }
+        requires stands { IsValid L.neighbors L.table self.old }
         ensures answer { IsOn (head_of self.old) (at_of self.old) result }
-        ensures removed { (gap : Cut) → ShowsAt L.neighbors L.table self.old (join gap) → IsBefore (head_of self.old) gap (at_of self.old)
-            → OnSome result (ShowsAt L.neighbors L.table self.new (remove gap)) }
-        ensures moved { (gap : Cut) → ShowsAt L.neighbors L.table self.old (join gap) → IsBefore (head_of self.old) gap (at_of self.old)
+        ensures removed { (gap : Cut) → RepresentsAt L.neighbors L.table self.old (join gap) → IsBefore (head_of self.old) gap (at_of self.old)
+            → OnSome result (RepresentsAt L.neighbors L.table self.new (remove gap)) }
+        ensures moved { (gap : Cut) → RepresentsAt L.neighbors L.table self.old (join gap) → IsBefore (head_of self.old) gap (at_of self.old)
             → Some (at_of self.new) ≡ first_or (drop 1 gap.back) (Some (head_of self.old)) }
-        ensures released { IfSome result (λ object. L.Does (links_of self.old) (links_of self.new) (releases object ∷ [])) }
+        ensures released { IfSome result (λ object. L.Trace (links_of self.old) (links_of self.new) (releases object ∷ [])) }
         ensures null { IfNone result (links_of self.new ≡ links_of self.old) }
         ensures kept { StaysInRing L.neighbors L.table self.old self.new (λ s. head_of self.old ∷ s) }
     {
@@ -203,12 +199,12 @@ impl<'a, T, L: LinkedListOps> CursorMut<'a, T, L> {
     #[inline]
     pub fn replace_with(&mut self, object: UnsafeRef<T>) -> Result<UnsafeRef<T>, ReplaceError<T>>
         requires covered { IsCovered (L.table (links_of self.old)) object }
-        requires stands { IsStanding L.neighbors L.table self.old }
+        requires stands { IsValid L.neighbors L.table self.old }
         ensures answer { IfOk result (λ out. out ≡ at_of self.old) }
-        ensures replaced { (gap : Cut) → ShowsAt L.neighbors L.table self.old (join gap) → IsBefore (head_of self.old) gap (at_of self.old)
-            → OnOk result (ShowsAt L.neighbors L.table self.new (replace gap object)) }
+        ensures replaced { (gap : Cut) → RepresentsAt L.neighbors L.table self.old (join gap) → IsBefore (head_of self.old) gap (at_of self.old)
+            → OnOk result (RepresentsAt L.neighbors L.table self.new (replace gap object)) }
         ensures moved { OnOk result (at_of self.new ≡ object) }
-        ensures exchanged { IfOk result (λ out. L.Does (links_of self.old) (links_of self.new) (acquires object ∷ releases out ∷ [])) }
+        ensures exchanged { IfOk result (λ out. L.Trace (links_of self.old) (links_of self.new) (acquires object ∷ releases out ∷ [])) }
         ensures refused { IfErr result (ByCause ((at_of self.old ≡ head_of self.old) × (links_of self.new ≡ links_of self.old))
             ((at_of self.old ≢ head_of self.old) × L.Refused (links_of self.old) (links_of self.new) object)) }
         ensures unchanged { IfErr result (λ refused. (object_of refused ≡ object) × (at_of self.new ≡ at_of self.old)) }
@@ -226,65 +222,65 @@ impl<'a, T, L: LinkedListOps> CursorMut<'a, T, L> {
         Ok(out)
     }
 
-    /// Puts all members of another ring behind the cursor. The other ring is empty then. O(1), and no link step.
+    /// Puts all members of another ring after the cursor. The other ring is empty then. O(1), and no link step.
     ///
     /// It requires that the cursor stands in its ring, and that they are two rings. The cursor stays where it is. Linux: `list_splice_init`.
     #[inline]
     pub fn splice_after(&mut self, given: &Ring<T>)
-        requires stands { IsStanding L.neighbors L.table self.old }
-        requires apart { (t : List Place) × Shows L.neighbors (L.table (links_of self.old)) given.now t × IsAbsent (head_of self.old) (given.now ∷ t) }
-        ensures spliced { (gap : Cut) (t : List Place) → ShowsAt L.neighbors L.table self.old (join gap) → IsAfter (head_of self.old) gap (at_of self.old)
-            → Shows L.neighbors (L.table (links_of self.old)) given.now t
-            → ShowsAt L.neighbors L.table self.new (splice gap t) × Shows L.neighbors (L.table (links_of self.new)) given.now [] }
-        ensures no_step { L.Does (links_of self.old) (links_of self.new) [] }
+        requires stands { IsValid L.neighbors L.table self.old }
+        requires apart { (t : List Place) × Represents L.neighbors (L.table (links_of self.old)) given.now t × IsAbsent (head_of self.old) (given.now ∷ t) }
+        ensures spliced { (gap : Cut) (t : List Place) → RepresentsAt L.neighbors L.table self.old (join gap) → IsAfter (head_of self.old) gap (at_of self.old)
+            → Represents L.neighbors (L.table (links_of self.old)) given.now t
+            → RepresentsAt L.neighbors L.table self.new (splice gap t) × Represents L.neighbors (L.table (links_of self.new)) given.now [] }
+        ensures trace_stays { L.Trace (links_of self.old) (links_of self.new) [] }
         ensures at { at_of self.new ≡ at_of self.old }
-        ensures stands { IsStanding L.neighbors L.table self.new }
+        ensures stands { IsValid L.neighbors L.table self.new }
         ensures others { OthersStay L.neighbors (L.table (links_of self.old)) (L.table (links_of self.new)) (head_of self.old ∷ given.now ∷ []) }
-        ensures frame { (t : List Place) → Shows L.neighbors (L.table (links_of self.old)) given.now t
-            → KeepsBesideRing L.neighbors L.table self.old self.new (λ s. (head_of self.old ∷ s) ++ (given.now ∷ t)) }
+        ensures frame { (t : List Place) → Represents L.neighbors (L.table (links_of self.old)) given.now t
+            → ChangesOnlyInRing L.neighbors L.table self.old self.new (λ s. (head_of self.old ∷ s) ++ (given.now ∷ t)) }
         ensures same { SameRing self.old self.new }
     {
         splice_behind(self.links, self.at, given.head());
     }
 
-    /// Puts all members of another ring in front of the cursor. The other ring is empty then. O(1), and no link step.
+    /// Puts all members of another ring before the cursor. The other ring is empty then. O(1), and no link step.
     ///
     /// It requires what [`CursorMut::splice_after`] does. The cursor stays where it is. Linux: `list_splice_tail_init`.
     #[inline]
     pub fn splice_before(&mut self, given: &Ring<T>)
-        requires stands { IsStanding L.neighbors L.table self.old }
-        requires apart { (t : List Place) × Shows L.neighbors (L.table (links_of self.old)) given.now t × IsAbsent (head_of self.old) (given.now ∷ t) }
-        ensures spliced { (gap : Cut) (t : List Place) → ShowsAt L.neighbors L.table self.old (join gap) → IsBefore (head_of self.old) gap (at_of self.old)
-            → Shows L.neighbors (L.table (links_of self.old)) given.now t
-            → ShowsAt L.neighbors L.table self.new (splice gap t) × Shows L.neighbors (L.table (links_of self.new)) given.now [] }
-        ensures no_step { L.Does (links_of self.old) (links_of self.new) [] }
+        requires stands { IsValid L.neighbors L.table self.old }
+        requires apart { (t : List Place) × Represents L.neighbors (L.table (links_of self.old)) given.now t × IsAbsent (head_of self.old) (given.now ∷ t) }
+        ensures spliced { (gap : Cut) (t : List Place) → RepresentsAt L.neighbors L.table self.old (join gap) → IsBefore (head_of self.old) gap (at_of self.old)
+            → Represents L.neighbors (L.table (links_of self.old)) given.now t
+            → RepresentsAt L.neighbors L.table self.new (splice gap t) × Represents L.neighbors (L.table (links_of self.new)) given.now [] }
+        ensures trace_stays { L.Trace (links_of self.old) (links_of self.new) [] }
         ensures at { at_of self.new ≡ at_of self.old }
-        ensures stands { IsStanding L.neighbors L.table self.new }
+        ensures stands { IsValid L.neighbors L.table self.new }
         ensures others { OthersStay L.neighbors (L.table (links_of self.old)) (L.table (links_of self.new)) (head_of self.old ∷ given.now ∷ []) }
-        ensures frame { (t : List Place) → Shows L.neighbors (L.table (links_of self.old)) given.now t
-            → KeepsBesideRing L.neighbors L.table self.old self.new (λ s. (head_of self.old ∷ s) ++ (given.now ∷ t)) }
+        ensures frame { (t : List Place) → Represents L.neighbors (L.table (links_of self.old)) given.now t
+            → ChangesOnlyInRing L.neighbors L.table self.old self.new (λ s. (head_of self.old ∷ s) ++ (given.now ∷ t)) }
         ensures same { SameRing self.old self.new }
     {
         let prev = prev_of(&*self.links, self.at);
         splice_behind(self.links, prev, given.head());
     }
 
-    /// Moves the members behind the cursor to the front of another ring, on the head all of them. O(1), and no link step.
+    /// Moves the members after the cursor to the front of another ring, on the head all of them. O(1), and no link step.
     ///
     /// It requires that the cursor stands in its ring, and that they are two rings. The cursor stays where it is.
     #[inline]
     pub fn split_after(&mut self, rest: &Ring<T>)
-        requires stands { IsStanding L.neighbors L.table self.old }
-        requires apart { (t : List Place) × Shows L.neighbors (L.table (links_of self.old)) rest.now t × IsAbsent (head_of self.old) (rest.now ∷ t) }
-        ensures split { (gap : Cut) (t : List Place) → ShowsAt L.neighbors L.table self.old (join gap) → IsAfter (head_of self.old) gap (at_of self.old)
-            → Shows L.neighbors (L.table (links_of self.old)) rest.now t
-            → ShowsAt L.neighbors L.table self.new gap.front × Shows L.neighbors (L.table (links_of self.new)) rest.now (gap.back ++ t) }
-        ensures no_step { L.Does (links_of self.old) (links_of self.new) [] }
+        requires stands { IsValid L.neighbors L.table self.old }
+        requires apart { (t : List Place) × Represents L.neighbors (L.table (links_of self.old)) rest.now t × IsAbsent (head_of self.old) (rest.now ∷ t) }
+        ensures split { (gap : Cut) (t : List Place) → RepresentsAt L.neighbors L.table self.old (join gap) → IsAfter (head_of self.old) gap (at_of self.old)
+            → Represents L.neighbors (L.table (links_of self.old)) rest.now t
+            → RepresentsAt L.neighbors L.table self.new gap.front × Represents L.neighbors (L.table (links_of self.new)) rest.now (gap.back ++ t) }
+        ensures trace_stays { L.Trace (links_of self.old) (links_of self.new) [] }
         ensures at { at_of self.new ≡ at_of self.old }
-        ensures stands { IsStanding L.neighbors L.table self.new }
+        ensures stands { IsValid L.neighbors L.table self.new }
         ensures others { OthersStay L.neighbors (L.table (links_of self.old)) (L.table (links_of self.new)) (head_of self.old ∷ rest.now ∷ []) }
-        ensures frame { (t : List Place) → Shows L.neighbors (L.table (links_of self.old)) rest.now t
-            → KeepsBesideRing L.neighbors L.table self.old self.new (λ s. (head_of self.old ∷ s) ++ (rest.now ∷ t)) }
+        ensures frame { (t : List Place) → Represents L.neighbors (L.table (links_of self.old)) rest.now t
+            → ChangesOnlyInRing L.neighbors L.table self.old self.new (λ s. (head_of self.old ∷ s) ++ (rest.now ∷ t)) }
         ensures same { SameRing self.old self.new }
     {
         let ring: Ring<T> = Ring::from_head(self.head);
@@ -293,18 +289,18 @@ impl<'a, T, L: LinkedListOps> CursorMut<'a, T, L> {
 }
 
 impl<T> Ring<T> {
-    ghost use Rattle.ic_ring.specs.CursorMut.{head_of, at_of, IsBorrowed, IsStanding};
+    ghost use Rattle.ic_ring.specs.CursorMut.{head_of, at_of, IsBorrowed, IsValid};
 
     /// A cursor on the head, that edits. O(1).
     ///
-    /// It requires that the table shows the ring.
+    /// It requires that the table represents the ring.
     #[inline]
     pub fn cursor_mut<'a, L: LinkedListOps>(&self, links: &'a mut L) -> CursorMut<'a, T, L>
         requires shown { InRing L.neighbors (L.table links.old) self.now }
         ensures borrows { IsBorrowed links.entry result }
         ensures head { head_of result ≡ self.now }
         ensures at { at_of result ≡ self.now }
-        ensures stands { IsStanding L.neighbors L.table result }
+        ensures stands { IsValid L.neighbors L.table result }
     {
         CursorMut::new(links, self.head(), self.head())
     }
@@ -318,11 +314,11 @@ impl<T> Ring<T> {
         links: &'a mut L,
         at: Place,
     ) -> CursorMut<'a, T, L>
-        requires here { (r : List Place) × Shows L.neighbors (L.table links.old) self.now r × IsMember at (self.now ∷ r) }
+        requires here { (r : List Place) × Represents L.neighbors (L.table links.old) self.now r × IsMember at (self.now ∷ r) }
         ensures borrows { IsBorrowed links.entry result }
         ensures head { head_of result ≡ self.now }
         ensures at { at_of result ≡ at }
-        ensures stands { IsStanding L.neighbors L.table result }
+        ensures stands { IsValid L.neighbors L.table result }
     {
         CursorMut::new(links, self.head(), at)
     }

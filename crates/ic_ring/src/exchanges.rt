@@ -1,16 +1,14 @@
-//! One edit that joins two rings, and cuts one in two: two places exchange what stands behind them.
+//! One edit that joins two rings, and cuts one in two: two places exchange what stands after them.
 //!
 //! ```text
-//! ready.splice_back(&mut links, &late);        // all of `late` behind all of `ready`
-//! ready.split_after(&mut links, place, &rest); // what stood behind the place is in `rest`
+//! ready.splice_back(&mut links, &late);        // all of `late` after all of `ready`
+//! ready.split_after(&mut links, place, &rest); // what stood after the place is in `rest`
 //! ```
 
 ghost use Rattle.std.specs.Prelude.{◌≡◌, ◌≢◌, ◌∷◌, ◌++◌, List, [], Some};
-ghost use Rattle.ic_unsafe_ref.specs.declared.place.Place.{Place};
-ghost use Rattle.ic_link_ops.specs.Sequences.{IsAbsent, IsDisjoint, last};
-ghost use Rattle.ic_link_ops.specs.Tables.{KeepsBeside};
+ghost use Rattle.ic_link_ops.specs.Prelude.{Place, IsAbsent, IsDisjoint, last, ChangesOnlyIn};
 ghost use Rattle.ic_link_ops.specs.LinkedList.{neighbors_at};
-ghost use Rattle.ic_ring.specs.Rings.{IsCircle, Shows, InRing, IsRingOf, OthersStay};
+ghost use Rattle.ic_ring.specs.Rings.{IsCircle, Represents, InRing, IsRingOf, OthersStay};
 
 use crate::ring::Ring;
 use crate::surgery::{next_of, prev_of};
@@ -18,9 +16,9 @@ use ic_link_ops::LinkOps;
 use ic_link_ops::linked_list::LinkedListOps;
 use ic_unsafe_ref::Place;
 
-/// Two places that stand in rings exchange what stands behind them. O(1), and no link step.
+/// Two places that stand in rings exchange what stands after them. O(1), and no link step.
 ///
-/// So two rings are joined: behind the first place stands what stood behind the second, up to that, and then what stood behind the first.
+/// So two rings are joined: after the first place stands what stood after the second, up to that, and then what stood after the first.
 /// One ring is cut so between the two. The same call again takes it back, and a place and itself exchange nothing. It requires that both places
 /// stand in rings of the table.
 #[inline]
@@ -32,30 +30,30 @@ pub fn exchange<L: LinkedListOps>(links: &mut L, first: Place, second: Place)
     ensures cuts { (r u : List Place) → IsCircle L.neighbors (L.table links.old).entry (r ++ u) → Some first ≡ last r → Some second ≡ last u
         → IsCircle L.neighbors (L.table links.new).entry r × IsCircle L.neighbors (L.table links.new).entry u }
     ensures itself { first ≡ second → (q : Place) → neighbors_at L.neighbors (L.table links.new) q ≡ neighbors_at L.neighbors (L.table links.old) q }
-    ensures no_step { L.Does links.old links.new [] }
+    ensures trace_stays { L.Trace links.old links.new [] }
     ensures others { OthersStay L.neighbors (L.table links.old) (L.table links.new) (first ∷ second ∷ []) }
     ensures frame { (r u : List Place) → IsRingOf L.neighbors (L.table links.old) first r → IsRingOf L.neighbors (L.table links.old) second u
-        → KeepsBeside (L.table links.old) (L.table links.new) (r ++ u) }
+        → ChangesOnlyIn (L.table links.old) (L.table links.new) (r ++ u) }
 {
-    let behind_first = next_of(&*links, first);
-    let behind_second = next_of(&*links, second);
-    links.set_next(first, Some(behind_second));
-    links.set_prev(behind_second, Some(first));
-    links.set_next(second, Some(behind_first));
-    links.set_prev(behind_first, Some(second));
+    let after_first = next_of(&*links, first);
+    let after_second = next_of(&*links, second);
+    links.set_next(first, Some(after_second));
+    links.set_prev(after_second, Some(first));
+    links.set_next(second, Some(after_first));
+    links.set_prev(after_first, Some(second));
 }
 
-// Puts all members of the ring with the second head behind a place of another ring. The ring with that head is empty then.
+// Puts all members of the ring with the second head after a place of another ring. The ring with that head is empty then.
 #[inline]
 pub(crate) fn splice_behind<L: LinkedListOps>(links: &mut L, at: Place, given: Place)
     requires ring { InRing L.neighbors (L.table links.old) at }
-    requires apart { (t : List Place) × Shows L.neighbors (L.table links.old) given t × IsAbsent at (given ∷ t) }
-    ensures spliced { (r t : List Place) → Shows L.neighbors (L.table links.old) at r → Shows L.neighbors (L.table links.old) given t
-        → Shows L.neighbors (L.table links.new) at (t ++ r) × Shows L.neighbors (L.table links.new) given [] }
-    ensures no_step { L.Does links.old links.new [] }
+    requires apart { (t : List Place) × Represents L.neighbors (L.table links.old) given t × IsAbsent at (given ∷ t) }
+    ensures spliced { (r t : List Place) → Represents L.neighbors (L.table links.old) at r → Represents L.neighbors (L.table links.old) given t
+        → Represents L.neighbors (L.table links.new) at (t ++ r) × Represents L.neighbors (L.table links.new) given [] }
+    ensures trace_stays { L.Trace links.old links.new [] }
     ensures others { OthersStay L.neighbors (L.table links.old) (L.table links.new) (at ∷ given ∷ []) }
-    ensures frame { (r t : List Place) → Shows L.neighbors (L.table links.old) at r → Shows L.neighbors (L.table links.old) given t
-        → KeepsBeside (L.table links.old) (L.table links.new) ((at ∷ r) ++ (given ∷ t)) }
+    ensures frame { (r t : List Place) → Represents L.neighbors (L.table links.old) at r → Represents L.neighbors (L.table links.old) given t
+        → ChangesOnlyIn (L.table links.old) (L.table links.new) ((at ∷ r) ++ (given ∷ t)) }
 {
     let end = prev_of(&*links, given);
     exchange(links, at, end);
@@ -63,19 +61,19 @@ pub(crate) fn splice_behind<L: LinkedListOps>(links: &mut L, at: Place, given: P
 }
 
 impl<T> Ring<T> {
-    /// Puts all members of another ring behind those of this one. The other ring is empty then. O(1), and no link step.
+    /// Puts all members of another ring after those of this one. The other ring is empty then. O(1), and no link step.
     ///
     /// It requires that they are two rings. Linux: `list_splice_tail_init`.
     #[inline]
     pub fn splice_back<L: LinkedListOps>(&self, links: &mut L, given: &Ring<T>)
         requires shown { InRing L.neighbors (L.table links.old) self.now }
-        requires apart { (t : List Place) × Shows L.neighbors (L.table links.old) given.now t × IsAbsent self.now (given.now ∷ t) }
-        ensures spliced { (s t : List Place) → Shows L.neighbors (L.table links.old) self.now s → Shows L.neighbors (L.table links.old) given.now t
-            → Shows L.neighbors (L.table links.new) self.now (s ++ t) × Shows L.neighbors (L.table links.new) given.now [] }
-        ensures no_step { L.Does links.old links.new [] }
+        requires apart { (t : List Place) × Represents L.neighbors (L.table links.old) given.now t × IsAbsent self.now (given.now ∷ t) }
+        ensures spliced { (s t : List Place) → Represents L.neighbors (L.table links.old) self.now s → Represents L.neighbors (L.table links.old) given.now t
+            → Represents L.neighbors (L.table links.new) self.now (s ++ t) × Represents L.neighbors (L.table links.new) given.now [] }
+        ensures trace_stays { L.Trace links.old links.new [] }
         ensures others { OthersStay L.neighbors (L.table links.old) (L.table links.new) (self.now ∷ given.now ∷ []) }
-        ensures frame { (s t : List Place) → Shows L.neighbors (L.table links.old) self.now s → Shows L.neighbors (L.table links.old) given.now t
-            → KeepsBeside (L.table links.old) (L.table links.new) ((self.now ∷ s) ++ (given.now ∷ t)) }
+        ensures frame { (s t : List Place) → Represents L.neighbors (L.table links.old) self.now s → Represents L.neighbors (L.table links.old) given.now t
+            → ChangesOnlyIn (L.table links.old) (L.table links.new) ((self.now ∷ s) ++ (given.now ∷ t)) }
     {
         let head = self.head();
         let last = prev_of(&*links, head);
@@ -85,21 +83,21 @@ impl<T> Ring<T> {
         exchange(links, last, given_head);
     }
 
-    /// Moves what stands behind a place of this ring to the front of another ring. Behind the head that is all. O(1), and no link step.
+    /// Moves what stands after a place of this ring to the front of another ring. After the head that is all. O(1), and no link step.
     ///
     /// It requires that the place stands in this ring, as its head or as a member, and that they are two rings.
     #[inline]
     pub fn split_after<L: LinkedListOps>(&self, links: &mut L, at: Place, rest: &Ring<T>)
-        requires cut { (front back : List Place) × Shows L.neighbors (L.table links.old) self.now (front ++ back) × (Some at ≡ last (self.now ∷ front)) }
-        requires apart { (t : List Place) × Shows L.neighbors (L.table links.old) rest.now t × IsAbsent self.now (rest.now ∷ t) }
-        ensures split { (front back t : List Place) → Shows L.neighbors (L.table links.old) self.now (front ++ back)
-            → Some at ≡ last (self.now ∷ front) → Shows L.neighbors (L.table links.old) rest.now t
-            → Shows L.neighbors (L.table links.new) self.now front × Shows L.neighbors (L.table links.new) rest.now (back ++ t) }
-        ensures no_step { L.Does links.old links.new [] }
+        requires cut { (front back : List Place) × Represents L.neighbors (L.table links.old) self.now (front ++ back) × (Some at ≡ last (self.now ∷ front)) }
+        requires apart { (t : List Place) × Represents L.neighbors (L.table links.old) rest.now t × IsAbsent self.now (rest.now ∷ t) }
+        ensures split { (front back t : List Place) → Represents L.neighbors (L.table links.old) self.now (front ++ back)
+            → Some at ≡ last (self.now ∷ front) → Represents L.neighbors (L.table links.old) rest.now t
+            → Represents L.neighbors (L.table links.new) self.now front × Represents L.neighbors (L.table links.new) rest.now (back ++ t) }
+        ensures trace_stays { L.Trace links.old links.new [] }
         ensures others { OthersStay L.neighbors (L.table links.old) (L.table links.new) (self.now ∷ rest.now ∷ []) }
-        ensures frame { (front back t : List Place) → Shows L.neighbors (L.table links.old) self.now (front ++ back)
-            → Some at ≡ last (self.now ∷ front) → Shows L.neighbors (L.table links.old) rest.now t
-            → KeepsBeside (L.table links.old) (L.table links.new) ((self.now ∷ (front ++ back)) ++ (rest.now ∷ t)) }
+        ensures frame { (front back t : List Place) → Represents L.neighbors (L.table links.old) self.now (front ++ back)
+            → Some at ≡ last (self.now ∷ front) → Represents L.neighbors (L.table links.old) rest.now t
+            → ChangesOnlyIn (L.table links.old) (L.table links.new) ((self.now ∷ (front ++ back)) ++ (rest.now ∷ t)) }
     {
         exchange(links, at, rest.head());
         let last = prev_of(&*links, self.head());

@@ -8,14 +8,13 @@
 //! ```
 
 ghost use Rattle.std.specs.Prelude.{◌≡◌, List, Option, Some, ⊤};
-ghost use Rattle.ic_unsafe_ref.specs.declared.place.Place.{Place};
+ghost use Rattle.ic_link_ops.specs.Prelude.{Place, RepresentsPlaced, values_at};
 ghost use Rattle.ic_link_ops.specs.Walk.{GivesFirst, GivesLast};
-ghost use Rattle.ic_link_ops.specs.PlacedObjects.{ShowsPlaced, values_at};
-ghost use Rattle.ic_ring.specs.Rings.{Shows};
+ghost use Rattle.ic_ring.specs.Rings.{Represents};
 
 use crate::ring::Ring;
 use crate::surgery::{next_of, prev_of};
-use ic_cursors::Listing;
+use ic_cursors::DebugWalk;
 use ic_link_ops::LinkOps;
 use ic_link_ops::linked_list::LinkedListOps;
 use ic_unsafe_ref::{Objects, Place, Values};
@@ -24,7 +23,7 @@ use std::marker::PhantomData;
 
 /// The objects of a ring that are not given out yet: from the front by `next`, and from the back by `next_back`.
 ///
-/// It keeps the first place of what is left and the one behind the last, which is the head at first. Where the two are one, nothing is left.
+/// It keeps the first place of what is left and the one after the last, which is the head at first. Where the two are one, nothing is left.
 pub struct Iter<'a, T, L, O = Objects<T>> {
     links: &'a L,
     objects: &'a O,
@@ -116,8 +115,8 @@ impl<T> Ring<T> {
         links: &'a L,
         objects: &'a O,
     ) -> Iter<'a, T, L, O>
-        requires placed { ShowsPlaced (Shows L.neighbors (L.table links.now) self.now) (O.values objects.now) }
-        ensures walks { (s : List Place) → Shows L.neighbors (L.table links.now) self.now s
+        requires placed { RepresentsPlaced (Represents L.neighbors (L.table links.now) self.now) (O.values objects.now) }
+        ensures walks { (s : List Place) → Represents L.neighbors (L.table links.now) self.now s
             → objects_left L.neighbors L.table O.values result ≡ values_at (O.values objects.now) s }
         ensures can_walk { CanWalk L.neighbors L.table O.values result }
     {
@@ -136,11 +135,11 @@ impl<T> Ring<T> {
         &self,
         links: &'a L,
         objects: &'a O,
-    ) -> Listing<Iter<'a, T, L, O>>
-        requires placed { ShowsPlaced (Shows L.neighbors (L.table links.now) self.now) (O.values objects.now) }
-        ensures lists { (s : List Place) → Shows L.neighbors (L.table links.now) self.now s
+    ) -> DebugWalk<Iter<'a, T, L, O>>
+        requires placed { RepresentsPlaced (Represents L.neighbors (L.table links.now) self.now) (O.values objects.now) }
+        ensures lists { (s : List Place) → Represents L.neighbors (L.table links.now) self.now s
             → objects_left L.neighbors L.table O.values result ≡ values_at (O.values objects.now) s }
     {
-        Listing::new(self.iter(links, objects))
+        DebugWalk::new(self.iter(links, objects))
     }
 }

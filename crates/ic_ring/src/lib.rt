@@ -31,7 +31,7 @@ pub use beside::{insert_after, insert_before, next, prev, remove, replace};
 pub use cursor::Cursor;
 pub use cursor_mut::CursorMut;
 pub use exchanges::exchange;
-pub use ic_cursors::Listing;
+pub use ic_cursors::DebugWalk;
 pub use ic_link_ops::linked_list::{Link, LinkOps, LinkedListOps};
 pub use iter::Iter;
 pub use moves::{move_after, move_before};

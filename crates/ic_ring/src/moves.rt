@@ -6,11 +6,9 @@
 //! ```
 
 ghost use Rattle.std.specs.Prelude.{◌≡◌, ◌≢◌, ◌∷◌, ◌++◌, List, [], Some};
-ghost use Rattle.ic_unsafe_ref.specs.declared.place.Place.{Place};
-ghost use Rattle.ic_link_ops.specs.Sequences.{IsAbsent, at_front, at_back, insert};
-ghost use Rattle.ic_link_ops.specs.Tables.{IsLinked, KeepsBeside};
+ghost use Rattle.ic_link_ops.specs.Prelude.{Place, IsAbsent, at_front, at_back, insert, IsLinked, ChangesOnlyIn};
 ghost use Rattle.ic_link_ops.specs.LinkedList.{neighbors_at};
-ghost use Rattle.ic_ring.specs.Rings.{IsCircle, Shows, InRing, IsRingOf, ShowsBeside, OthersStay};
+ghost use Rattle.ic_ring.specs.Rings.{IsCircle, Represents, InRing, IsRingOf, RepresentsBeside, OthersStay};
 
 use crate::ring::Ring;
 use crate::surgery::{bypass, next_of, prev_of, set_neighbors, turn_to};
@@ -22,11 +20,11 @@ use ic_unsafe_ref::{Place, UnsafeRef};
 #[inline]
 fn detach<L: LinkedListOps>(links: &mut L, place: Place)
     requires ring { InRing L.neighbors (L.table links.old) place }
-    ensures taken { (r : List Place) → Shows L.neighbors (L.table links.old) place r → IsCircle L.neighbors (L.table links.new).entry r }
-    ensures no_step { L.Does links.old links.new [] }
+    ensures taken { (r : List Place) → Represents L.neighbors (L.table links.old) place r → IsCircle L.neighbors (L.table links.new).entry r }
+    ensures trace_stays { L.Trace links.old links.new [] }
     ensures others { OthersStay L.neighbors (L.table links.old) (L.table links.new) (place ∷ []) }
     ensures extent { (L.table links.new).extent ≡ (L.table links.old).extent }
-    ensures beside { (r : List Place) (q : Place) → Shows L.neighbors (L.table links.old) place r → IsAbsent q (place ∷ r)
+    ensures beside { (r : List Place) (q : Place) → Represents L.neighbors (L.table links.old) place r → IsAbsent q (place ∷ r)
         → (L.table links.new).entry q ≡ (L.table links.old).entry q }
 {
     let prev = prev_of(&*links, place);
@@ -40,9 +38,9 @@ fn insert_linked<L: LinkedListOps>(links: &mut L, before: Place, place: Place, b
     requires held { IsLinked L.linked (L.table links.old) place }
     requires ring { InRing L.neighbors (L.table links.old) behind }
     requires before { (neighbors_at L.neighbors (L.table links.old) behind).prev ≡ Some before }
-    ensures put { (s : List Place) → Shows L.neighbors (L.table links.old) behind s → IsAbsent place (behind ∷ s)
+    ensures put { (s : List Place) → Represents L.neighbors (L.table links.old) behind s → IsAbsent place (behind ∷ s)
         → IsCircle L.neighbors (L.table links.new).entry (place ∷ behind ∷ s) }
-    ensures no_step { L.Does links.old links.new [] }
+    ensures trace_stays { L.Trace links.old links.new [] }
     ensures others { (r : List Place) → IsCircle L.neighbors (L.table links.old).entry r → IsAbsent place r → IsAbsent behind r
         → IsCircle L.neighbors (L.table links.new).entry r }
     ensures extent { (L.table links.new).extent ≡ (L.table links.old).extent }
@@ -52,9 +50,9 @@ fn insert_linked<L: LinkedListOps>(links: &mut L, before: Place, place: Place, b
     turn_to(links, before, place, behind);
 }
 
-/// Moves the object in front of a place that stands in a ring, from whichever ring it is in. O(1), and its link is not given up.
+/// Moves the object before a place that stands in a ring, from whichever ring it is in. O(1), and its link is not given up.
 ///
-/// In front of a head it is the last member. It requires that both stand in rings of the table, and are two places. Linux:
+/// Before a head it is the last member. It requires that both stand in rings of the table, and are two places. Linux:
 /// `list_move_tail`.
 #[inline]
 pub fn move_before<T, L: LinkedListOps>(links: &mut L, at: Place, object: &UnsafeRef<T>)
@@ -62,16 +60,16 @@ pub fn move_before<T, L: LinkedListOps>(links: &mut L, at: Place, object: &Unsaf
     requires member { InRing L.neighbors (L.table links.old) object.now }
     requires other { at ≢ object.now }
     ensures moved { (head : Place) (front back : List Place)
-        → ShowsBeside L.neighbors (L.table links.old) object.now head (front ++ at ∷ back)
-        → Shows L.neighbors (L.table links.new) head (front ++ object.now ∷ at ∷ back) }
-    ensures at_head { (s : List Place) → ShowsBeside L.neighbors (L.table links.old) object.now at s
-        → Shows L.neighbors (L.table links.new) at (s ++ object.now ∷ []) }
-    ensures left { (head : Place) (s : List Place) → ShowsBeside L.neighbors (L.table links.old) object.now head s
-        → IsAbsent at (head ∷ s) → Shows L.neighbors (L.table links.new) head s }
-    ensures no_step { L.Does links.old links.new [] }
+        → RepresentsBeside L.neighbors (L.table links.old) object.now head (front ++ at ∷ back)
+        → Represents L.neighbors (L.table links.new) head (front ++ object.now ∷ at ∷ back) }
+    ensures at_head { (s : List Place) → RepresentsBeside L.neighbors (L.table links.old) object.now at s
+        → Represents L.neighbors (L.table links.new) at (s ++ object.now ∷ []) }
+    ensures left { (head : Place) (s : List Place) → RepresentsBeside L.neighbors (L.table links.old) object.now head s
+        → IsAbsent at (head ∷ s) → Represents L.neighbors (L.table links.new) head s }
+    ensures trace_stays { L.Trace links.old links.new [] }
     ensures others { OthersStay L.neighbors (L.table links.old) (L.table links.new) (at ∷ object.now ∷ []) }
     ensures frame { (r s : List Place) → IsRingOf L.neighbors (L.table links.old) at r
-        → IsRingOf L.neighbors (L.table links.old) object.now s → KeepsBeside (L.table links.old) (L.table links.new) (r ++ s) }
+        → IsRingOf L.neighbors (L.table links.old) object.now s → ChangesOnlyIn (L.table links.old) (L.table links.new) (r ++ s) }
 {
     let place = object.place();
     detach(links, place);
@@ -79,25 +77,25 @@ pub fn move_before<T, L: LinkedListOps>(links: &mut L, at: Place, object: &Unsaf
     insert_linked(links, prev, place, at);
 }
 
-/// Moves the object behind a place that stands in a ring, from whichever ring it is in. O(1), and its link is not given up.
+/// Moves the object after a place that stands in a ring, from whichever ring it is in. O(1), and its link is not given up.
 ///
-/// Behind a head it is the first member. It requires what [`move_before`] does. Linux: `list_move`.
+/// After a head it is the first member. It requires what [`move_before`] does. Linux: `list_move`.
 #[inline]
 pub fn move_after<T, L: LinkedListOps>(links: &mut L, at: Place, object: &UnsafeRef<T>)
     requires ring { InRing L.neighbors (L.table links.old) at }
     requires member { InRing L.neighbors (L.table links.old) object.now }
     requires other { at ≢ object.now }
     ensures moved { (head : Place) (front back : List Place)
-        → ShowsBeside L.neighbors (L.table links.old) object.now head (front ++ at ∷ back)
-        → Shows L.neighbors (L.table links.new) head (front ++ at ∷ object.now ∷ back) }
-    ensures at_head { (s : List Place) → ShowsBeside L.neighbors (L.table links.old) object.now at s
-        → Shows L.neighbors (L.table links.new) at (object.now ∷ s) }
-    ensures left { (head : Place) (s : List Place) → ShowsBeside L.neighbors (L.table links.old) object.now head s
-        → IsAbsent at (head ∷ s) → Shows L.neighbors (L.table links.new) head s }
-    ensures no_step { L.Does links.old links.new [] }
+        → RepresentsBeside L.neighbors (L.table links.old) object.now head (front ++ at ∷ back)
+        → Represents L.neighbors (L.table links.new) head (front ++ at ∷ object.now ∷ back) }
+    ensures at_head { (s : List Place) → RepresentsBeside L.neighbors (L.table links.old) object.now at s
+        → Represents L.neighbors (L.table links.new) at (object.now ∷ s) }
+    ensures left { (head : Place) (s : List Place) → RepresentsBeside L.neighbors (L.table links.old) object.now head s
+        → IsAbsent at (head ∷ s) → Represents L.neighbors (L.table links.new) head s }
+    ensures trace_stays { L.Trace links.old links.new [] }
     ensures others { OthersStay L.neighbors (L.table links.old) (L.table links.new) (at ∷ object.now ∷ []) }
     ensures frame { (r s : List Place) → IsRingOf L.neighbors (L.table links.old) at r
-        → IsRingOf L.neighbors (L.table links.old) object.now s → KeepsBeside (L.table links.old) (L.table links.new) (r ++ s) }
+        → IsRingOf L.neighbors (L.table links.old) object.now s → ChangesOnlyIn (L.table links.old) (L.table links.new) (r ++ s) }
 {
     let place = object.place();
     detach(links, place);
@@ -115,15 +113,15 @@ impl<T> Ring<T> {
         requires shown { InRing L.neighbors (L.table links.old) self.now }
         requires member { InRing L.neighbors (L.table links.old) object.now }
         requires other { self.now ≢ object.now }
-        ensures moved { (s : List Place) → ShowsBeside L.neighbors (L.table links.old) object.now self.now s
-            → Shows L.neighbors (L.table links.new) self.now (insert (at_back s) object.now) }
-        ensures left { (head : Place) (s : List Place) → ShowsBeside L.neighbors (L.table links.old) object.now head s
-            → IsAbsent self.now (head ∷ s) → Shows L.neighbors (L.table links.new) head s }
-        ensures no_step { L.Does links.old links.new [] }
+        ensures moved { (s : List Place) → RepresentsBeside L.neighbors (L.table links.old) object.now self.now s
+            → Represents L.neighbors (L.table links.new) self.now (insert (at_back s) object.now) }
+        ensures left { (head : Place) (s : List Place) → RepresentsBeside L.neighbors (L.table links.old) object.now head s
+            → IsAbsent self.now (head ∷ s) → Represents L.neighbors (L.table links.new) head s }
+        ensures trace_stays { L.Trace links.old links.new [] }
         ensures others { OthersStay L.neighbors (L.table links.old) (L.table links.new) (self.now ∷ object.now ∷ []) }
-        ensures frame { (s r : List Place) → Shows L.neighbors (L.table links.old) self.now s
+        ensures frame { (s r : List Place) → Represents L.neighbors (L.table links.old) self.now s
             → IsRingOf L.neighbors (L.table links.old) object.now r
-            → KeepsBeside (L.table links.old) (L.table links.new) ((self.now ∷ s) ++ r) }
+            → ChangesOnlyIn (L.table links.old) (L.table links.new) ((self.now ∷ s) ++ r) }
     {
         move_before(links, self.head(), object);
     }
@@ -136,15 +134,15 @@ impl<T> Ring<T> {
         requires shown { InRing L.neighbors (L.table links.old) self.now }
         requires member { InRing L.neighbors (L.table links.old) object.now }
         requires other { self.now ≢ object.now }
-        ensures moved { (s : List Place) → ShowsBeside L.neighbors (L.table links.old) object.now self.now s
-            → Shows L.neighbors (L.table links.new) self.now (insert (at_front s) object.now) }
-        ensures left { (head : Place) (s : List Place) → ShowsBeside L.neighbors (L.table links.old) object.now head s
-            → IsAbsent self.now (head ∷ s) → Shows L.neighbors (L.table links.new) head s }
-        ensures no_step { L.Does links.old links.new [] }
+        ensures moved { (s : List Place) → RepresentsBeside L.neighbors (L.table links.old) object.now self.now s
+            → Represents L.neighbors (L.table links.new) self.now (insert (at_front s) object.now) }
+        ensures left { (head : Place) (s : List Place) → RepresentsBeside L.neighbors (L.table links.old) object.now head s
+            → IsAbsent self.now (head ∷ s) → Represents L.neighbors (L.table links.new) head s }
+        ensures trace_stays { L.Trace links.old links.new [] }
         ensures others { OthersStay L.neighbors (L.table links.old) (L.table links.new) (self.now ∷ object.now ∷ []) }
-        ensures frame { (s r : List Place) → Shows L.neighbors (L.table links.old) self.now s
+        ensures frame { (s r : List Place) → Represents L.neighbors (L.table links.old) self.now s
             → IsRingOf L.neighbors (L.table links.old) object.now r
-            → KeepsBeside (L.table links.old) (L.table links.new) ((self.now ∷ s) ++ r) }
+            → ChangesOnlyIn (L.table links.old) (L.table links.new) ((self.now ∷ s) ++ r) }
     {
         move_after(links, self.head(), object);
     }

@@ -6,11 +6,8 @@
 //! ```
 
 ghost use Rattle.std.specs.Prelude.{◌≡◌, ◌≢◌, ◌∷◌, ◌++◌, ◌↔◌, List, [], IsTrue, OnOk, OnErr, IfErr, IfSome, IfNone, OnSome};
-ghost use Rattle.ic_unsafe_ref.specs.declared.place.Place.{Place};
-ghost use Rattle.ic_link_ops.specs.Sequences.{first, last, but_last, at_front, at_back, insert, remove};
-ghost use Rattle.ic_link_ops.specs.Tables.{IsCovered, ChangesOnly, KeepsBeside};
-ghost use Rattle.ic_link_ops.specs.LinkSteps.{acquires, releases, releases_each};
-ghost use Rattle.ic_ring.specs.Rings.{Shows, InRing, OthersStay};
+ghost use Rattle.ic_link_ops.specs.Prelude.{Place, first, last, but_last, at_front, at_back, insert, remove, IsCovered, ChangesOnly, ChangesOnlyIn, acquires, releases, releases_each};
+ghost use Rattle.ic_ring.specs.Rings.{Represents, InRing, OthersStay};
 
 use crate::beside::{insert_between, unlink};
 use crate::surgery::{next_of, prev_of};
@@ -21,7 +18,7 @@ use std::marker::{Model, PhantomData};
 
 /// A ring of objects, named by its head: a place of the table at which no object is linked. Good for queues.
 ///
-/// The head never changes, so no call writes the ring itself. A clause sees the head. Which members the ring has is what the table shows
+/// The head never changes, so no call writes the ring itself. A clause sees the head. Which members the ring has is what the table represents
 /// for it.
 pub struct Ring<T> {
     head: Place,
@@ -50,8 +47,8 @@ impl<T> Ring<T> {
     #[inline]
     pub fn open<L: LinkedListOps>(links: &mut L, head: Place) -> Option<Ring<T>>
         requires covered { IsCovered (L.table links.old) head }
-        ensures opened { IfSome result (λ ring. (ring ≡ head) × Shows L.neighbors (L.table links.new) head []) }
-        ensures acquired { OnSome result (L.Does links.old links.new (acquires head ∷ [])) }
+        ensures opened { IfSome result (λ ring. (ring ≡ head) × Represents L.neighbors (L.table links.new) head []) }
+        ensures acquired { OnSome result (L.Trace links.old links.new (acquires head ∷ [])) }
         ensures refused { IfNone result (L.Refused links.old links.new head) }
         ensures others { OthersStay L.neighbors (L.table links.old) (L.table links.new) [] }
         ensures frame { ChangesOnly (L.table links.old) (L.table links.new) head }
@@ -64,7 +61,7 @@ impl<T> Ring<T> {
 
     /// The ring with this head, for who keeps the heads of his rings himself. O(1).
     ///
-    /// It requires nothing of it: which members the ring has, if any, is what a table shows for it. [`Ring::head`] reads it again.
+    /// It requires nothing of it: which members the ring has, if any, is what a table represents for it. [`Ring::head`] reads it again.
     #[inline]
     pub fn from_head(head: Place) -> Ring<T>
         ensures { result ≡ head }
@@ -87,7 +84,7 @@ impl<T> Ring<T> {
     #[inline]
     pub fn first<L: LinkedListOps>(&self, links: &L) -> Option<Place>
         requires shown { InRing L.neighbors (L.table links.now) self.now }
-        ensures { (s : List Place) → Shows L.neighbors (L.table links.now) self.now s → result ≡ first s }
+        ensures { (s : List Place) → Represents L.neighbors (L.table links.now) self.now s → result ≡ first s }
     {
         let place = next_of(links, self.head);
         if place == self.head {
@@ -101,7 +98,7 @@ impl<T> Ring<T> {
     #[inline]
     pub fn last<L: LinkedListOps>(&self, links: &L) -> Option<Place>
         requires shown { InRing L.neighbors (L.table links.now) self.now }
-        ensures { (s : List Place) → Shows L.neighbors (L.table links.now) self.now s → result ≡ last s }
+        ensures { (s : List Place) → Represents L.neighbors (L.table links.now) self.now s → result ≡ last s }
     {
         let place = prev_of(links, self.head);
         if place == self.head {
@@ -115,7 +112,7 @@ impl<T> Ring<T> {
     #[inline]
     pub fn is_empty<L: LinkedListOps>(&self, links: &L) -> bool
         requires shown { InRing L.neighbors (L.table links.now) self.now }
-        ensures { (s : List Place) → Shows L.neighbors (L.table links.now) self.now s → (IsTrue result ↔ (s ≡ [])) }
+        ensures { (s : List Place) → Represents L.neighbors (L.table links.now) self.now s → (IsTrue result ↔ (s ≡ [])) }
     {
         self.first(links).is_none()
     }
@@ -133,14 +130,14 @@ impl<T> Ring<T> {
         requires covered { IsCovered (L.table links.old) object }
         requires shown { InRing L.neighbors (L.table links.old) self.now }
 
-        ensures inserted { (s : List Place) → Shows L.neighbors (L.table links.old) self.now s
-            → OnOk result (Shows L.neighbors (L.table links.new) self.now (insert (at_back s) object)) }
-        ensures acquired { OnOk result (L.Does links.old links.new (acquires object ∷ [])) }
+        ensures inserted { (s : List Place) → Represents L.neighbors (L.table links.old) self.now s
+            → OnOk result (Represents L.neighbors (L.table links.new) self.now (insert (at_back s) object)) }
+        ensures acquired { OnOk result (L.Trace links.old links.new (acquires object ∷ [])) }
         ensures refused { OnErr result (L.Refused links.old links.new object) }
         ensures unchanged { IfErr result (λ refused. refused.0 ≡ object) }
         ensures others { OthersStay L.neighbors (L.table links.old) (L.table links.new) (self.now ∷ []) }
-        ensures frame { (s : List Place) → Shows L.neighbors (L.table links.old) self.now s
-            → KeepsBeside (L.table links.old) (L.table links.new) (object ∷ self.now ∷ s) }
+        ensures frame { (s : List Place) → Represents L.neighbors (L.table links.old) self.now s
+            → ChangesOnlyIn (L.table links.old) (L.table links.new) (object ∷ self.now ∷ s) }
     {
         let last = prev_of(&*links, self.head);
         if !insert_between(links, last, object.place(), self.head) {
@@ -161,14 +158,14 @@ impl<T> Ring<T> {
         requires covered { IsCovered (L.table links.old) object }
         requires shown { InRing L.neighbors (L.table links.old) self.now }
 
-        ensures inserted { (s : List Place) → Shows L.neighbors (L.table links.old) self.now s
-            → OnOk result (Shows L.neighbors (L.table links.new) self.now (insert (at_front s) object)) }
-        ensures acquired { OnOk result (L.Does links.old links.new (acquires object ∷ [])) }
+        ensures inserted { (s : List Place) → Represents L.neighbors (L.table links.old) self.now s
+            → OnOk result (Represents L.neighbors (L.table links.new) self.now (insert (at_front s) object)) }
+        ensures acquired { OnOk result (L.Trace links.old links.new (acquires object ∷ [])) }
         ensures refused { OnErr result (L.Refused links.old links.new object) }
         ensures unchanged { IfErr result (λ refused. refused.0 ≡ object) }
         ensures others { OthersStay L.neighbors (L.table links.old) (L.table links.new) (self.now ∷ []) }
-        ensures frame { (s : List Place) → Shows L.neighbors (L.table links.old) self.now s
-            → KeepsBeside (L.table links.old) (L.table links.new) (object ∷ self.now ∷ s) }
+        ensures frame { (s : List Place) → Represents L.neighbors (L.table links.old) self.now s
+            → ChangesOnlyIn (L.table links.old) (L.table links.new) (object ∷ self.now ∷ s) }
     {
         let first = next_of(&*links, self.head);
         if !insert_between(links, self.head, object.place(), first) {
@@ -182,14 +179,14 @@ impl<T> Ring<T> {
     pub fn pop_front<L: LinkedListOps>(&self, links: &mut L) -> Option<UnsafeRef<T>>
         requires shown { InRing L.neighbors (L.table links.old) self.now }
 
-        ensures answer { (s : List Place) → Shows L.neighbors (L.table links.old) self.now s → result ≡ first s }
-        ensures removed { (s : List Place) → Shows L.neighbors (L.table links.old) self.now s
-            → Shows L.neighbors (L.table links.new) self.now (remove (at_front s)) }
-        ensures released { IfSome result (λ object. L.Does links.old links.new (releases object ∷ [])) }
+        ensures answer { (s : List Place) → Represents L.neighbors (L.table links.old) self.now s → result ≡ first s }
+        ensures removed { (s : List Place) → Represents L.neighbors (L.table links.old) self.now s
+            → Represents L.neighbors (L.table links.new) self.now (remove (at_front s)) }
+        ensures released { IfSome result (λ object. L.Trace links.old links.new (releases object ∷ [])) }
         ensures empty { IfNone result (links.new ≡ links.old) }
         ensures others { OthersStay L.neighbors (L.table links.old) (L.table links.new) (self.now ∷ []) }
-        ensures frame { (s : List Place) → Shows L.neighbors (L.table links.old) self.now s
-            → KeepsBeside (L.table links.old) (L.table links.new) (self.now ∷ s) }
+        ensures frame { (s : List Place) → Represents L.neighbors (L.table links.old) self.now s
+            → ChangesOnlyIn (L.table links.old) (L.table links.new) (self.now ∷ s) }
     {
         let front = self.first(&*links)?;
         let next = next_of(&*links, front);
@@ -202,14 +199,14 @@ impl<T> Ring<T> {
     pub fn pop_back<L: LinkedListOps>(&self, links: &mut L) -> Option<UnsafeRef<T>>
         requires shown { InRing L.neighbors (L.table links.old) self.now }
 
-        ensures answer { (s : List Place) → Shows L.neighbors (L.table links.old) self.now s → result ≡ last s }
-        ensures removed { (s : List Place) → Shows L.neighbors (L.table links.old) self.now s
-            → Shows L.neighbors (L.table links.new) self.now (but_last s) }
-        ensures released { IfSome result (λ object. L.Does links.old links.new (releases object ∷ [])) }
+        ensures answer { (s : List Place) → Represents L.neighbors (L.table links.old) self.now s → result ≡ last s }
+        ensures removed { (s : List Place) → Represents L.neighbors (L.table links.old) self.now s
+            → Represents L.neighbors (L.table links.new) self.now (but_last s) }
+        ensures released { IfSome result (λ object. L.Trace links.old links.new (releases object ∷ [])) }
         ensures empty { IfNone result (links.new ≡ links.old) }
         ensures others { OthersStay L.neighbors (L.table links.old) (L.table links.new) (self.now ∷ []) }
-        ensures frame { (s : List Place) → Shows L.neighbors (L.table links.old) self.now s
-            → KeepsBeside (L.table links.old) (L.table links.new) (self.now ∷ s) }
+        ensures frame { (s : List Place) → Represents L.neighbors (L.table links.old) self.now s
+            → ChangesOnlyIn (L.table links.old) (L.table links.new) (self.now ∷ s) }
     {
         let back = self.last(&*links)?;
         let prev = prev_of(&*links, back);
@@ -221,11 +218,11 @@ impl<T> Ring<T> {
     pub fn clear<L: LinkedListOps>(&self, links: &mut L)
         requires shown { InRing L.neighbors (L.table links.old) self.now }
 
-        ensures empty { Shows L.neighbors (L.table links.new) self.now [] }
-        ensures released { (s : List Place) → Shows L.neighbors (L.table links.old) self.now s → L.Does links.old links.new (releases_each s) }
+        ensures empty { Represents L.neighbors (L.table links.new) self.now [] }
+        ensures released { (s : List Place) → Represents L.neighbors (L.table links.old) self.now s → L.Trace links.old links.new (releases_each s) }
         ensures others { OthersStay L.neighbors (L.table links.old) (L.table links.new) (self.now ∷ []) }
-        ensures frame { (s : List Place) → Shows L.neighbors (L.table links.old) self.now s
-            → KeepsBeside (L.table links.old) (L.table links.new) (self.now ∷ s) }
+        ensures frame { (s : List Place) → Represents L.neighbors (L.table links.old) self.now s
+            → ChangesOnlyIn (L.table links.old) (L.table links.new) (self.now ∷ s) }
     {
         while self.pop_front(links).is_some() {}
     }

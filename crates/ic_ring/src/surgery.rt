@@ -4,14 +4,12 @@
 //! of his own and tests them himself.
 //!
 //! ```text
-//! bypass(&mut links, before, behind);         // out: what stood between the two has left the ring
-//! turn_to(&mut links, before, place, behind); // in: the place stands between the two already
+//! bypass(&mut links, before, after);         // out: what stood between the two has left the ring
+//! turn_to(&mut links, before, place, after); // in: the place stands between the two already
 //! ```
 
 ghost use Rattle.std.specs.Prelude.{◌≡◌, ◌≢◌, ◌∷◌, ◌++◌, [], List, Some, IsSome};
-ghost use Rattle.ic_unsafe_ref.specs.declared.place.Place.{Place};
-ghost use Rattle.ic_link_ops.specs.Sequences.{IsAbsent, first, last};
-ghost use Rattle.ic_link_ops.specs.Tables.{IsLinked, ChangesOnly};
+ghost use Rattle.ic_link_ops.specs.Prelude.{Place, IsAbsent, first, last, IsLinked, ChangesOnly};
 ghost use Rattle.ic_link_ops.specs.LinkedList.{neighbors_at, IsBetween};
 ghost use Rattle.ic_ring.specs.Rings.{IsCircle, InRing, TurnsTo};
 
@@ -35,7 +33,7 @@ fn there(place: Option<Place>) -> Place
     }
 }
 
-// The place behind one that stands in a ring.
+// The place after one that stands in a ring.
 #[inline]
 pub(crate) fn next_of<L: LinkedListOps>(links: &L, place: Place) -> Place
     requires { InRing L.neighbors (L.table links.now) place }
@@ -44,7 +42,7 @@ pub(crate) fn next_of<L: LinkedListOps>(links: &L, place: Place) -> Place
     there(links.next(place))
 }
 
-// The place in front of one that stands in a ring.
+// The place before one that stands in a ring.
 #[inline]
 pub(crate) fn prev_of<L: LinkedListOps>(links: &L, place: Place) -> Place
     requires { InRing L.neighbors (L.table links.now) place }
@@ -66,7 +64,7 @@ pub fn bypass<L: LinkedListOps>(links: &mut L, before: Place, behind: Place)
     ensures stretch { (out r : List Place) → IsCircle L.neighbors (L.table links.old).entry (out ++ r)
         → Some before ≡ last r → Some behind ≡ first r → IsCircle L.neighbors (L.table links.new).entry r }
     ensures turned { TurnsTo L.neighbors (L.table links.old) (L.table links.new) before behind behind before }
-    ensures no_step { L.Does links.old links.new [] }
+    ensures trace_stays { L.Trace links.old links.new [] }
     ensures extent { (L.table links.new).extent ≡ (L.table links.old).extent }
     ensures others { (q : Place) → q ≢ before → q ≢ behind → (L.table links.new).entry q ≡ (L.table links.old).entry q }
 {
@@ -88,7 +86,7 @@ pub fn turn_to<L: LinkedListOps>(links: &mut L, before: Place, place: Place, beh
         → IsBetween L.neighbors ((L.table links.old).entry place) (Some before) (Some behind)
         → IsCircle L.neighbors (L.table links.new).entry (place ∷ r) }
     ensures turned { TurnsTo L.neighbors (L.table links.old) (L.table links.new) before behind place place }
-    ensures no_step { L.Does links.old links.new [] }
+    ensures trace_stays { L.Trace links.old links.new [] }
     ensures extent { (L.table links.new).extent ≡ (L.table links.old).extent }
     ensures others { (q : Place) → q ≢ before → q ≢ behind → (L.table links.new).entry q ≡ (L.table links.old).entry q }
 {
@@ -109,7 +107,7 @@ pub(crate) fn set_neighbors<L: LinkedListOps>(
     requires behind { L.CanName behind }
     ensures stands { IsBetween L.neighbors ((L.table links.new).entry place) (Some before) (Some behind) }
     ensures frame { ChangesOnly (L.table links.old) (L.table links.new) place }
-    ensures no_step { L.Does links.old links.new [] }
+    ensures trace_stays { L.Trace links.old links.new [] }
 {
     links.set_prev(place, Some(before));
     links.set_next(place, Some(behind));

@@ -1,4 +1,4 @@
-//! The kind of singly linked lists: each entry names the place behind, and a list keeps its first member alone.
+//! The kind of singly linked lists: each entry names the place after, and a list keeps its first member alone.
 //!
 //! ```text
 //! let list: Chain<SinglyLinked, Job> = Chain::new();
@@ -14,7 +14,7 @@ use ic_link_ops::{LinkOps, PlaceWord};
 use ic_unsafe_ref::Place;
 use std::marker::Model;
 
-/// Lists whose entries name the place behind alone.
+/// Lists whose entries name the place after alone.
 pub struct SinglyLinked;
 
 /// What such a list keeps of its last member: nothing.
@@ -104,7 +104,7 @@ impl<L: SinglyLinkedListOps> ForwardLinks<L> for SinglyLinked {
         links.set_next(place, to);
     }
 
-    // No entry says what stands in front of its place.
+    // No entry says what stands before its place.
     #[inline]
     fn set_prev(links: &mut L, place: Place, from: Option<Place>, to: Option<Place>) {
         let _ = &*links;

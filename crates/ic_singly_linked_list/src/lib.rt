@@ -1,7 +1,7 @@
 //! A singly linked list over any table with the next place in an entry.
 //!
 //! Each operation takes the table of the link field. Linking takes no memory, and one object can be in lists of
-//! several fields. Entries do not lead back, so members are inserted and removed behind a known one. [`Chain`] has all calls.
+//! several fields. Entries do not lead back, so members are inserted and removed after a known one. [`Chain`] has all calls.
 //!
 //! ```text
 //! let mut links = singly_linked_list::LinkOps::new(rt.alloc());
@@ -19,7 +19,7 @@ mod kind;
 
 use ic_chain::Chain;
 pub use ic_chain::laws;
-pub use ic_cursors::Listing;
+pub use ic_cursors::DebugWalk;
 pub use ic_link_ops::singly_linked_list::{Link, LinkOps, SinglyLinkedListOps};
 use ic_unsafe_ref::Objects;
 pub use kind::{NoTail, SinglyLinked};
@@ -27,10 +27,10 @@ pub use kind::{NoTail, SinglyLinked};
 /// A singly linked list of objects, of which it keeps the first.
 ///
 /// Good for stacks and free lists, and where an entry should be one word. A clause sees its first member; which sequence it has
-/// is what the table shows for that.
+/// is what the table represents for that.
 pub type SinglyLinkedList<T> = Chain<SinglyLinked, T>;
 
-/// A position in a list: on a member, or null, which stands in front of the first.
+/// A position in a list: on a member, or null, which stands before the first.
 pub type Cursor<'a, T, L> = ic_cursors::Cursor<'a, SinglyLinkedList<T>, L>;
 
 /// A position in a list that it edits, with the list and the table of its links.

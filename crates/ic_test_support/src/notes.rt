@@ -55,7 +55,7 @@ impl Text {
         self.is_whole &= self.text.write_str(word).is_ok();
     }
 
-    /// Writes the answer, and what is to stand behind it.
+    /// Writes the answer, and what is to stand after it.
     pub fn add(&mut self, answer: Answer, behind: &str) {
         self.is_whole &= write!(self.text, "{answer}{behind}").is_ok();
     }

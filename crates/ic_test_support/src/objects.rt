@@ -1,9 +1,7 @@
 //! What the tests stand on: numbers at the first eight places.
 
 ghost use Rattle.std.specs.Prelude.{◌≡◌, ◌<◌, true, IfSome};
-ghost use Rattle.ic_unsafe_ref.specs.declared.place.Place.{Place};
-ghost use Rattle.ic_unsafe_ref.specs.Objects.{is_placed};
-ghost use Rattle.ic_unsafe_ref.specs.Places.{index_of};
+ghost use Rattle.ic_link_ops.specs.Prelude.{Place, index_of, is_placed};
 ghost use Rattle.ic_link_ops.specs.PlainTables.{table};
 
 use crate::answers::placed;

@@ -5,10 +5,8 @@
 //! ```
 
 ghost use Rattle.std.specs.Prelude.{◌≡◌, IsTrue, true};
-ghost use Rattle.ic_unsafe_ref.specs.declared.place.Place.{Place};
-ghost use Rattle.ic_unsafe_ref.specs.Objects.{is_placed};
+ghost use Rattle.ic_link_ops.specs.Prelude.{Place, is_placed, IsCovered};
 ghost use Rattle.ic_link_ops.specs.PlainTables.{table};
-ghost use Rattle.ic_link_ops.specs.Tables.{IsCovered};
 
 use crate::answers::number;
 use crate::notes::Text;

@@ -1,13 +1,11 @@
--- A place that is put behind a vine, and what else stands in the table.
+-- A place that is put after a vine, and what else stands in the table.
 use Rattle.std.proofs.Common.{◌≡◌, true, Some, None, List, [], ◌∷◌, ◌++◌, sym, ap, subst, append_assoc}
-use Rattle.ic_unsafe_ref.specs.declared.place.Place.{Place}
+use Rattle.ic_link_ops.specs.Prelude.{Place, IsAbsent, IsDistinct, IsDisjoint, at_back, first, Table, ChangesOnlyIn}
 use Rattle.ic_link_ops.specs.Chains.{Ends, no_members}
 use Rattle.ic_link_ops.specs.Edits.{Inserts}
 use Rattle.ic_link_ops.specs.RedBlackTree.{Node}
-use Rattle.ic_link_ops.specs.Sequences.{IsAbsent, IsDistinct, IsDisjoint, at_back, first}
-use Rattle.ic_link_ops.specs.Tables.{Table, KeepsBeside}
 use Rattle.ic_link_ops.proofs.SequenceLemmas.{absent_left, absent_right, absent_both, distinct_middle, distinct_insert, distinct_remove, disjoint_cons}
-use Rattle.ic_rbtree.specs.Vines.{IsVine, ShowsVine}
+use Rattle.ic_rbtree.specs.Vines.{IsVine, RepresentsVine}
 use Rattle.ic_rbtree.proofs.Vines.{apart_at, vine_beside, vine_from}
 
 -- a member moved to the front of two parts
@@ -31,24 +29,24 @@ pub disjoint_back : (s t z : List Place) → IsDisjoint (s ++ t) z → IsDisjoin
 disjoint_back [] t z d = d
 disjoint_back (x ∷ s) t z d = disjoint_back s t z d.1
 
--- what stands behind is apart from the vine and the place
-pub behind_apart : (done : List Place) (p : Place) (rest : List Place) → IsDistinct (done ++ p ∷ rest) → IsDisjoint rest (p ∷ done)
-behind_apart done p rest d = let a = apart_at done p rest d in disjoint_cons p rest done a.not_back a.back_front
+-- what stands after is apart from the vine and the place
+pub after_apart : (done : List Place) (p : Place) (rest : List Place) → IsDistinct (done ++ p ∷ rest) → IsDisjoint rest (p ∷ done)
+after_apart done p rest d = let a = apart_at done p rest d in disjoint_cons p rest done a.not_back a.back_front
 
 module _ {E : Type 0} (n : E → Node) where
   -- nothing is a vine with no members
-  pub vine_none : (t : Table E) {ends : Ends} → ends ≡ no_members → ShowsVine n t ends []
+  pub vine_none : (t : Table E) {ends : Ends} → ends ≡ no_members → RepresentsVine n t ends []
   vine_none t is = record { distinct = tt; chain = tt; head = ap (λ (e : Ends). e.head) is; tail = ap (λ (e : Ends). e.tail) is }
 
-  module _ {old new : Table E} {ends : Ends} {done : List Place} {p : Place} (h : Inserts (ShowsVine n) old new ends (at_back done) p) where
-    -- THE FRAME of one place put behind
-    pub hung_frame : KeepsBeside old new (p ∷ done)
+  module _ {old new : Table E} {ends : Ends} {done : List Place} {p : Place} (h : Inserts (RepresentsVine n) old new ends (at_back done) p) where
+    -- THE FRAME of one place put after
+    pub hung_frame : ChangesOnlyIn old new (p ∷ done)
     hung_frame = record { extent = h.frame.extent; others = λ q o. h.frame.others q (o.0, absent_both q done [] o.1 tt) }
 
     pub run_still : (x : List Place) → IsDisjoint x (p ∷ done) → IsVine n old.entry x None → IsVine n new.entry x None
     run_still x d c = vine_beside n old new x None (p ∷ done) d hung_frame c
 
-    pub vine_still : {other : Ends} {t : List Place} → IsDisjoint t (p ∷ done) → ShowsVine n old other t → ShowsVine n new other t
+    pub vine_still : {other : Ends} {t : List Place} → IsDisjoint t (p ∷ done) → RepresentsVine n old other t → RepresentsVine n new other t
     vine_still {other} {t} d c = record { distinct = c.distinct; chain = run_still t d c.chain; head = c.head; tail = c.tail }
 
   -- a run without its first

@@ -2,21 +2,17 @@
 use Rattle.std.proofs.Common.{◌≡◌, ℕ, ◌+◌, ◌≤◌, Bool, true, false, not, inl, inr, Option, Some, None, List, [], ◌∷◌, ◌++◌, drop, length, refl, sym, ◌∙◌, ap, subst, arith, append_assoc, append-nil, length-append}
 use Rattle.std.specs.Prelude.{IfSome}
 use Rattle.std.specs.declared.cmp.Ordering.{Ordering}
-use Rattle.ic_unsafe_ref.specs.declared.place.Place.{Place}
-use Rattle.ic_unsafe_ref.specs.Objects.{Objects, is_placed}
+use Rattle.ic_link_ops.specs.Prelude.{Place, Objects, is_placed, IsAbsent, IsDistinct, IsDisjoint, at_back, first, Table, ArePlaced}
 use Rattle.ic_link_ops.specs.Chains.{Ends, no_members}
 use Rattle.ic_link_ops.specs.Edits.{Inserts}
-use Rattle.ic_link_ops.specs.PlacedObjects.{ArePlaced}
 use Rattle.ic_link_ops.specs.RedBlackTree.{Node}
-use Rattle.ic_link_ops.specs.Sequences.{IsAbsent, IsDistinct, IsDisjoint, at_back, first}
-use Rattle.ic_link_ops.specs.Tables.{Table}
 use Rattle.ic_link_ops.proofs.SequenceLemmas.{absent_left, absent_right, distinct_left, distinct_middle, first_is, nothing_first, some_same, none_not}
 use Rattle.ic_link_ops.proofs.Walks.{few_places}
-use Rattle.ic_rbtree.specs.Vines.{IsVine, ShowsVine}
+use Rattle.ic_rbtree.specs.Vines.{IsVine, RepresentsVine}
 use Rattle.ic_tree_merges.specs.Merges.{is_less}
 use Rattle.ic_tree_merges.specs.Vines.{takes_left, looks_between, IsRun, MergesRuns}
 use Rattle.ic_tree_merges.proofs.Merged.{IsMerge, front_of, merges}
-use Rattle.ic_tree_merges.proofs.Hanging.{distinct_moved, absent_moved, disjoint_front, disjoint_back, behind_apart, vine_none, hung_frame, run_still, run_rest}
+use Rattle.ic_tree_merges.proofs.Hanging.{distinct_moved, absent_moved, disjoint_front, disjoint_back, after_apart, vine_none, hung_frame, run_still, run_rest}
 
 front_first : (s : List Place) → front_of s ≡ first s
 front_first [] = refl
@@ -69,7 +65,7 @@ module _ {E V : Type 0} (n : E → Node) (cmp : Place → Place → Ordering) (o
     pub x : List Place
     pub y : List Place
     pub distinct : IsDistinct (done ++ (x ++ y))
-    pub vine : ShowsVine n new ends done
+    pub vine : RepresentsVine n new ends done
     pub left_run : IsRun n objects new left x
     pub right_run : IsRun n objects new right y
     pub goes : (r : List Place) → IsMerge (is_less cmp) x y r → IsMerge (is_less cmp) s u (done ++ r)
@@ -110,16 +106,16 @@ module _ {E V : Type 0} (n : E → Node) (cmp : Place → Place → Ordering) (o
     few_merged = let a = few_places k.done (distinct_left k.done (k.x ++ k.y) k.distinct) in omega (arith, a, k.counted)
 
     -- THE PLACE p IS PUT BEHIND, and what is left of both runs is x and y
-    module _ {new : Table E} {p : Place} {ends' : Ends} (h : Inserts (ShowsVine n) mid new ends' (at_back k.done) p) where
+    module _ {new : Table E} {p : Place} {ends' : Ends} (h : Inserts (RepresentsVine n) mid new ends' (at_back k.done) p) where
       run_kept : (done : List Place) → IsDisjoint done (p ∷ k.done) → {front : Option Place} → IsRun n objects mid front done → IsRun n objects new front done
       run_kept x d a = record { chain = run_still n h x d a.chain; starts = a.starts; placed = a.placed }
 
-      put_behind : (x y : List Place) {left' right' : Option Place} → IsDistinct (k.done ++ p ∷ (x ++ y)) → IsRun n objects mid left' x → IsRun n objects mid right' y
+      put_after : (x y : List Place) {left' right' : Option Place} → IsDistinct (k.done ++ p ∷ (x ++ y)) → IsRun n objects mid left' x → IsRun n objects mid right' y
           → ((r : List Place) → IsMerge (is_less cmp) x y r → IsMerge (is_less cmp) k.x k.y (p ∷ r))
           → ((q : Place) → IsAbsent q (k.done ++ (k.x ++ k.y)) → IsAbsent q (k.done ++ p ∷ (x ++ y)))
           → length k.x + length k.y ≡ length x + length y + 1 → Merging old new s u left' right' ends' (count + 1)
-      put_behind x y d a b goes moves less =
-          let apart = behind_apart k.done p (x ++ y) d in
+      put_after x y d a b goes moves less =
+          let apart = after_apart k.done p (x ++ y) d in
           let e : (k.done ++ p ∷ []) ++ (x ++ y) ≡ k.done ++ p ∷ (x ++ y) = append_assoc k.done (p ∷ []) (x ++ y) in
           record {
             done = k.done ++ p ∷ [];
@@ -164,9 +160,9 @@ module _ {E V : Type 0} (n : E → Node) (cmp : Place → Place → Ordering) (o
 
       -- the first on the left
       pub take_left : {new : Table E} {ends' : Ends} {next : Option Place} → takes_left cmp left right ≡ true → next ≡ (n (mid.entry p)).right
-          → Inserts (ShowsVine n) mid new ends' (at_back k.done) p → Merging old new s u next right ends' (count + 1)
+          → Inserts (RepresentsVine n) mid new ends' (at_back k.done) p → Merging old new s u next right ends' (count + 1)
       take_left taken next_is h =
-          put_behind h (drop 1 k.x) k.y left_distinct
+          put_after h (drop 1 k.x) k.y left_distinct
           (record { chain = left_rest.2; starts = next_is ∙ left_rest.1; placed = left_placed.1 }) k.right_run
           (λ r m. inl (drop 1 k.x, record { is = left_is; first = λ q e. left_tells cmp p right (subst (λ (o : Option Place). takes_left cmp o right ≡ true) on taken) q (k.right_run.starts ∙ (sym (front_first k.y) ∙ e)) }, m))
           (λ q o. subst (λ (z : List Place). IsAbsent q (k.done ++ (z ++ k.y))) left_is o)
@@ -196,9 +192,9 @@ module _ {E V : Type 0} (n : E → Node) (cmp : Place → Place → Ordering) (o
 
       -- the first on the right
       pub take_right : {new : Table E} {ends' : Ends} {next : Option Place} → takes_left cmp left right ≡ false → next ≡ (n (mid.entry p)).right
-          → Inserts (ShowsVine n) mid new ends' (at_back k.done) p → Merging old new s u left next ends' (count + 1)
+          → Inserts (RepresentsVine n) mid new ends' (at_back k.done) p → Merging old new s u left next ends' (count + 1)
       take_right taken next_is h =
-          put_behind h k.x (drop 1 k.y) right_distinct k.left_run
+          put_after h k.x (drop 1 k.y) right_distinct k.left_run
           (record { chain = right_rest.2; starts = next_is ∙ right_rest.1; placed = right_placed.1 })
           (λ r m. inr (drop 1 k.y, record { is = right_is; first = λ q e. right_tells cmp p left (subst (λ (o : Option Place). takes_left cmp left o ≡ false) on taken) q (k.left_run.starts ∙ (sym (front_first k.x) ∙ e)) }, m))
           (λ q o. absent_moved q k.done k.x p (drop 1 k.y) (subst (λ (z : List Place). IsAbsent q (k.done ++ (k.x ++ z))) right_is o))

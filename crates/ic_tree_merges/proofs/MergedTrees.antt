@@ -2,21 +2,17 @@
 use Rattle.std.proofs.Common.{◌≡◌, ◌+◌, ◌≤◌, inl, inr, Option, None, IsSome, List, [], ◌∷◌, ◌++◌, length, sym, ◌∙◌, ap, subst, arith}
 use Rattle.std.specs.List.{AllByRecursion}
 use Rattle.std.specs.declared.cmp.Ordering.{Ordering}
-use Rattle.ic_unsafe_ref.specs.declared.place.Place.{Place}
-use Rattle.ic_unsafe_ref.specs.Objects.{Objects, object_at}
+use Rattle.ic_link_ops.specs.Prelude.{Place, Objects, object_at, IsAbsent, IsDistinct, IsDisjoint, Table, ChangesOnlyIn, ArePlaced}
 use Rattle.ic_link_ops.specs.Chains.{Ends}
-use Rattle.ic_link_ops.specs.PlacedObjects.{ArePlaced}
-use Rattle.ic_link_ops.specs.RedBlackTree.{Node, Shows}
-use Rattle.ic_link_ops.specs.Sequences.{IsAbsent, IsDistinct, IsDisjoint}
-use Rattle.ic_link_ops.specs.Tables.{Table, KeepsBeside}
+use Rattle.ic_link_ops.specs.RedBlackTree.{Node, Represents}
 use Rattle.ic_link_ops.proofs.SequenceLemmas.{absent_left, absent_right, absent_both, absent_swap, disjoint_sym, distinct_splice}
-use Rattle.ic_link_ops.proofs.ShownTrees.{holds_frame, shows_frame, one_sequence}
+use Rattle.ic_link_ops.proofs.RepresentedTrees.{holds_frame, represents_frame, one_sequence}
 use Rattle.ic_link_ops.proofs.Trees.{one_tree}
 use Rattle.ic_rbtree.specs.Height.{IsLowest}
-use Rattle.ic_rbtree.specs.Vines.{ShowsVine, Rearranges}
+use Rattle.ic_rbtree.specs.Vines.{RepresentsVine, Rearranges}
 use Rattle.ic_rbtree.proofs.Vines.{vine_beside}
 use Rattle.ic_tree_merges.specs.Merges.{Interleaves}
-use Rattle.ic_tree_merges.specs.TwoTrees.{TwoShown, MergesTo, PartsTo, UnitesTo, ShowsLowest}
+use Rattle.ic_tree_merges.specs.TwoTrees.{TwoRepresented, MergesTo, PartsTo, UnitesTo, RepresentsLowest}
 use Rattle.ic_tree_merges.specs.Vines.{IsRun, MergesRuns, PartsRun}
 
 -- what both parts owe to the whole
@@ -36,41 +32,41 @@ length_parts a b (z ∷ s) (inl h) = omega (arith, ap length h.1, length_parts h
 length_parts a b (z ∷ s) (inr h) = omega (arith, ap length h.1, length_parts a h.0 s h.2)
 
 module _ {E V : Type 0} {n : E → Node} {objects : Objects V} where
-  -- whatever is shown of two trees, an object stands at each member
-  pub placed_first : {v : Table E} {a b : Option Place} {s : List Place} → TwoShown (Shows n) objects v a b → Shows n v a s → ArePlaced objects s
+  -- whatever is represented of two trees, an object stands at each member
+  pub placed_first : {v : Table E} {a b : Option Place} {s : List Place} → TwoRepresented (Represents n) objects v a b → Represents n v a s → ArePlaced objects s
   placed_first two shown = subst (ArePlaced objects) (one_sequence two.shown shown) two.placed
 
-  pub placed_second : {v : Table E} {a b : Option Place} {u : List Place} → TwoShown (Shows n) objects v a b → Shows n v b u → ArePlaced objects u
+  pub placed_second : {v : Table E} {a b : Option Place} {u : List Place} → TwoRepresented (Represents n) objects v a b → Represents n v b u → ArePlaced objects u
   placed_second two other = subst (ArePlaced objects) (one_sequence two.other other) two.other_placed
 
   -- the two of them the other way round
-  pub swapped : {v : Table E} {a b : Option Place} → TwoShown (Shows n) objects v a b → TwoShown (Shows n) objects v b a
+  pub swapped : {v : Table E} {a b : Option Place} → TwoRepresented (Represents n) objects v a b → TwoRepresented (Represents n) objects v b a
   swapped two = record { first = two.second; second = two.first; shown = two.other; other = two.shown; apart = disjoint_sym two.first two.second two.apart; placed = two.other_placed; other_placed = two.placed }
 
-  pub vine_run : {v w : Table E} {ends : Ends} {front : Option Place} {s : List Place} → Rearranges (ShowsVine n) v w ends s → front ≡ ends.head → ArePlaced objects s → IsRun n objects w front s
+  pub vine_run : {v w : Table E} {ends : Ends} {front : Option Place} {s : List Place} → Rearranges (RepresentsVine n) v w ends s → front ≡ ends.head → ArePlaced objects s → IsRun n objects w front s
   vine_run one is placed = record { chain = one.shows.chain; starts = is ∙ one.shows.head; placed = placed }
 
-  pub run_beside : {v w : Table E} {front : Option Place} {s u : List Place} → IsRun n objects v front s → IsDisjoint s u → KeepsBeside v w u → IsRun n objects w front s
+  pub run_beside : {v w : Table E} {front : Option Place} {s u : List Place} → IsRun n objects v front s → IsDisjoint s u → ChangesOnlyIn v w u → IsRun n objects w front s
   run_beside {v} {w} {front} {s} {u} run apart keeps = record { chain = vine_beside n v w s None u apart keeps run.chain; starts = run.starts; placed = run.placed }
 
 module _ {E : Type 0} {n : E → Node} where
-  pub both_distinct : {v w : Table E} {a b : Option Place} {s u : List Place} → Shows n v a s → Shows n w b u → IsDisjoint s u → IsDistinct (s ++ u)
+  pub both_distinct : {v w : Table E} {a b : Option Place} {s u : List Place} → Represents n v a s → Represents n w b u → IsDisjoint s u → IsDistinct (s ++ u)
   both_distinct {v} {w} {a} {b} {s} {u} shown other apart = distinct_splice [] s u other.held.distinct shown.held.distinct apart
 
   -- a tree stays as low as it is where entries of others are changed
-  pub lowest_still : {v w : Table E} {root : Option Place} {s t : List Place} → Shows n v root s → IsDisjoint s t → KeepsBeside v w t → ShowsLowest n v root → ShowsLowest n w root
+  pub lowest_still : {v w : Table E} {root : Option Place} {s t : List Place} → Represents n v root s → IsDisjoint s t → ChangesOnlyIn v w t → RepresentsLowest n v root → RepresentsLowest n w root
   lowest_still {v} {w} {root} {s} {t} shown apart frame low r h =
       let still = holds_frame shown.held apart frame in
       subst IsLowest (one_tree n w.entry None shown.tree h.tree still.entries h.held.entries (sym shown.starts ∙ h.starts)) (low s shown)
 
   -- the other tree stays where this one becomes a vine, and this vine where the other does
-  pub other_still : {v w : Table E} {ends : Ends} {b : Option Place} {s u : List Place} → Rearranges (ShowsVine n) v w ends s → IsDisjoint s u → Shows n v b u → Shows n w b u
-  other_still {v} {w} {ends} {b} {s} {u} one apart other = shows_frame other (disjoint_sym s u apart) one.frame
+  pub other_still : {v w : Table E} {ends : Ends} {b : Option Place} {s u : List Place} → Rearranges (RepresentsVine n) v w ends s → IsDisjoint s u → Represents n v b u → Represents n w b u
+  other_still {v} {w} {ends} {b} {s} {u} one apart other = represents_frame other (disjoint_sym s u apart) one.frame
 
   module _ {cmp : Place → Place → Ordering} where
     -- TWO TREES, merged
-    pub merged_trees : {v0 v1 v2 v3 v4 : Table E} {one two three : Ends} {root : Option Place} {s u : List Place} → Rearranges (ShowsVine n) v0 v1 one s → Rearranges (ShowsVine n) v1 v2 two u
-        → (m : MergesRuns n cmp v2 v3 three s u) → Rearranges (Shows n) v3 v4 root m.0.merged → MergesTo (Shows n) cmp v0 v4 root s u
+    pub merged_trees : {v0 v1 v2 v3 v4 : Table E} {one two three : Ends} {root : Option Place} {s u : List Place} → Rearranges (RepresentsVine n) v0 v1 one s → Rearranges (RepresentsVine n) v1 v2 two u
+        → (m : MergesRuns n cmp v2 v3 three s u) → Rearranges (Represents n) v3 v4 root m.0.merged → MergesTo (Represents n) cmp v0 v4 root s u
     merged_trees {s = s} {u = u} first second m built = record {
       merged = m.0.merged;
       shown = built.shows;
@@ -83,9 +79,9 @@ module _ {E : Type 0} {n : E → Node} where
 
     -- the rest is a vine still, once what is common is a tree
     pub rest_still : {v1 v2 v3 : Table E} {common_ends rest_ends : Ends} {root : Option Place} {s u : List Place} (m : PartsRun n cmp v1 v2 common_ends rest_ends s u)
-        → Rearranges (Shows n) v2 v3 root m.0.common → ShowsVine n v3 rest_ends m.0.rest
+        → Rearranges (Represents n) v2 v3 root m.0.common → RepresentsVine n v3 rest_ends m.0.rest
     rest_still {v1} {v2} {v3} m built =
-        let r = m.0.rest_shown in
+        let r = m.0.rest_represented in
         record {
           distinct = r.distinct;
           chain = vine_beside n v2 v3 m.0.rest None m.0.common (disjoint_sym m.0.common m.0.rest m.0.apart) built.frame r.chain;
@@ -94,14 +90,14 @@ module _ {E : Type 0} {n : E → Node} where
         }
 
     -- A TREE, parted
-    pub parted_tree : {v0 v1 v2 v3 v4 : Table E} {ends common_ends rest_ends : Ends} {root rest_root : Option Place} {s u : List Place} → Rearranges (ShowsVine n) v0 v1 ends s
-        → (m : PartsRun n cmp v1 v2 common_ends rest_ends s u) → Rearranges (Shows n) v2 v3 root m.0.common → Rearranges (Shows n) v3 v4 rest_root m.0.rest
-        → PartsTo (Shows n) cmp v0 v4 root rest_root s u
+    pub parted_tree : {v0 v1 v2 v3 v4 : Table E} {ends common_ends rest_ends : Ends} {root rest_root : Option Place} {s u : List Place} → Rearranges (RepresentsVine n) v0 v1 ends s
+        → (m : PartsRun n cmp v1 v2 common_ends rest_ends s u) → Rearranges (Represents n) v2 v3 root m.0.common → Rearranges (Represents n) v3 v4 rest_root m.0.rest
+        → PartsTo (Represents n) cmp v0 v4 root rest_root s u
     parted_tree first m built last = record {
       common = m.0.common;
       rest = m.0.rest;
-      common_shown = shows_frame built.shows m.0.apart last.frame;
-      rest_shown = last.shows;
+      common_represented = represents_frame built.shows m.0.apart last.frame;
+      rest_represented = last.shows;
       apart = m.0.apart;
       is = m.0.is;
       frame = record {
@@ -112,10 +108,10 @@ module _ {E : Type 0} {n : E → Node} where
     }
 
     -- TWO TREES, united: the other was parted by this one
-    module _ {v0 v1 : Table E} {root doubles_root added_root : Option Place} {s u : List Place} (shown : Shows n v0 root s) (apart : IsDisjoint s u)
-        (m : PartsTo (Shows n) cmp v0 v1 doubles_root added_root u s) where
-      pub tree_still : Shows n v1 root s
-      tree_still = shows_frame shown apart m.frame
+    module _ {v0 v1 : Table E} {root doubles_root added_root : Option Place} {s u : List Place} (shown : Represents n v0 root s) (apart : IsDisjoint s u)
+        (m : PartsTo (Represents n) cmp v0 v1 doubles_root added_root u s) where
+      pub tree_still : Represents n v1 root s
+      tree_still = represents_frame shown apart m.frame
 
       pub added_apart : IsDisjoint s m.rest
       added_apart = absent_swap s u apart m.rest (λ q o. (absent_parts q m.common m.rest u m.is.interleaved o).1)
@@ -126,24 +122,24 @@ module _ {E : Type 0} {n : E → Node} where
         both_apart [] h k = tt
         both_apart (x ∷ a) h k = (absent_both x s m.rest h.0 k.0, both_apart a h.1 k.1)
 
-      pub can_merge : {V : Type 0} (objects : Objects V) → ArePlaced objects s → ArePlaced objects u → TwoShown (Shows n) objects v1 root added_root
+      pub can_merge : {V : Type 0} (objects : Objects V) → ArePlaced objects s → ArePlaced objects u → TwoRepresented (Represents n) objects v1 root added_root
       can_merge objects placed other_placed = record {
         first = s;
         second = m.rest;
         shown = tree_still;
-        other = m.rest_shown;
+        other = m.rest_represented;
         apart = added_apart;
         placed = placed;
         other_placed = (all_parts (λ p. IsSome (object_at objects p)) m.common m.rest u m.is.interleaved other_placed).1;
       }
 
-      pub united_trees : {v2 : Table E} {new_root : Option Place} → MergesTo (Shows n) cmp v1 v2 new_root s m.rest → UnitesTo (Shows n) cmp v0 v2 new_root doubles_root s u
+      pub united_trees : {v2 : Table E} {new_root : Option Place} → MergesTo (Represents n) cmp v1 v2 new_root s m.rest → UnitesTo (Represents n) cmp v0 v2 new_root doubles_root s u
       united_trees merged = record {
         united = merged.merged;
         doubles = m.common;
         added = m.rest;
         shown = merged.shown;
-        doubles_shown = shows_frame m.common_shown doubles_apart merged.frame;
+        doubles_represented = represents_frame m.common_represented doubles_apart merged.frame;
         parts = m.is;
         is = merged.is;
         frame = record {
@@ -154,8 +150,8 @@ module _ {E : Type 0} {n : E → Node} where
         };
       }
 
-      pub doubles_lowest : {v2 : Table E} {new_root : Option Place} → MergesTo (Shows n) cmp v1 v2 new_root s m.rest → ShowsLowest n v1 doubles_root → ShowsLowest n v2 doubles_root
-      doubles_lowest merged low = lowest_still m.common_shown doubles_apart merged.frame low
+      pub doubles_lowest : {v2 : Table E} {new_root : Option Place} → MergesTo (Represents n) cmp v1 v2 new_root s m.rest → RepresentsLowest n v1 doubles_root → RepresentsLowest n v2 doubles_root
+      doubles_lowest merged low = lowest_still m.common_represented doubles_apart merged.frame low
 
       pub few_added : length m.rest ≤ length u
       few_added = omega (arith, length_parts m.common m.rest u m.is.interleaved)

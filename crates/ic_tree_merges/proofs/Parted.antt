@@ -58,7 +58,7 @@ module _ {X : Type 0} (cmp : X → X → Ordering) where
     pub less_than_all : (a b : X) (t : List X) → cmp a b ≡ Less → IsOrdered (is_less cmp) (b ∷ t) → has_equal cmp (b ∷ t) a ≡ false
     less_than_all a b t less h = rw (ap is_eq less) (none_equal a b t less h.0)
 
-    -- what is greater than b stays so behind
+    -- what is greater than b stays so after
     past : (a b p : X) → cmp a b ≡ Greater → is_less cmp p a ≡ false → is_eq (cmp p b) ≡ false
     past a b p greater n = by (cmp p b) refl where
       back : cmp b a ≡ Less

@@ -2,25 +2,21 @@
 use Rattle.std.proofs.Common.{◌≡◌, ℕ, ◌+◌, ◌≤◌, true, Option, Some, None, List, [], ◌∷◌, ◌++◌, drop, length, refl, sym, ◌∙◌, ap, subst, arith, append_assoc, append-nil, length-append}
 use Rattle.std.specs.declared.cmp.Ordering.{Ordering}
 use Rattle.std.specs.declared.cmp.Ordering.TheVariants.{Less, Equal, Greater}
-use Rattle.ic_unsafe_ref.specs.declared.place.Place.{Place}
-use Rattle.ic_unsafe_ref.specs.Objects.{Objects, is_placed}
+use Rattle.ic_link_ops.specs.Prelude.{Place, Objects, is_placed, Cut, join, IsAbsent, IsDistinct, IsDisjoint, at_back, at_front, first, Table, ArePlaced}
 use Rattle.ic_link_ops.specs.declared.side.Side.TheVariants.{Left, Right}
 use Rattle.ic_link_ops.specs.Chains.{Ends, no_members}
 use Rattle.ic_link_ops.specs.Edits.{Inserts}
-use Rattle.ic_link_ops.specs.PlacedObjects.{ArePlaced}
-use Rattle.ic_link_ops.specs.RedBlackTree.{Node, Shows}
-use Rattle.ic_link_ops.specs.Sequences.{Cut, join, IsAbsent, IsDistinct, IsDisjoint, at_back, at_front, first}
-use Rattle.ic_link_ops.specs.Tables.{Table}
+use Rattle.ic_link_ops.specs.RedBlackTree.{Node, Represents}
 use Rattle.ic_link_ops.proofs.SequenceLemmas.{absent_left, absent_right, absent_both, absent_swap, distinct_right, distinct_middle, distinct_disjoint, disjoint_left, disjoint_right, disjoint_cons, disjoint_sym, first_is, last_of_push, nothing_first}
-use Rattle.ic_link_ops.proofs.ShownTrees.{shows_frame}
+use Rattle.ic_link_ops.proofs.RepresentedTrees.{represents_frame}
 use Rattle.ic_link_ops.proofs.Walks.{few_places}
 use Rattle.ic_rbtree.specs.Closed.{IsSafe}
 use Rattle.ic_rbtree.specs.Sides.{IsBeside}
-use Rattle.ic_rbtree.specs.Vines.{IsVine, ShowsVine}
-use Rattle.ic_rbtree.proofs.Removing.{shown_of}
-use Rattle.ic_rbtree.proofs.ShownClosed.{among, among_there, shown_closed}
+use Rattle.ic_rbtree.specs.Vines.{IsVine, RepresentsVine}
+use Rattle.ic_rbtree.proofs.Removing.{represented_of}
+use Rattle.ic_rbtree.proofs.RepresentedClosed.{among, among_there, represented_closed}
 use Rattle.ic_tree_merges.specs.Vines.{standing, IsRun, PartsRun}
-use Rattle.ic_tree_merges.proofs.Hanging.{distinct_moved, absent_moved, disjoint_front, disjoint_back, behind_apart, vine_none, hung_frame, run_still, vine_still, run_rest}
+use Rattle.ic_tree_merges.proofs.Hanging.{distinct_moved, absent_moved, disjoint_front, disjoint_back, after_apart, vine_none, hung_frame, run_still, vine_still, run_rest}
 use Rattle.ic_tree_merges.proofs.Parted.{Parting, parting_first, parting_last, parting_alone, parting_less, parting_equal, parting_greater}
 
 -- a place that stands in the middle of two parts is apart from the first
@@ -31,11 +27,11 @@ middle_apart a b p c d =
 
 module _ {E : Type 0} (n : E → Node) where
   -- safe to step from null, and from a member
-  pub safe_null : {t : Table E} {root : Option Place} {u : List Place} → Shows n t root u → IsSafe n t root (None ∷ [])
-  safe_null {t} {root} {u} h = (λ q. among q u, shown_closed n (shown_of n h), (tt, tt))
+  pub safe_null : {t : Table E} {root : Option Place} {u : List Place} → Represents n t root u → IsSafe n t root (None ∷ [])
+  safe_null {t} {root} {u} h = (λ q. among q u, represented_closed n (represented_of n h), (tt, tt))
 
-  pub safe_member : {t : Table E} {root : Option Place} (front : List Place) (p : Place) (back : List Place) → Shows n t root (front ++ p ∷ back) → IsSafe n t root (Some p ∷ [])
-  safe_member front p back h = (λ q. among q (front ++ p ∷ back), shown_closed n (shown_of n h), (among_there p front back, tt))
+  pub safe_member : {t : Table E} {root : Option Place} (front : List Place) (p : Place) (back : List Place) → Represents n t root (front ++ p ∷ back) → IsSafe n t root (Some p ∷ [])
+  safe_member front p back h = (λ q. among q (front ++ p ∷ back), represented_closed n (represented_of n h), (among_there p front back, tt))
 
   module _ {V : Type 0} (cmp : Place → Place → Ordering) (objects : Objects V) (root : Option Place) where
     -- `common` and `rest` are told, and what is left is x, to be told by y; `passed` is passed
@@ -46,14 +42,14 @@ module _ {E : Type 0} (n : E → Node) where
       pub passed : List Place
       pub y : List Place
       pub distinct : IsDistinct (common ++ (rest ++ x))
-      pub common_vine : ShowsVine n new common_ends common
-      pub rest_vine : ShowsVine n new rest_ends rest
+      pub common_vine : RepresentsVine n new common_ends common
+      pub rest_vine : RepresentsVine n new rest_ends rest
       pub run : IsRun n objects new left x
       pub parting : Parting cmp s u common rest x y
       pub cut : passed ++ y ≡ u
       pub next : right ≡ first y
       pub next_placed : ArePlaced objects y
-      pub other : Shows n new root u
+      pub other : Represents n new root u
       pub apart : IsDisjoint u s
       pub within : (q : Place) → IsAbsent q s → IsAbsent q (common ++ (rest ++ x))
       pub extent : new.extent ≡ old.extent
@@ -61,8 +57,8 @@ module _ {E : Type 0} (n : E → Node) where
       pub counted : length common + length rest + length passed ≡ count
       pub all : count + (length x + length y) ≡ length s + length u
 
-    pub sifting_first : {t : Table E} {s u : List Place} {left right : Option Place} {ends rest_ends : Ends} → IsRun n objects t left s → IsDistinct s → Shows n t root u → ArePlaced objects u → IsDisjoint u s
-        → ((gap : Cut) → Shows n t root (join gap) → IsBeside Right gap None → IsBeside Left gap right) → ends ≡ no_members → rest_ends ≡ no_members → Sifting t t s u left right ends rest_ends 0
+    pub sifting_first : {t : Table E} {s u : List Place} {left right : Option Place} {ends rest_ends : Ends} → IsRun n objects t left s → IsDistinct s → Represents n t root u → ArePlaced objects u → IsDisjoint u s
+        → ((gap : Cut) → Represents n t root (join gap) → IsBeside Right gap None → IsBeside Left gap right) → ends ≡ no_members → rest_ends ≡ no_members → Sifting t t s u left right ends rest_ends 0
     sifting_first {t} {s} {u} run distinct other placed apart leads is rest_is = record {
       common = [];
       rest = [];
@@ -133,7 +129,7 @@ module _ {E : Type 0} (n : E → Node) where
         absent_rest = absent_left p k.rest (drop 1 k.x) (distinct_middle k.rest (drop 1 k.x) p rest_first)
 
         -- p IS COMMON
-        module _ {new : Table E} {ends : Ends} {next : Option Place} (is : next ≡ (n (mid.entry p)).right) (h : Inserts (ShowsVine n) mid new ends (at_back k.common) p) where
+        module _ {new : Table E} {ends : Ends} {next : Option Place} (is : next ≡ (n (mid.entry p)).right) (h : Inserts (RepresentsVine n) mid new ends (at_back k.common) p) where
           common_out : (q : Place) → IsAbsent q s → IsAbsent q (p ∷ k.common)
           common_out q o =
               let m = now_within q o in
@@ -141,7 +137,7 @@ module _ {E : Type 0} (n : E → Node) where
 
           pub sift_common : Parting cmp s u (k.common ++ p ∷ []) k.rest (drop 1 k.x) k.y → Sifting old new s u next right ends rest_ends (count + 1)
           sift_common parting =
-              let behind = behind_apart k.common p (k.rest ++ drop 1 k.x) common_first in
+              let behind = after_apart k.common p (k.rest ++ drop 1 k.x) common_first in
               let e : (k.common ++ p ∷ []) ++ (k.rest ++ drop 1 k.x) ≡ k.common ++ p ∷ (k.rest ++ drop 1 k.x) = append_assoc k.common (p ∷ []) (k.rest ++ drop 1 k.x) in
               record {
                 common = k.common ++ p ∷ [];
@@ -157,7 +153,7 @@ module _ {E : Type 0} (n : E → Node) where
                 cut = k.cut;
                 next = k.next;
                 next_placed = k.next_placed;
-                other = shows_frame k.other (absent_swap u s k.apart (p ∷ k.common) common_out) (hung_frame n h);
+                other = represents_frame k.other (absent_swap u s k.apart (p ∷ k.common) common_out) (hung_frame n h);
                 apart = k.apart;
                 within = λ q o. subst (IsAbsent q) (sym e) (absent_moved q k.common k.rest p (drop 1 k.x) (now_within q o));
                 extent = h.frame.extent ∙ k.extent;
@@ -176,7 +172,7 @@ module _ {E : Type 0} (n : E → Node) where
                 (parting_equal cmp (subst (λ (z : List Place). Parting cmp s u k.common k.rest (p ∷ drop 1 k.x) z) y_is parting_now) e))
 
         -- p IS NOT
-        module _ {new : Table E} {ends : Ends} {next : Option Place} (is : next ≡ (n (mid.entry p)).right) (h : Inserts (ShowsVine n) mid new ends (at_back k.rest) p) where
+        module _ {new : Table E} {ends : Ends} {next : Option Place} (is : next ≡ (n (mid.entry p)).right) (h : Inserts (RepresentsVine n) mid new ends (at_back k.rest) p) where
           rest_out : (q : Place) → IsAbsent q s → IsAbsent q (p ∷ k.rest)
           rest_out q o =
               let m = absent_right q k.common (k.rest ++ p ∷ drop 1 k.x) (now_within q o) in
@@ -184,7 +180,7 @@ module _ {E : Type 0} (n : E → Node) where
 
           pub sift_rest : Parting cmp s u k.common (k.rest ++ p ∷ []) (drop 1 k.x) k.y → Sifting old new s u next right common_ends ends (count + 1)
           sift_rest parting =
-              let behind = behind_apart k.rest p (drop 1 k.x) rest_first in
+              let behind = after_apart k.rest p (drop 1 k.x) rest_first in
               let e : (k.rest ++ p ∷ []) ++ drop 1 k.x ≡ k.rest ++ p ∷ drop 1 k.x = append_assoc k.rest (p ∷ []) (drop 1 k.x) in
               record {
                 common = k.common;
@@ -200,7 +196,7 @@ module _ {E : Type 0} (n : E → Node) where
                 cut = k.cut;
                 next = k.next;
                 next_placed = k.next_placed;
-                other = shows_frame k.other (absent_swap u s k.apart (p ∷ k.rest) rest_out) (hung_frame n h);
+                other = represents_frame k.other (absent_swap u s k.apart (p ∷ k.rest) rest_out) (hung_frame n h);
                 apart = k.apart;
                 within = λ q o. subst (λ (z : List Place). IsAbsent q (k.common ++ z)) (sym e) (now_within q o);
                 extent = h.frame.extent ∙ k.extent;
@@ -230,13 +226,13 @@ module _ {E : Type 0} (n : E → Node) where
         whole = ap (λ (z : List Place). k.passed ++ z) (sym right_is) ∙ k.cut
 
         pub pass_safe : IsSafe n mid root (Some b ∷ [])
-        pass_safe = safe_member k.passed b (drop 1 k.y) (subst (λ (z : List Place). Shows n mid root z) (sym whole) k.other)
+        pass_safe = safe_member k.passed b (drop 1 k.y) (subst (λ (z : List Place). Represents n mid root z) (sym whole) k.other)
 
         pub pass_there : is_placed objects b ≡ true
         pass_there = (subst (ArePlaced objects) right_is k.next_placed).0
 
         pub sift_greater : {p : Place} {next : Option Place} → left ≡ Some p → cmp p b ≡ Greater
-            → ((gap : Cut) → Shows n mid root (join gap) → IsBeside Right gap right → IsBeside Left gap next) → Sifting old mid s u left next common_ends rest_ends (count + 1)
+            → ((gap : Cut) → Represents n mid root (join gap) → IsBeside Right gap right → IsBeside Left gap next) → Sifting old mid s u left next common_ends rest_ends (count + 1)
         sift_greater {p} {next} on greater leads =
             let x_is : k.x ≡ p ∷ drop 1 k.x = first_is k.x (sym on ∙ k.run.starts) in
             let e : (k.passed ++ b ∷ []) ++ drop 1 k.y ≡ u = append_assoc k.passed (b ∷ []) (drop 1 k.y) ∙ whole in
@@ -254,7 +250,7 @@ module _ {E : Type 0} (n : E → Node) where
                   (parting_greater cmp (subst (λ (z : List Place). Parting cmp s u k.common k.rest (p ∷ drop 1 k.x) z) right_is
                   (subst (λ (z : List Place). Parting cmp s u k.common k.rest z k.y) x_is k.parting)) greater);
               cut = e;
-              next = leads (record { front = k.passed ++ b ∷ []; back = drop 1 k.y }) (subst (λ (z : List Place). Shows n mid root z) (sym e) k.other) (there ∙ sym (last_of_push k.passed b));
+              next = leads (record { front = k.passed ++ b ∷ []; back = drop 1 k.y }) (subst (λ (z : List Place). Represents n mid root z) (sym e) k.other) (there ∙ sym (last_of_push k.passed b));
               next_placed = (subst (ArePlaced objects) right_is k.next_placed).1;
               other = k.other;
               apart = k.apart;
@@ -273,7 +269,7 @@ module _ {E : Type 0} (n : E → Node) where
         by (Some b) f e = subst (λ (o : Option Place). IsSafe n mid root (o ∷ [])) (sym f) (pass_safe f)
 
       pub sift_pass : (p : Place) {next : Option Place} → left ≡ Some p → Greater ≡ standing cmp p right
-          → ((gap : Cut) → Shows n mid root (join gap) → IsBeside Right gap right → IsBeside Left gap next) → Sifting old mid s u (Some p) next common_ends rest_ends (count + 1)
+          → ((gap : Cut) → Represents n mid root (join gap) → IsBeside Right gap right → IsBeside Left gap next) → Sifting old mid s u (Some p) next common_ends rest_ends (count + 1)
       sift_pass p {next} on e leads = by right refl e where
         by : (o : Option Place) → right ≡ o → Greater ≡ standing cmp p o → Sifting old mid s u (Some p) next common_ends rest_ends (count + 1)
         by None f e = cc
@@ -287,8 +283,8 @@ module _ {E : Type 0} (n : E → Node) where
             record {
               common = k.common;
               rest = k.rest;
-              common_shown = k.common_vine;
-              rest_shown = k.rest_vine;
+              common_represented = k.common_vine;
+              rest_represented = k.rest_vine;
               apart = distinct_disjoint k.common k.rest d;
               is = parting_last cmp (subst (λ (z : List Place). Parting cmp s u k.common k.rest z k.y) x_is k.parting);
               frame = record { extent = k.extent; others = k.others };

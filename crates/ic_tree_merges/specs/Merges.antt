@@ -6,8 +6,7 @@ use Rattle.std.specs.List.Sorted.{IsPermutation, IsStableBy}
 use Rattle.std.specs.Ordering.{is_lt, is_eq}
 use Rattle.std.specs.declared.cmp.Ordering.{Ordering}
 use Rattle.std.specs.declared.cmp.Ordering.TheVariants.{Less, Equal, Greater}
-use Rattle.ic_unsafe_ref.specs.declared.place.Place.{Place}
-use Rattle.ic_unsafe_ref.specs.Objects.{Objects, object_at}
+use Rattle.ic_link_ops.specs.Prelude.{Place, Objects, object_at}
 use Rattle.ic_rbtree.specs.Borders.{IsSorted}
 
 module _ {X : Type 0} (cmp : X → X → Ordering) where
@@ -15,7 +14,8 @@ module _ {X : Type 0} (cmp : X → X → Ordering) where
   abbrev pub is_less : X → X → Bool
   is_less x y = is_lt (cmp x y)
 
-  -- MERGED: r has what s and t have. If the order is one and both were in order, so is r; and what is equal keeps its order, that of s in front of that of t
+  -- MERGED: r has what s and t have. If the order is one and both were in order, so is r; and what is equal keeps its order, that of s before that of
+  -- t
   pub record Merges (s t r : List X) : Type 0 where
     pub permutes : IsPermutation (s ++ t) r
     pub sorted : IsTotalOrder cmp → IsSorted cmp s → IsSorted cmp t → IsSorted cmp r
@@ -31,7 +31,8 @@ Interleaves a b [] = (a ≡ []) × (b ≡ [])
 Interleaves {X} a b (z ∷ s) = ((a' : List X) × (a ≡ z ∷ a') × Interleaves a' b s) ⊎ ((b' : List X) × (b ≡ z ∷ b') × Interleaves a b' s)
 
 module _ {X : Type 0} (cmp : X → X → Ordering) where
-  -- PARTED: s is what is common and what is not, each in its order. If the order is one and both s and t were in order, what is common is equal to one of t, and the rest is not
+  -- PARTED: s is what is common and what is not, each in its order. If the order is one and both s and t were in order, what is common is equal to
+  -- one of t, and the rest is not
   pub record Parts (s t common rest : List X) : Type 0 where
     pub interleaved : Interleaves common rest s
     pub common_is : IsTotalOrder cmp → IsSorted cmp s → IsSorted cmp t → common ≡ filter (has_equal cmp t) s

@@ -1,23 +1,19 @@
 -- Two trees that are made one, and one that is parted in two.
 use Rattle.std.specs.Prelude.{Option, List, ◌++◌}
 use Rattle.std.specs.declared.cmp.Ordering.{Ordering}
-use Rattle.ic_unsafe_ref.specs.declared.place.Place.{Place}
-use Rattle.ic_unsafe_ref.specs.Objects.{Objects}
-use Rattle.ic_link_ops.specs.PlacedObjects.{ArePlaced}
-use Rattle.ic_link_ops.specs.RedBlackTree.{Node, Shows}
-use Rattle.ic_link_ops.specs.Sequences.{IsDisjoint}
-use Rattle.ic_link_ops.specs.Tables.{Table, KeepsBeside}
+use Rattle.ic_link_ops.specs.Prelude.{Place, Objects, IsDisjoint, Table, ChangesOnlyIn, ArePlaced}
+use Rattle.ic_link_ops.specs.RedBlackTree.{Node, Represents}
 use Rattle.ic_rbtree.specs.Height.{IsLowest}
 use Rattle.ic_tree_merges.specs.Merges.{Merges, Parts}
 
--- `Shows t head s`: the table shows s for the tree with this head
-module _ {E H : Type 0} (Shows : Table E → H → List Place → Type 0) where
+-- `Represents t head s`: the table represents s for the tree with this head
+module _ {E H : Type 0} (Represents : Table E → H → List Place → Type 0) where
   -- TWO of them that share no member, with an object at each member
-  pub record TwoShown {V : Type 0} (objects : Objects V) (t : Table E) (a b : H) : Type 0 where
+  pub record TwoRepresented {V : Type 0} (objects : Objects V) (t : Table E) (a b : H) : Type 0 where
     pub first : List Place
     pub second : List Place
-    pub shown : Shows t a first
-    pub other : Shows t b second
+    pub shown : Represents t a first
+    pub other : Represents t b second
     pub apart : IsDisjoint first second
     pub placed : ArePlaced objects first
     pub other_placed : ArePlaced objects second
@@ -26,32 +22,32 @@ module _ {E H : Type 0} (Shows : Table E → H → List Place → Type 0) where
     -- MERGED: one of both, and nothing but entries of members is changed
     pub record MergesTo (head : H) (s u : List Place) : Type 0 where
       pub merged : List Place
-      pub shown : Shows new head merged
+      pub shown : Represents new head merged
       pub is : Merges cmp s u merged
-      pub frame : KeepsBeside old new (s ++ u)
+      pub frame : ChangesOnlyIn old new (s ++ u)
 
     -- PARTED: what is common to s and u, and the rest of s, and nothing but entries of s is changed
     pub record PartsTo (common_head rest_head : H) (s u : List Place) : Type 0 where
       pub common : List Place
       pub rest : List Place
-      pub common_shown : Shows new common_head common
-      pub rest_shown : Shows new rest_head rest
+      pub common_represented : Represents new common_head common
+      pub rest_represented : Represents new rest_head rest
       pub apart : IsDisjoint common rest
       pub is : Parts cmp s u common rest
-      pub frame : KeepsBeside old new s
+      pub frame : ChangesOnlyIn old new s
 
     -- UNITED: s with what is in u alone, and the rest of u, and nothing but entries of members is changed
     pub record UnitesTo (head doubles_head : H) (s u : List Place) : Type 0 where
       pub united : List Place
       pub doubles : List Place
       pub added : List Place
-      pub shown : Shows new head united
-      pub doubles_shown : Shows new doubles_head doubles
+      pub shown : Represents new head united
+      pub doubles_represented : Represents new doubles_head doubles
       pub parts : Parts cmp u s doubles added
       pub is : Merges cmp s added united
-      pub frame : KeepsBeside old new (s ++ u)
+      pub frame : ChangesOnlyIn old new (s ++ u)
 
 module _ {E : Type 0} (n : E → Node) where
-  -- THE TREE with this root IS AS LOW AS CAN BE, whatever members the table shows for it
-  abbrev pub ShowsLowest : Table E → Option Place → Type 0
-  ShowsLowest t root = (s : List Place) (h : Shows n t root s) → IsLowest h.tree
+  -- THE TREE with this root IS AS LOW AS CAN BE, whatever members the table represents for it
+  abbrev pub RepresentsLowest : Table E → Option Place → Type 0
+  RepresentsLowest t root = (s : List Place) (h : Represents n t root s) → IsLowest h.tree

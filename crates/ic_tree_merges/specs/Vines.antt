@@ -3,14 +3,10 @@ use Rattle.std.specs.Prelude.{◌≡◌, ℕ, Bool, true, false, not, Option, So
 use Rattle.std.specs.Ordering.{is_lt}
 use Rattle.std.specs.declared.cmp.Ordering.{Ordering}
 use Rattle.std.specs.declared.cmp.Ordering.TheVariants.{Less}
-use Rattle.ic_unsafe_ref.specs.declared.place.Place.{Place}
-use Rattle.ic_unsafe_ref.specs.Objects.{Objects}
+use Rattle.ic_link_ops.specs.Prelude.{Place, Objects, IsAbsent, first, Table, ArePlaced}
 use Rattle.ic_link_ops.specs.Chains.{Ends, list_head}
-use Rattle.ic_link_ops.specs.PlacedObjects.{ArePlaced}
 use Rattle.ic_link_ops.specs.RedBlackTree.{Node}
-use Rattle.ic_link_ops.specs.Sequences.{IsAbsent, first}
-use Rattle.ic_link_ops.specs.Tables.{Table}
-use Rattle.ic_rbtree.specs.Vines.{IsVine, ShowsVine}
+use Rattle.ic_rbtree.specs.Vines.{IsVine, RepresentsVine}
 use Rattle.ic_tree_merges.specs.TwoTrees.{MergesTo, PartsTo}
 use Rattle.ic_tree_merges.specs.declared.vine.Vine.{Vine}
 
@@ -46,8 +42,8 @@ module _ {E : Type 0} (n : E → Node) where
   module _ (cmp : Place → Place → Ordering) (old new : Table E) where
     -- TWO RUNS, merged to a vine of members of both
     abbrev pub MergesRuns : Ends → List Place → List Place → Type 0
-    MergesRuns ends s u = (m : MergesTo (ShowsVine n) cmp old new ends s u) × ((q : Place) → IsAbsent q (s ++ u) → IsAbsent q m.merged)
+    MergesRuns ends s u = (m : MergesTo (RepresentsVine n) cmp old new ends s u) × ((q : Place) → IsAbsent q (s ++ u) → IsAbsent q m.merged)
 
     -- A RUN, parted to two vines of its members
     abbrev pub PartsRun : Ends → Ends → List Place → List Place → Type 0
-    PartsRun common rest s u = (m : PartsTo (ShowsVine n) cmp old new common rest s u) × ((q : Place) → IsAbsent q s → IsAbsent q (m.common ++ m.rest))
+    PartsRun common rest s u = (m : PartsTo (RepresentsVine n) cmp old new common rest s u) × ((q : Place) → IsAbsent q s → IsAbsent q (m.common ++ m.rest))

@@ -5,18 +5,16 @@
 //! ```
 
 ghost use Rattle.std.specs.Prelude.{◌≡◌, ◌≤◌, ◌+◌, List, ◌++◌, length, true, IfSome};
-ghost use Rattle.ic_unsafe_ref.specs.declared.place.Place.{Place};
-ghost use Rattle.ic_unsafe_ref.specs.Objects.{is_placed};
-ghost use Rattle.ic_link_ops.specs.RedBlackTree.{Shows};
-ghost use Rattle.ic_link_ops.specs.Sequences.{IsDistinct, IsDisjoint};
+ghost use Rattle.ic_link_ops.specs.Prelude.{Place, is_placed, IsDistinct, IsDisjoint};
+ghost use Rattle.ic_link_ops.specs.RedBlackTree.{Represents};
 ghost use Rattle.ic_rbtree.specs.Tree.{root_of, adapter_of};
 ghost use Rattle.ic_tree_merges.specs.Merges.{compared_at};
-ghost use Rattle.ic_tree_merges.specs.TwoTrees.{TwoShown, MergesTo, ShowsLowest};
+ghost use Rattle.ic_tree_merges.specs.TwoTrees.{TwoRepresented, MergesTo, RepresentsLowest};
 ghost use Rattle.ic_tree_merges.specs.Vines.{ends_of, takes_left, looks_between, IsRun, MergesRuns};
 
 use crate::compares::Compares;
 use crate::vine::Vine;
-use ic_rbtree::{Nodes, RBTree, RBTreeBuilder};
+use ic_rbtree::{NodeStore, RBTree, RBTreeBuilder};
 use ic_unsafe_ref::{Place, Values};
 use std::cmp::Ordering;
 
@@ -48,7 +46,7 @@ fn takes_left<V, O: Values<V>, C: Compares<V>>(
 }
 
 // Makes one vine of two runs: of what is equal, the members on the left go first.
-pub(crate) fn merge_runs<V, N: Nodes, O: Values<V>, C: Compares<V>>(
+pub(crate) fn merge_runs<V, N: NodeStore, O: Values<V>, C: Compares<V>>(
     nodes: &mut N,
     objects: &O,
     order: &mut C,
@@ -64,7 +62,7 @@ pub(crate) fn merge_runs<V, N: Nodes, O: Values<V>, C: Compares<V>>(
         → IsRun N.node (O.values objects.now) (N.table nodes.old) second u → IsDistinct (s ++ u)
         → C.looks order.new ≤ C.looks order.old + (length s + length u) }
     ensures same { C.order order.new ≡ C.order order.old }
-    ensures quiet { N.Quiet nodes.old nodes.new }
+    ensures keeps_links { N.KeepsLinks nodes.old nodes.new }
 {
     let mut left = first;
     let mut right = second;
@@ -90,22 +88,22 @@ pub(crate) fn merge_runs<V, N: Nodes, O: Values<V>, C: Compares<V>>(
 /// It requires that the two trees share no member, and that an object stands at each. If both were in order, so is what comes out, in a tree as
 /// low as can be. It takes no memory, no link is acquired or released, and trees that share no member with either stay. At most n + m looks, and
 /// O(n + m).
-pub fn merge<A: Copy + Drop, V, N: Nodes, O: Values<V>, C: Compares<V>>(
+pub fn merge<A: Copy + Drop, V, N: NodeStore, O: Values<V>, C: Compares<V>>(
     tree: &mut RBTree<A>,
     nodes: &mut N,
     objects: &O,
     order: &mut C,
     other: RBTree<A>,
 )
-    requires two { TwoShown (Shows N.node) (O.values objects.now) (N.table nodes.old) (root_of tree.old) (root_of other) }
-    ensures merged { (s u : List Place) → Shows N.node (N.table nodes.old) (root_of tree.old) s → Shows N.node (N.table nodes.old) (root_of other) u
-        → IsDisjoint s u → MergesTo (Shows N.node) (compared_at (C.order order.old) (O.values objects.now)) (N.table nodes.old) (N.table nodes.new)
+    requires two { TwoRepresented (Represents N.node) (O.values objects.now) (N.table nodes.old) (root_of tree.old) (root_of other) }
+    ensures merged { (s u : List Place) → Represents N.node (N.table nodes.old) (root_of tree.old) s → Represents N.node (N.table nodes.old) (root_of other) u
+        → IsDisjoint s u → MergesTo (Represents N.node) (compared_at (C.order order.old) (O.values objects.now)) (N.table nodes.old) (N.table nodes.new)
         (root_of tree.new) s u }
-    ensures lowest { ShowsLowest N.node (N.table nodes.new) (root_of tree.new) }
-    ensures few { (s u : List Place) → Shows N.node (N.table nodes.old) (root_of tree.old) s → Shows N.node (N.table nodes.old) (root_of other) u
+    ensures lowest { RepresentsLowest N.node (N.table nodes.new) (root_of tree.new) }
+    ensures few { (s u : List Place) → Represents N.node (N.table nodes.old) (root_of tree.old) s → Represents N.node (N.table nodes.old) (root_of other) u
         → IsDisjoint s u → C.looks order.new ≤ C.looks order.old + (length s + length u) }
     ensures same { C.order order.new ≡ C.order order.old }
-    ensures quiet { N.Quiet nodes.old nodes.new }
+    ensures keeps_links { N.KeepsLinks nodes.old nodes.new }
     ensures adapter { adapter_of tree.new ≡ adapter_of tree.old }
 {
     let adapter = tree.adapter();

@@ -7,21 +7,18 @@
 //! ```
 
 ghost use Rattle.std.specs.Prelude.{◌≡◌, ◌≤◌, ◌+◌, ◌*◌, List, length, true, IfSome};
-ghost use Rattle.ic_unsafe_ref.specs.declared.place.Place.{Place};
-ghost use Rattle.ic_unsafe_ref.specs.Objects.{is_placed};
-ghost use Rattle.ic_link_ops.specs.PlacedObjects.{ArePlaced};
-ghost use Rattle.ic_link_ops.specs.RedBlackTree.{Shows};
-ghost use Rattle.ic_link_ops.specs.Sequences.{IsDistinct, IsDisjoint};
+ghost use Rattle.ic_link_ops.specs.Prelude.{Place, is_placed, IsDistinct, IsDisjoint, ArePlaced};
+ghost use Rattle.ic_link_ops.specs.RedBlackTree.{Represents};
 ghost use Rattle.ic_rbtree.specs.Tree.{root_of, adapter_of};
 ghost use Rattle.ic_tree_merges.specs.Merges.{compared_at};
-ghost use Rattle.ic_tree_merges.specs.TwoTrees.{TwoShown, PartsTo, UnitesTo, ShowsLowest};
+ghost use Rattle.ic_tree_merges.specs.TwoTrees.{TwoRepresented, PartsTo, UnitesTo, RepresentsLowest};
 ghost use Rattle.ic_tree_merges.specs.Vines.{ends_of, standing, IsRun, PartsRun};
 
 use crate::compares::Compares;
 use crate::merging::merge;
 use crate::vine::Vine;
 use ic_link_ops::Side;
-use ic_rbtree::{Nodes, RBTree, RBTreeBuilder};
+use ic_rbtree::{NodeStore, RBTree, RBTreeBuilder};
 use ic_unsafe_ref::{Place, Values};
 use std::cmp::Ordering;
 
@@ -46,7 +43,7 @@ fn standing<V, O: Values<V>, C: Compares<V>>(
 }
 
 // Makes two vines of a run: of what the other tree has, too, and of the rest.
-fn part_run<V, B, N: Nodes, O: Values<V>, C: Compares<V>>(
+fn part_run<V, B, N: NodeStore, O: Values<V>, C: Compares<V>>(
     nodes: &mut N,
     objects: &O,
     order: &mut C,
@@ -54,16 +51,16 @@ fn part_run<V, B, N: Nodes, O: Values<V>, C: Compares<V>>(
     other: &RBTree<B>,
 ) -> (Vine, Vine)
     requires run { (s u : List Place) × IsRun N.node (O.values objects.now) (N.table nodes.old) first s × IsDistinct s
-        × Shows N.node (N.table nodes.old) (root_of other.now) u × ArePlaced (O.values objects.now) u × IsDisjoint u s }
+        × Represents N.node (N.table nodes.old) (root_of other.now) u × ArePlaced (O.values objects.now) u × IsDisjoint u s }
     ensures parted { (s u : List Place) → IsRun N.node (O.values objects.now) (N.table nodes.old) first s → IsDistinct s
-        → Shows N.node (N.table nodes.old) (root_of other.now) u → IsDisjoint u s
+        → Represents N.node (N.table nodes.old) (root_of other.now) u → IsDisjoint u s
         → PartsRun N.node (compared_at (C.order order.old) (O.values objects.now)) (N.table nodes.old) (N.table nodes.new)
         (ends_of result.0) (ends_of result.1) s u }
     ensures few { (s u : List Place) → IsRun N.node (O.values objects.now) (N.table nodes.old) first s → IsDistinct s
-        → Shows N.node (N.table nodes.old) (root_of other.now) u → IsDisjoint u s
+        → Represents N.node (N.table nodes.old) (root_of other.now) u → IsDisjoint u s
         → C.looks order.new ≤ C.looks order.old + (length s + length u) }
     ensures same { C.order order.new ≡ C.order order.old }
-    ensures quiet { N.Quiet nodes.old nodes.new }
+    ensures keeps_links { N.KeepsLinks nodes.old nodes.new }
 {
     let mut left = first;
     let mut right = other.step(&*nodes, None, Side::Right);
@@ -83,22 +80,22 @@ fn part_run<V, B, N: Nodes, O: Values<V>, C: Compares<V>>(
 }
 
 // Takes the tree apart: what the other tree has, too, and the rest.
-fn part<A: Copy + Drop, B, V, N: Nodes, O: Values<V>, C: Compares<V>>(
+fn part<A: Copy + Drop, B, V, N: NodeStore, O: Values<V>, C: Compares<V>>(
     tree: RBTree<A>,
     nodes: &mut N,
     objects: &O,
     order: &mut C,
     other: &RBTree<B>,
 ) -> (RBTree<A>, RBTree<A>)
-    requires two { TwoShown (Shows N.node) (O.values objects.now) (N.table nodes.old) (root_of tree) (root_of other.now) }
-    ensures parted { (s u : List Place) → Shows N.node (N.table nodes.old) (root_of tree) s → Shows N.node (N.table nodes.old) (root_of other.now) u
-        → IsDisjoint s u → PartsTo (Shows N.node) (compared_at (C.order order.old) (O.values objects.now)) (N.table nodes.old) (N.table nodes.new)
+    requires two { TwoRepresented (Represents N.node) (O.values objects.now) (N.table nodes.old) (root_of tree) (root_of other.now) }
+    ensures parted { (s u : List Place) → Represents N.node (N.table nodes.old) (root_of tree) s → Represents N.node (N.table nodes.old) (root_of other.now) u
+        → IsDisjoint s u → PartsTo (Represents N.node) (compared_at (C.order order.old) (O.values objects.now)) (N.table nodes.old) (N.table nodes.new)
         (root_of result.0) (root_of result.1) s u }
-    ensures lowest { ShowsLowest N.node (N.table nodes.new) (root_of result.0) × ShowsLowest N.node (N.table nodes.new) (root_of result.1) }
-    ensures few { (s u : List Place) → Shows N.node (N.table nodes.old) (root_of tree) s → Shows N.node (N.table nodes.old) (root_of other.now) u
+    ensures lowest { RepresentsLowest N.node (N.table nodes.new) (root_of result.0) × RepresentsLowest N.node (N.table nodes.new) (root_of result.1) }
+    ensures few { (s u : List Place) → Represents N.node (N.table nodes.old) (root_of tree) s → Represents N.node (N.table nodes.old) (root_of other.now) u
         → IsDisjoint s u → C.looks order.new ≤ C.looks order.old + (length s + length u) }
     ensures same { C.order order.new ≡ C.order order.old }
-    ensures quiet { N.Quiet nodes.old nodes.new }
+    ensures keeps_links { N.KeepsLinks nodes.old nodes.new }
     ensures adapter { adapter_of result.0 ≡ adapter_of tree }
     ensures rest_adapter { adapter_of result.1 ≡ adapter_of tree }
 {
@@ -118,22 +115,22 @@ fn part<A: Copy + Drop, B, V, N: Nodes, O: Values<V>, C: Compares<V>>(
 /// It requires that the two trees share no member, and that an object stands at each. If both were in order, exactly those are kept that are
 /// equal to one of the other. That one stays as it is. Both trees that come out are as low as can be. It takes no memory, no link is acquired
 /// or released, and trees that share no member with this one stay. At most n + m looks, and O(n + m).
-pub fn intersection<A: Copy + Drop, B, V, N: Nodes, O: Values<V>, C: Compares<V>>(
+pub fn intersection<A: Copy + Drop, B, V, N: NodeStore, O: Values<V>, C: Compares<V>>(
     tree: &mut RBTree<A>,
     nodes: &mut N,
     objects: &O,
     order: &mut C,
     other: &RBTree<B>,
 ) -> RBTree<A>
-    requires two { TwoShown (Shows N.node) (O.values objects.now) (N.table nodes.old) (root_of tree.old) (root_of other.now) }
-    ensures parted { (s u : List Place) → Shows N.node (N.table nodes.old) (root_of tree.old) s → Shows N.node (N.table nodes.old) (root_of other.now) u
-        → IsDisjoint s u → PartsTo (Shows N.node) (compared_at (C.order order.old) (O.values objects.now)) (N.table nodes.old) (N.table nodes.new)
+    requires two { TwoRepresented (Represents N.node) (O.values objects.now) (N.table nodes.old) (root_of tree.old) (root_of other.now) }
+    ensures parted { (s u : List Place) → Represents N.node (N.table nodes.old) (root_of tree.old) s → Represents N.node (N.table nodes.old) (root_of other.now) u
+        → IsDisjoint s u → PartsTo (Represents N.node) (compared_at (C.order order.old) (O.values objects.now)) (N.table nodes.old) (N.table nodes.new)
         (root_of tree.new) (root_of result) s u }
-    ensures lowest { ShowsLowest N.node (N.table nodes.new) (root_of tree.new) × ShowsLowest N.node (N.table nodes.new) (root_of result) }
-    ensures few { (s u : List Place) → Shows N.node (N.table nodes.old) (root_of tree.old) s → Shows N.node (N.table nodes.old) (root_of other.now) u
+    ensures lowest { RepresentsLowest N.node (N.table nodes.new) (root_of tree.new) × RepresentsLowest N.node (N.table nodes.new) (root_of result) }
+    ensures few { (s u : List Place) → Represents N.node (N.table nodes.old) (root_of tree.old) s → Represents N.node (N.table nodes.old) (root_of other.now) u
         → IsDisjoint s u → C.looks order.new ≤ C.looks order.old + (length s + length u) }
     ensures same { C.order order.new ≡ C.order order.old }
-    ensures quiet { N.Quiet nodes.old nodes.new }
+    ensures keeps_links { N.KeepsLinks nodes.old nodes.new }
     ensures adapter { adapter_of tree.new ≡ adapter_of tree.old }
     ensures rest_adapter { adapter_of result ≡ adapter_of tree.old }
 {
@@ -148,22 +145,22 @@ pub fn intersection<A: Copy + Drop, B, V, N: Nodes, O: Values<V>, C: Compares<V>
 /// It requires that the two trees share no member, and that an object stands at each. If both were in order, exactly those are handed out that
 /// are equal to one of the other. That one stays as it is. Both trees that come out are as low as can be. It takes no memory, no link is
 /// acquired or released, and trees that share no member with this one stay. At most n + m looks, and O(n + m).
-pub fn difference<A: Copy + Drop, B, V, N: Nodes, O: Values<V>, C: Compares<V>>(
+pub fn difference<A: Copy + Drop, B, V, N: NodeStore, O: Values<V>, C: Compares<V>>(
     tree: &mut RBTree<A>,
     nodes: &mut N,
     objects: &O,
     order: &mut C,
     other: &RBTree<B>,
 ) -> RBTree<A>
-    requires two { TwoShown (Shows N.node) (O.values objects.now) (N.table nodes.old) (root_of tree.old) (root_of other.now) }
-    ensures parted { (s u : List Place) → Shows N.node (N.table nodes.old) (root_of tree.old) s → Shows N.node (N.table nodes.old) (root_of other.now) u
-        → IsDisjoint s u → PartsTo (Shows N.node) (compared_at (C.order order.old) (O.values objects.now)) (N.table nodes.old) (N.table nodes.new)
+    requires two { TwoRepresented (Represents N.node) (O.values objects.now) (N.table nodes.old) (root_of tree.old) (root_of other.now) }
+    ensures parted { (s u : List Place) → Represents N.node (N.table nodes.old) (root_of tree.old) s → Represents N.node (N.table nodes.old) (root_of other.now) u
+        → IsDisjoint s u → PartsTo (Represents N.node) (compared_at (C.order order.old) (O.values objects.now)) (N.table nodes.old) (N.table nodes.new)
         (root_of result) (root_of tree.new) s u }
-    ensures lowest { ShowsLowest N.node (N.table nodes.new) (root_of tree.new) × ShowsLowest N.node (N.table nodes.new) (root_of result) }
-    ensures few { (s u : List Place) → Shows N.node (N.table nodes.old) (root_of tree.old) s → Shows N.node (N.table nodes.old) (root_of other.now) u
+    ensures lowest { RepresentsLowest N.node (N.table nodes.new) (root_of tree.new) × RepresentsLowest N.node (N.table nodes.new) (root_of result) }
+    ensures few { (s u : List Place) → Represents N.node (N.table nodes.old) (root_of tree.old) s → Represents N.node (N.table nodes.old) (root_of other.now) u
         → IsDisjoint s u → C.looks order.new ≤ C.looks order.old + (length s + length u) }
     ensures same { C.order order.new ≡ C.order order.old }
-    ensures quiet { N.Quiet nodes.old nodes.new }
+    ensures keeps_links { N.KeepsLinks nodes.old nodes.new }
     ensures adapter { adapter_of tree.new ≡ adapter_of tree.old }
     ensures common_adapter { adapter_of result ≡ adapter_of tree.old }
 {
@@ -178,22 +175,22 @@ pub fn difference<A: Copy + Drop, B, V, N: Nodes, O: Values<V>, C: Compares<V>>(
 /// It requires that the two trees share no member, and that an object stands at each. If both were in order, so is what comes out, and exactly
 /// those are handed out that are equal to one of this tree. Both trees that come out are as low as can be. It takes no memory, no link is
 /// acquired or released, and trees that share no member with either stay. At most 2 (n + m) looks, and O(n + m).
-pub fn union<A: Copy + Drop, V, N: Nodes, O: Values<V>, C: Compares<V>>(
+pub fn union<A: Copy + Drop, V, N: NodeStore, O: Values<V>, C: Compares<V>>(
     tree: &mut RBTree<A>,
     nodes: &mut N,
     objects: &O,
     order: &mut C,
     other: RBTree<A>,
 ) -> RBTree<A>
-    requires two { TwoShown (Shows N.node) (O.values objects.now) (N.table nodes.old) (root_of tree.old) (root_of other) }
-    ensures united { (s u : List Place) → Shows N.node (N.table nodes.old) (root_of tree.old) s → Shows N.node (N.table nodes.old) (root_of other) u
-        → IsDisjoint s u → UnitesTo (Shows N.node) (compared_at (C.order order.old) (O.values objects.now)) (N.table nodes.old) (N.table nodes.new)
+    requires two { TwoRepresented (Represents N.node) (O.values objects.now) (N.table nodes.old) (root_of tree.old) (root_of other) }
+    ensures united { (s u : List Place) → Represents N.node (N.table nodes.old) (root_of tree.old) s → Represents N.node (N.table nodes.old) (root_of other) u
+        → IsDisjoint s u → UnitesTo (Represents N.node) (compared_at (C.order order.old) (O.values objects.now)) (N.table nodes.old) (N.table nodes.new)
         (root_of tree.new) (root_of result) s u }
-    ensures lowest { ShowsLowest N.node (N.table nodes.new) (root_of tree.new) × ShowsLowest N.node (N.table nodes.new) (root_of result) }
-    ensures few { (s u : List Place) → Shows N.node (N.table nodes.old) (root_of tree.old) s → Shows N.node (N.table nodes.old) (root_of other) u
+    ensures lowest { RepresentsLowest N.node (N.table nodes.new) (root_of tree.new) × RepresentsLowest N.node (N.table nodes.new) (root_of result) }
+    ensures few { (s u : List Place) → Represents N.node (N.table nodes.old) (root_of tree.old) s → Represents N.node (N.table nodes.old) (root_of other) u
         → IsDisjoint s u → C.looks order.new ≤ C.looks order.old + 2 * (length s + length u) }
     ensures same { C.order order.new ≡ C.order order.old }
-    ensures quiet { N.Quiet nodes.old nodes.new }
+    ensures keeps_links { N.KeepsLinks nodes.old nodes.new }
     ensures adapter { adapter_of tree.new ≡ adapter_of tree.old }
     ensures doubles_adapter { adapter_of result ≡ adapter_of other }
 {

@@ -2,7 +2,7 @@
 //!
 //! ```text
 //! let mut vine = Vine::new();
-//! let next = vine.push_back(nodes, place); // what stood behind the place before
+//! let next = vine.push_back(nodes, place); // what stood after the place before
 //! ```
 
 ghost use Rattle.std.specs.Prelude.{◌≡◌, List};
@@ -11,10 +11,10 @@ ghost use Rattle.ic_link_ops.specs.Edits.{Inserts};
 ghost use Rattle.ic_link_ops.specs.RedBlackTree.{node_at};
 ghost use Rattle.ic_link_ops.specs.Sequences.{IsAbsent, at_back};
 ghost use Rattle.ic_rbtree.specs.Closed.{IsNode};
-ghost use Rattle.ic_rbtree.specs.Vines.{ShowsVine, ShowsVineSome};
+ghost use Rattle.ic_rbtree.specs.Vines.{RepresentsVine, RepresentsVineSome};
 ghost use Rattle.ic_tree_merges.specs.Vines.{ends_of};
 
-use ic_rbtree::Nodes;
+use ic_rbtree::NodeStore;
 use ic_unsafe_ref::Place;
 
 /// The ends of a vine.
@@ -35,15 +35,15 @@ impl Vine {
         }
     }
 
-    // Puts a linked place behind the last member, and returns the right child that it had.
+    // Puts a linked place after the last member, and returns the right child that it had.
     #[inline]
-    pub(crate) fn push_back<N: Nodes>(&mut self, nodes: &mut N, place: Place) -> Option<Place>
+    pub(crate) fn push_back<N: NodeStore>(&mut self, nodes: &mut N, place: Place) -> Option<Place>
         requires linked { IsNode N.node (N.table nodes.old) place }
-        requires shown { ShowsVineSome N.node (N.table nodes.old) (ends_of self.old) }
-        ensures hung { (s : List Place) → ShowsVine N.node (N.table nodes.old) (ends_of self.old) s → IsAbsent place s
-            → Inserts (ShowsVine N.node) (N.table nodes.old) (N.table nodes.new) (ends_of self.new) (at_back s) place }
+        requires shown { RepresentsVineSome N.node (N.table nodes.old) (ends_of self.old) }
+        ensures hung { (s : List Place) → RepresentsVine N.node (N.table nodes.old) (ends_of self.old) s → IsAbsent place s
+            → Inserts (RepresentsVine N.node) (N.table nodes.old) (N.table nodes.new) (ends_of self.new) (at_back s) place }
         ensures behind { result ≡ (node_at N.node (N.table nodes.old) place).right }
-        ensures quiet { N.Quiet nodes.old nodes.new }
+        ensures keeps_links { N.KeepsLinks nodes.old nodes.new }
     {
         let behind = nodes.right(place);
         nodes.set_right(place, None);

@@ -73,7 +73,7 @@ impl<T, A: Allocator> Objects<T, A> {
 
     /// The object at `place` to be changed, if one stands there. One look-up, O(1).
     ///
-    /// What is left behind the reference when it ends stands at the place then, and nothing else has changed.
+    /// What is left after the reference when it ends stands at the place then, and nothing else has changed.
     #[inline]
     pub fn get_mut(&mut self, place: Place) -> Option<&mut T>
         ensures* writes_back { sem 𝓛 (LendsObject T.row A.row A.Allocator self.entry place result) }

@@ -1,7 +1,6 @@
 -- Where all steps of one list are claims, each place that was claimed is held at its end.
 use Rattle.std.proofs.Common.{◌≡◌, ℕ, Bool, true, false, true≢false, cond, eqb, ◌||◌, List, [], ◌∷◌, map, refl, sym, ap, ◌∙◌, subst, eq-eqb, Option, Some, None, is_some}
-use Rattle.ic_unsafe_ref.specs.declared.place.Place.{Place}
-use Rattle.ic_unsafe_ref.specs.Places.{index_of}
+use Rattle.ic_link_ops.specs.Prelude.{Place, index_of}
 use Rattle.ic_atomic.specs.declared.step.Step.{Step}
 use Rattle.ic_atomic.specs.declared.step.Step.TheVariants.{Claim, Release, Look}
 use Rattle.ic_atomic.specs.declared.step.Event.{Event}

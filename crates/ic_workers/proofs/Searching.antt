@@ -2,8 +2,7 @@
 use Rattle.std.proofs.Common.{◌≡◌, ◌<◌, ◌≤◌, ◌+◌, ℕ, zero, suc, Bool, true, false, cond, eqb, ◌||◌, List, [], ◌∷◌, ◌++◌, take, drop, length, refl, sym, ap, ◌∙◌, arith, eq-eqb, ne_eqb, Vec, All}
 use Rattle.std.proofs.lemmas.Bool.{lt-ltb, le-ltb, or_from}
 use Rattle.std.specs.Prelude.{slice_index_or}
-use Rattle.ic_unsafe_ref.specs.declared.place.Place.{Place}
-use Rattle.ic_unsafe_ref.specs.Places.{index_of}
+use Rattle.ic_link_ops.specs.Prelude.{Place, index_of}
 use Rattle.ic_workers.specs.SharedOut.{has, Rises, places_in}
 use Rattle.ic_workers.specs.Doubles.{times, doubles_below}
 
@@ -24,19 +23,19 @@ not_below low high (p ∷ s) r n less =
     let i = r.0 in
     or_from _ (has s n) (ne_eqb n (index_of p) (λ e. absurd (omega (arith, e, i, less)))) (not_below (index_of p + 1) high s r.2 n (omega (arith, i, less)))
 
--- no larger one in front of a place,
-pub not_in_front : (low high : ℕ) (s : List Place) → Rises low high s → (m : ℕ) (d : Place) → m < length s → (n : ℕ) → index_of (slice_index_or s m d) < n → has (take (suc m) s) n ≡ false
-not_in_front low high [] r m d inside n more = absurd (omega (arith, inside))
-not_in_front low high (p ∷ s) r zero d inside n more = or_from _ false (ne_eqb n (index_of p) (λ e. absurd (omega (arith, e, more)))) refl
-not_in_front low high (p ∷ s) r (suc m) d inside n more =
+-- no larger one before a place,
+pub not_before : (low high : ℕ) (s : List Place) → Rises low high s → (m : ℕ) (d : Place) → m < length s → (n : ℕ) → index_of (slice_index_or s m d) < n → has (take (suc m) s) n ≡ false
+not_before low high [] r m d inside n more = absurd (omega (arith, inside))
+not_before low high (p ∷ s) r zero d inside n more = or_from _ false (ne_eqb n (index_of p) (λ e. absurd (omega (arith, e, more)))) refl
+not_before low high (p ∷ s) r (suc m) d inside n more =
     let j = at_least (index_of p + 1) high s r.2 m d (omega (arith, inside)) in
-    or_from _ (has (take (suc m) s) n) (ne_eqb n (index_of p) (λ e. absurd (omega (arith, e, j, more)))) (not_in_front (index_of p + 1) high s r.2 m d (omega (arith, inside)) n more)
+    or_from _ (has (take (suc m) s) n) (ne_eqb n (index_of p) (λ e. absurd (omega (arith, e, j, more)))) (not_before (index_of p + 1) high s r.2 m d (omega (arith, inside)) n more)
 
--- and no smaller one behind it
-pub not_behind : (low high : ℕ) (s : List Place) → Rises low high s → (m : ℕ) (d : Place) → m < length s → (n : ℕ) → n < index_of (slice_index_or s m d) → has (drop m s) n ≡ false
-not_behind low high [] r m d inside n less = absurd (omega (arith, inside))
-not_behind low high (p ∷ s) r zero d inside n less = not_below (index_of p) high (p ∷ s) (omega arith, r.1, r.2) n less
-not_behind low high (p ∷ s) r (suc m) d inside n less = not_behind (index_of p + 1) high s r.2 m d (omega (arith, inside)) n less
+-- and no smaller one after it
+pub not_after : (low high : ℕ) (s : List Place) → Rises low high s → (m : ℕ) (d : Place) → m < length s → (n : ℕ) → n < index_of (slice_index_or s m d) → has (drop m s) n ≡ false
+not_after low high [] r m d inside n less = absurd (omega (arith, inside))
+not_after low high (p ∷ s) r zero d inside n less = not_below (index_of p) high (p ∷ s) (omega arith, r.1, r.2) n less
+not_after low high (p ∷ s) r (suc m) d inside n less = not_after (index_of p + 1) high s r.2 m d (omega (arith, inside)) n less
 
 pub stands_there : (s : List Place) (m : ℕ) (d : Place) → m < length s → (n : ℕ) → index_of (slice_index_or s m d) ≡ n → has s n ≡ true
 stands_there [] m d inside n is = absurd (omega (arith, inside))

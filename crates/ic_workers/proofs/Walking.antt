@@ -1,8 +1,7 @@
 -- A walk over a list, from its front.
 use Rattle.std.proofs.Common.{◌≡◌, ◌++◌, [], ◌∷◌, Option, Some, List, drop, sym, ap, ◌∙◌, append_assoc}
 use Rattle.std.proofs.lemmas.List.{append_cancel_left}
-use Rattle.ic_unsafe_ref.specs.declared.place.Place.{Place}
-use Rattle.ic_link_ops.specs.Sequences.{Cut, join, first, IsAfter, IsBefore}
+use Rattle.ic_link_ops.specs.Prelude.{Place, Cut, join, first, IsAfter, IsBefore}
 use Rattle.ic_link_ops.proofs.SequenceLemmas.{first_is, last_of_push}
 
 -- these members of s have been seen, and the position is on the first that has not

@@ -1,13 +1,12 @@
 -- What workers have claimed: each of the first places once, by records that are one list of steps.
 use Rattle.std.specs.Prelude.{◌≡◌, ◌<◌, ℕ, ◌+◌, Bool, List, [], ◌∷◌, length}
 use Rattle.std.specs.List.{AllZip}
-use Rattle.ic_unsafe_ref.specs.declared.place.Place.{Place}
-use Rattle.ic_unsafe_ref.specs.Places.{index_of}
+use Rattle.ic_link_ops.specs.Prelude.{Place, index_of}
 use Rattle.ic_atomic.specs.declared.step.Event.{Event}
 use Rattle.ic_atomic.specs.Gathering.{claims_of_each, chosen}
 use Rattle.ic_atomic.specs.OneList.{IsOneList}
 
--- the places have these indices: the first `from`, and each other one more than the one in front of it
+-- the places have these indices: the first `from`, and each other one more than the one before it
 abbrev pub IsRow : ℕ → List Place → Type 0
 IsRow from [] = Unit {0}
 IsRow from (p ∷ s) = (index_of p ≡ from) × IsRow (from + 1) s

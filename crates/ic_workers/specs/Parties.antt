@@ -2,7 +2,7 @@
 use Rattle.std.specs.Prelude.{◌≡◌, List, [], length}
 use Rattle.ic_unsafe_ref.specs.declared.place.Place.{Place}
 use Rattle.ic_link_ops.specs.declared.link_ops.LinkOps.{Ghosts}
-use Rattle.ic_link_ops.specs.DoublyEntries.{DoublyLinkOps, PlainShows, plain_table}
+use Rattle.ic_link_ops.specs.DoublyEntries.{DoublyLinkOps, PlainRepresents, plain_table}
 use Rattle.ic_atomic.specs.declared.claims.Claims.{Claims}
 use Rattle.ic_atomic.specs.declared.claims.Holder.{Holder}
 use Rattle.ic_atomic.specs.Holders.{places_of, record_of, IsOf}
@@ -17,16 +17,16 @@ module _ {A E : Type 0} {g : Ghosts (DoublyLinkOps A) E} where
     pub claims_are : claims_of party.links ≡ claims
     pub covers : (plain_table (links_of party.links)).extent.places ≡ places_of claims
     pub fresh : record_in party.links ≡ []
-    pub empty : PlainShows (links_of party.links) party.list []
+    pub empty : PlainRepresents (links_of party.links) party.list []
     pub row : IsRow 0 party.offered.now
     pub long : length party.offered.now ≡ places_of claims
 
 module _ {A : Type 0} where
-  -- the party has claimed them, and its list shows those that it got
+  -- the party has claimed them, and its list represents those that it got
   pub record HasGathered (claims : Claims A) (gathered : Gathered A) : Type 0 where
     pub made : IsOf claims gathered.holder
     pub list : List Place
-    pub shows : PlainShows gathered.table gathered.list list
+    pub shows : PlainRepresents gathered.table gathered.list list
     pub claimed : ClaimedEach (places_of claims) (record_of gathered.holder) list
 
   -- the same of a holder and its list

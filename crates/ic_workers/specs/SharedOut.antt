@@ -1,14 +1,13 @@
 -- Places that are shared out: each stands in one of several lists.
 use Rattle.std.specs.Prelude.{◌≡◌, ℕ, ◌+◌, ◌<◌, ◌≤◌, ◌==◌, ◌||◌, Bool, true, false, List, [], ◌∷◌, map, length, slice_index_or, Vec, All}
-use Rattle.ic_unsafe_ref.specs.declared.place.Place.{Place}
-use Rattle.ic_unsafe_ref.specs.Places.{index_of}
+use Rattle.ic_link_ops.specs.Prelude.{Place, index_of}
 
 -- whether the place with that index stands in the list
 abbrev pub has : List Place → ℕ → Bool
 has [] i = false
 has (p ∷ s) i = (i == index_of p) || has s i
 
--- the list rises: each index is larger than the one in front of it, and all are from `low` on and below `high`
+-- the list rises: each index is larger than the one before it, and all are from `low` on and below `high`
 abbrev pub Rises : ℕ → ℕ → List Place → Type 0
 Rises low high [] = Unit {0}
 Rises low high (p ∷ s) = (low ≤ index_of p) × (index_of p < high) × Rises (index_of p + 1) high s
@@ -33,5 +32,5 @@ pub record SharedOut (workers places : ℕ) (lists : List (List Place)) : Type 0
   pub all : 0 < workers → (n : ℕ) → n < places → (i : ℕ) × (has (list_at lists i) n ≡ true)
 
 -- A GATE WAS TOLD of each of so many workers, which are counted from 1, that it has had so many answers
-abbrev pub IsToldOfEach : (ℕ → ℕ → Type 0) → ℕ → ℕ → Type 0
-IsToldOfEach Told workers answered = (worker : ℕ) → 0 < worker → worker ≤ workers → Told worker answered
+abbrev pub IsReportedOfEach : (ℕ → ℕ → Type 0) → ℕ → ℕ → Type 0
+IsReportedOfEach Reported workers answered = (worker : ℕ) → 0 < worker → worker ≤ workers → Reported worker answered

@@ -2,9 +2,9 @@
 
 ghost use Rattle.std.specs.Prelude.{◌≡◌, [], List, All, IfOk, length};
 ghost use Rattle.ic_unsafe_ref.specs.declared.place.Place.{Place};
-ghost use Rattle.ic_link_ops.specs.LinkedList.{Shows, ShowsSome};
+ghost use Rattle.ic_link_ops.specs.LinkedList.{Represents, RepresentsSome};
 ghost use Rattle.ic_atomic.specs.Holders.{places_of, record_of, IsOf};
-ghost use Rattle.ic_link_ops.specs.DoublyEntries.{PlainShows, PlainShowsSome};
+ghost use Rattle.ic_link_ops.specs.DoublyEntries.{PlainRepresents, PlainRepresentsSome};
 ghost use Rattle.ic_workers.specs.Claimed.{IsRow};
 ghost use Rattle.ic_workers.specs.Parties.{IsReady, HasGathered};
 
@@ -68,7 +68,7 @@ impl<A: Allocator> Party<'_, A> {
     pub(crate) fn work<G: Gate>(self, number: usize, gate: &G) -> Gathered<A>
         requires { IsReady (claims_of self.links) self }
         ensures gathered { HasGathered (claims_of self.entry.links) result }
-        ensures told { G.Told gate.now number (places_of (claims_of self.entry.links)) }
+        ensures reported { G.Reported gate.now number (places_of (claims_of self.entry.links)) }
     {
         let Party {
             offered,
@@ -85,7 +85,7 @@ impl<A: Allocator> Party<'_, A> {
     }
 }
 
-// What a worker brings back: its holder, and its list with the table that shows it.
+// What a worker brings back: its holder, and its list with the table that represents it.
 #[derive(Drop)]
 pub(crate) struct Gathered<A: Allocator> {
     holder: Holder,
@@ -99,9 +99,9 @@ impl<A: Allocator> Gathered<A> {
         self,
         alloc: B,
     ) -> Result<(Holder, Vec<Place, B>), AllocError>
-        requires { PlainShowsSome self.table self.list }
+        requires { PlainRepresentsSome self.table self.list }
         ensures holder { IfOk result (λ taken. taken.0 ≡ self.holder) }
-        ensures places { (s : List Place) → PlainShows self.table self.list s → IfOk result (λ taken. taken.1.items ≡ s) }
+        ensures places { (s : List Place) → PlainRepresents self.table self.list s → IfOk result (λ taken. taken.1.items ≡ s) }
     {
         let Gathered {
             holder,
@@ -119,8 +119,8 @@ fn members<L: LinkedListOps, A: Allocator>(
     list: &LinkedList<()>,
     links: &L,
 ) -> Result<Vec<Place, A>, AllocError>
-    requires { ShowsSome L.neighbors (L.table links.now) list.now }
-    ensures { (s : List Place) → Shows L.neighbors (L.table links.now) list.now s → IfOk result (λ places. places.items ≡ s) }
+    requires { RepresentsSome L.neighbors (L.table links.now) list.now }
+    ensures { (s : List Place) → Represents L.neighbors (L.table links.now) list.now s → IfOk result (λ places. places.items ≡ s) }
 {
     let mut places = Vec::new(alloc);
     let mut cursor = list.front(links);
@@ -142,5 +142,5 @@ pub(crate) struct ClaimedAll<A: Allocator, G> {
 
 impl<A: Allocator, G: Gate> Promise<Gathered<A>> for ClaimedAll<A, G> {
     ghost kept_by = { λ promise gathered. HasGathered promise.claims.value gathered
-        × G.Told promise.gate.value promise.number (places_of promise.claims.value) };
+        × G.Reported promise.gate.value promise.number (places_of promise.claims.value) };
 }

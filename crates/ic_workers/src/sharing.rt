@@ -4,7 +4,7 @@ ghost use Rattle.std.specs.Prelude.{◌≡◌, ◌<◌, ◌≤◌, ◌↔◌, []
 ghost use Rattle.std.specs.List.{AllZip};
 ghost use Rattle.ic_atomic.specs.Holders.{places_of, holders_of, record_of, IsOf};
 ghost use Rattle.ic_atomic.specs.AtomicLinks.{claims_of};
-ghost use Rattle.ic_workers.specs.SharedOut.{SharedOut, IsToldOfEach, places_in};
+ghost use Rattle.ic_workers.specs.SharedOut.{SharedOut, IsReportedOfEach, places_in};
 ghost use Rattle.ic_workers.specs.Claimed.{IsRow, ClaimedAsOneList};
 ghost use Rattle.ic_workers.specs.Parties.{IsReady, HasGathered, HasTaken};
 
@@ -61,7 +61,7 @@ fn in_threads<R: Threads + Wait + Sync, A: Allocator + Copy + Send + Sync, G: Ga
 ) -> Result<Vec<Gathered<A>, A>, AllocError>
     requires { All (IsReady claims.now) parties.items }
     ensures gathered { IfOk result (λ done. All (HasGathered claims.now) done.items) }
-    ensures told { IfOk result (λ done. IsToldOfEach (G.Told gate.now) (vec_len done) (places_of claims.now)) }
+    ensures reported { IfOk result (λ done. IsReportedOfEach (G.Reported gate.now) (vec_len done) (places_of claims.now)) }
     ensures len { IfOk result (λ done. vec_len done ≡ vec_len parties.entry) }
 {
     thread::scope(
@@ -70,7 +70,7 @@ fn in_threads<R: Threads + Wait + Sync, A: Allocator + Copy + Send + Sync, G: Ga
         |scope| -> Result<Vec<Gathered<A>, A>, AllocError>
             requires { All (IsReady claims.now) parties.items }
             ensures { IfOk result (λ done. All (HasGathered claims.entry.now) done.items
-                × IsToldOfEach (G.Told gate.entry.now) (vec_len done) (places_of claims.entry.now)
+                × IsReportedOfEach (G.Reported gate.entry.now) (vec_len done) (places_of claims.entry.now)
                 × (vec_len done ≡ vec_len parties.entry)) }
         {
             let mut threads = Vec::new(alloc);
@@ -86,7 +86,7 @@ fn in_threads<R: Threads + Wait + Sync, A: Allocator + Copy + Send + Sync, G: Ga
                     move || -> Gathered<A>
                         requires { IsReady (claims_of party.links) party }
                         ensures { HasGathered (claims_of party.entry.links) result
-                            × G.Told gate.entry.now number (places_of (claims_of party.entry.links)) }
+                            × G.Reported gate.entry.now number (places_of (claims_of party.entry.links)) }
                     { party.work(number, gate) },
                 )?;
                 threads.push(thread)?;
@@ -130,7 +130,7 @@ fn fan_out_over<R: Threads + Wait + Sync, A: Allocator + Copy + Send + Sync, G: 
     requires small { places_of claims.now ≤ 4294967296 }
     ensures shared { IfOk result (λ lists. SharedOut (holders_of claims.now) (places_of claims.now) (places_in lists.items)) }
     ensures one_list { IfOk result (λ lists. ClaimedAsOneList (holders_of claims.now) (places_of claims.now) (places_in lists.items)) }
-    ensures told { IfOk result (λ lists. IsToldOfEach (G.Told gate.now) (holders_of claims.now) (places_of claims.now)) }
+    ensures reported { IfOk result (λ lists. IsReportedOfEach (G.Reported gate.now) (holders_of claims.now) (places_of claims.now)) }
 {
     let offered = first_places(alloc, claims.places())?;
     let offer = Offer {
@@ -148,8 +148,8 @@ fn fan_out_over<R: Threads + Wait + Sync, A: Allocator + Copy + Send + Sync, G: 
 ///
 /// Each worker has links and a list of its own. It claims each place, in rising order, and puts those that it gets at the back of its list.
 /// The workers are counted from 1; the gate is told by its number how far each is, as by [`gather`](ic_atomic::gather). Which worker gets
-/// which place is left open: each gets a rising list, and each place stands in just one of them. One sequence of steps has each worker's claims in the order in which
-/// that worker made them, and explains every answer that the workers got.
+/// which place is left open: each gets a rising list, and each place stands in just one of them. One sequence of steps has each worker's claims in
+/// the order in which that worker made them, and explains every answer that the workers got.
 ///
 /// It is refused above 4,294,967,296 places, and where no memory is found or a thread cannot be started, which is
 /// `OutOfMemory` too; workers that have begun then come to their end first. It waits for all its threads. All memory is
@@ -164,7 +164,7 @@ pub fn fan_out<R: Threads + Wait + Sync, A: Allocator + Copy + Send + Sync, G: G
     ensures too_many { (result ≡ Err ClaimsError.TooManyPlaces) ↔ (4294967296 < places) }
     ensures shared { IfOk result (λ lists. SharedOut workers places (places_in lists.items)) }
     ensures one_list { IfOk result (λ lists. ClaimedAsOneList workers places (places_in lists.items)) }
-    ensures told { IfOk result (λ lists. IsToldOfEach (G.Told gate.now) workers places) }
+    ensures reported { IfOk result (λ lists. IsReportedOfEach (G.Reported gate.now) workers places) }
 {
     let (claims, holders) = Claims::new(alloc, places, workers)?;
     match fan_out_over(rt, alloc, &claims, holders, gate) {

@@ -1,15 +1,11 @@
 -- That a world's collections share no member, and that each is placed, from what it keeps.
 use Rattle.std.proofs.Common.{◌≡◌, ℕ, List, Option, Some, None, [], ◌∷◌, refl, sym, ap, ◌∙◌, subst}
-use Rattle.ic_unsafe_ref.specs.Objects.{Objects}
-use Rattle.ic_unsafe_ref.specs.declared.place.Place.{Place}
-use Rattle.ic_link_ops.specs.Sequences.{IsDistinct, IsDisjoint}
-use Rattle.ic_link_ops.specs.PlacedObjects.{ArePlaced}
-use Rattle.ic_link_ops.specs.Tables.{Table}
+use Rattle.ic_link_ops.specs.Prelude.{Place, Objects, IsDistinct, IsDisjoint, Table, ArePlaced}
 use Rattle.ic_link_ops.proofs.SequenceLemmas.{some_same}
 use Rattle.ic_any_collection.specs.declared.entry.Entry.{Entry}
 use Rattle.ic_any_collection.proofs.AllKinds.{distinct}
 use Rattle.ic_world.specs.declared.collection.Collection.{Collection}
-use Rattle.ic_world.specs.Tables.{table, sequence, seen_as, shown_as, at, family_of, IsWhole}
+use Rattle.ic_world.specs.Tables.{table, sequence, seen_as, represented_as, at, family_of, IsWhole}
 use Rattle.ic_world.specs.Family.{Sequence, collection}
 use Rattle.ic_world.specs.Apart.{AreApart, AreAllPlaced}
 use Rattle.ic_world.proofs.OneCall.{all_placed}
@@ -18,7 +14,7 @@ use Rattle.ic_world.proofs.Readings.{collection_at}
 -- NO MEMBER IS SHARED, as a world keeps it
 module _ {A V : Type 0} (adapter : A) {objects : Objects V} {room : ℕ} {ts : List (Table Entry)} {cs : List (Option (Collection V))} (whole : IsWhole objects room ts cs) where
   -- what a collection of the family is
-  seen : (o : Option (Collection V)) (s : Sequence) → shown_as ts o ≡ Some s → (k : Collection V) × (o ≡ Some k) × (seen_as k (sequence ts k) ≡ s)
+  seen : (o : Option (Collection V)) (s : Sequence) → represented_as ts o ≡ Some s → (k : Collection V) × (o ≡ Some k) × (seen_as k (sequence ts k) ≡ s)
   seen None s e = absurd cc
   seen (Some k) s e = (k, refl, some_same e)
 

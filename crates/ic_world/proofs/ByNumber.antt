@@ -61,7 +61,7 @@ module _ {V : Type 0} where
   at_number ls (s ∷ ns) zero = refl
   at_number ls (s ∷ ns) (suc c) = at_number ls ns c
 
-  -- what a call shows, if it shows the same under all numbers but one
+  -- what a call represents, if it represents the same under all numbers but one
   pub shows : (ls new : Lists V) (ns after : List Slot) (c : ℕ) (x : Option (Collection V)) → length after ≡ length ns
       → ((d : ℕ) → d ≢ c → shown new (slice_get after d) ≡ shown ls (slice_get ns d)) → shown new (slice_get after c) ≡ x → by_number new after ≡ set (by_number ls ns) c x
   shows ls new ns after c x count others here =
@@ -159,8 +159,8 @@ module _ {V : Type 0} where
       ];
     }
 
-    pub shown_with : {cs : List (Option (Collection V))} → by_number ls ns ≡ cs → by_number new ns ≡ with_members cs c m
-    shown_with {cs} view = subst (λ x. by_number new ns ≡ with_members x c m) view
+    pub represented_with : {cs : List (Option (Collection V))} → by_number ls ns ≡ cs → by_number new ns ≡ with_members cs c m
+    represented_with {cs} view = subst (λ x. by_number new ns ≡ with_members x c m) view
         (shows ls new ns ns c _ refl others (ap (shown new) is ∙ ap (in_field f) here ∙ sym (ap (having m) (at_number ls ns c ∙ ap (shown ls) is ∙ ap (in_field f) lies))))
       where
         others : (d : ℕ) → d ≢ c → shown new (slice_get ns d) ≡ shown ls (slice_get ns d)
@@ -177,22 +177,22 @@ pub record Reads {V : Type 0} (ls : Lists V) (ns : List Slot) (c : ℕ) (s : Slo
   pub lies : lying ls s.field s.index ≡ Some one
 
 module _ {V : Type 0} {cs : List (Option (Collection V))} (ls : Lists V) (ns : List Slot) (c : ℕ) (s : Slot) (view : by_number ls ns ≡ cs) where
-  pub shown_is : at cs c ≡ shown ls (slice_get ns c)
-  shown_is = ap (λ x. at x c) (sym view) ∙ at_number ls ns c
+  pub represented_is : at cs c ≡ shown ls (slice_get ns c)
+  represented_is = ap (λ x. at x c) (sym view) ∙ at_number ls ns c
 
   pub reads : IsSome (at cs c) → s ≡ get_or ns c s → Reads ls ns c s
   reads there read = by (slice_get ns c) refl
     where
       lies_there : (t : Slot) → slice_get ns c ≡ Some t → (o : Option (Numbered V)) → lying ls t.field t.index ≡ o → Reads ls ns c t
       lies_there t e (Some n) lies = record { slot = e; one = n; lies = lies }
-      lies_there t e None lies = absurd (none_is_some (shown_is ∙ ap (shown ls) e ∙ ap (in_field t.field) lies) there)
+      lies_there t e None lies = absurd (none_is_some (represented_is ∙ ap (shown ls) e ∙ ap (in_field t.field) lies) there)
 
       by : (o : Option Slot) → slice_get ns c ≡ o → Reads ls ns c s
-      by None e = absurd (none_is_some (shown_is ∙ ap (shown ls) e) there)
+      by None e = absurd (none_is_some (represented_is ∙ ap (shown ls) e) there)
       by (Some t) e = subst (Reads ls ns c) (sym (read ∙ get_or_from_slice_get ns c t s e)) (lies_there t e (lying ls t.field t.index) refl)
 
-  pub one_shown : (r : Reads ls ns c s) → at cs c ≡ Some (record { field = s.field; members = r.one.members })
-  one_shown r = shown_is ∙ ap (shown ls) r.slot ∙ ap (in_field s.field) r.lies
+  pub one_represented : (r : Reads ls ns c s) → at cs c ≡ Some (record { field = s.field; members = r.one.members })
+  one_represented r = represented_is ∙ ap (shown ls) r.slot ∙ ap (in_field s.field) r.lies
 
 pub reads_live : {V : Type 0} {ls : Lists V} {ns : List Slot} → AreNumbered ls ns → (c : ℕ) (s : Slot) → slice_get ns c ≡ Some s → s.index ≢ disposed → Reads ls ns c s
 reads_live are c s is live = let y = are.kept c s is live in record { slot = is; one = record { number = c; members = y.0 }; lies = y.1 }
@@ -225,5 +225,5 @@ module _ {V M : Type 0} (lists : List (Vec (Numbered V) M)) (ns : List Slot) (c 
       pub lent_numbered : AreNumbered (map items_of lists) ns → AreNumbered (map items_of (set lists s.field v)) ns
       lent_numbered are = subst (λ ls. AreNumbered ls ns) (sym stored) (numbered_with are c s r.slot r.one r.lies m)
 
-      pub lent_shown : AreNumbered (map items_of lists) ns → {cs : List (Option (Collection V))} → by_number (map items_of lists) ns ≡ cs → by_number (map items_of (set lists s.field v)) ns ≡ with_members cs c m
-      lent_shown are {cs} view = ap (λ ls. by_number ls ns) stored ∙ shown_with are c s r.slot r.one r.lies m view
+      pub lent_represented : AreNumbered (map items_of lists) ns → {cs : List (Option (Collection V))} → by_number (map items_of lists) ns ≡ cs → by_number (map items_of (set lists s.field v)) ns ≡ with_members cs c m
+      lent_represented are {cs} view = ap (λ ls. by_number ls ns) stored ∙ represented_with are c s r.slot r.one r.lies m view

@@ -3,8 +3,7 @@ use Rattle.std.proofs.Common.{◌≡◌, ℕ, inl, inr, Bool, List, length, set,
 use Rattle.std.proofs.lemmas.Bool.{cases_eq}
 use Rattle.std.proofs.lemmas.List.{get_or-set_same, get_or-set_other, get_or_past, length-set, map-set, set-set}
 use Rattle.std.specs.declared.cmp.Ordering.{Ordering}
-use Rattle.ic_unsafe_ref.specs.Objects.{Objects}
-use Rattle.ic_link_ops.specs.Tables.{Table}
+use Rattle.ic_link_ops.specs.Prelude.{Objects, Table}
 use Rattle.ic_any_collection.specs.declared.entry.Entry.{Entry}
 use Rattle.ic_world.specs.declared.collection.Collection.{Collection}
 use Rattle.ic_world.specs.declared.call.Refusal.{Refusal}
@@ -14,7 +13,7 @@ use Rattle.ic_world.specs.declared.calls.whole.Whole.TheVariants.{Clear}
 use Rattle.ic_world.specs.Family.{Family, Sequence, collection, linked_of, with_collection, with_linked}
 use Rattle.ic_world.specs.Calls.{State, Reply, done, refused, cleared, unlinked}
 use Rattle.ic_world.specs.LeftLinked.{NoneLeftLinked}
-use Rattle.ic_world.specs.Tables.{shown_as, at, family_of, IsWhole}
+use Rattle.ic_world.specs.Tables.{represented_as, at, family_of, IsWhole}
 use Rattle.ic_world.specs.Step.{Step, StepOn, AcceptsOn, refusal_on}
 use Rattle.ic_world.specs.Several.{StepBy, asks_collection, state_in, with_state, sequence_of}
 use Rattle.ic_world.proofs.Linked.{side}
@@ -46,7 +45,7 @@ module _ {V : Type 0} where
   pub dropped_family : {A : Type 0} (adapter : A) (objects : Objects V) (ts : List (Table Entry)) (cs : List (Option (Collection V))) (c : ℕ)
       → family_of adapter objects ts (set cs c None) ≡ with_collection (family_of adapter objects ts cs) c None
   dropped_family adapter objects ts cs c =
-      let collections = map-set (shown_as ts) cs c None in
+      let collections = map-set (represented_as ts) cs c None in
       λ i. record (family_of adapter objects ts cs) { collections = collections i }
 
 -- what is accepted by a step that no test refuses

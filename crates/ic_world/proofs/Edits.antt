@@ -2,11 +2,7 @@
 use Rattle.std.proofs.Common.{◌≡◌, ◌≢◌, ℕ, zero, suc, ◌<◌, ◌⊎◌, inl, inr, true, false, List, [], ◌∷◌, length, map, get_or, set, Option, Some, None, refl, sym, ap, ◌∙◌, subst, arith}
 use Rattle.std.proofs.lemmas.Bool.{cases_eq}
 use Rattle.std.proofs.lemmas.List.{get_or-set_same, get_or-set_other, get_or_past, length-set, map-set, get_or-map, set-get_or}
-use Rattle.ic_unsafe_ref.specs.declared.place.Place.{Place}
-use Rattle.ic_unsafe_ref.specs.Places.{index_of}
-use Rattle.ic_unsafe_ref.specs.Objects.{Objects}
-use Rattle.ic_link_ops.specs.Sequences.{IsAbsent, IsDisjoint}
-use Rattle.ic_link_ops.specs.Tables.{Table, KeepsBeside}
+use Rattle.ic_link_ops.specs.Prelude.{Place, index_of, Objects, IsAbsent, IsDisjoint, Table, ChangesOnlyIn}
 use Rattle.ic_link_ops.proofs.SequenceLemmas.{absent_swap, disjoint_sym}
 use Rattle.ic_any_collection.specs.declared.entry.Entry.{Entry}
 use Rattle.ic_any_collection.specs.Entries.{is_linked, kind_of}
@@ -17,7 +13,7 @@ use Rattle.ic_any_collection.specs.AnyCollection.{Keeps, Alike, members_in}
 use Rattle.ic_world.specs.Family.{Sequence, LinkField, with_linked, with_collection, field_of}
 use Rattle.ic_any_collection.proofs.AllKinds.{IsLawful}
 use Rattle.ic_world.specs.LinkedSets.{linked_in}
-use Rattle.ic_world.specs.Tables.{table, no_table, field_in, sequence, seen_as, shown_as, at, family_of, IsWhole, HasObject}
+use Rattle.ic_world.specs.Tables.{table, no_table, field_in, sequence, seen_as, represented_as, at, family_of, IsWhole, HasObject}
 use Rattle.ic_any_collection.proofs.AllKinds.{one_sequence, keeps_frame}
 use Rattle.ic_world.proofs.Linked.{side}
 
@@ -57,7 +53,7 @@ module _ {V : Type 0} where
     pub was : at cs c ≡ Some k
     pub kept : Keeps t m members
     pub alike : Alike k.members m
-    pub frame : KeepsBeside (table ts k.field) t touched
+    pub frame : ChangesOnlyIn (table ts k.field) t touched
     pub placed : (q : Place) → is_linked (t.entry q) ≡ true → HasObject objects (index_of q)
     pub within : (q : Place) → IsAbsent q touched → IsAbsent q members
     pub beside : (d : ℕ) (l : Collection V) → d ≢ c → at cs d ≡ Some l → l.field ≡ k.field → IsDisjoint (sequence ts l) touched
@@ -108,21 +104,21 @@ module _ {V : Type 0} where
     pub same_sequence : (d : ℕ) (l : Collection V) → d ≢ c → at cs d ≡ Some l → sequence (set ts k.field t) l ≡ sequence ts l
     same_sequence d l n is = one_sequence (table (set ts k.field t) l.field) (lawful_after l.field) l.members (sequence ts l) (kept_beside d l n is).shown
 
-    -- the edited one shows its new members
+    -- the edited one represents its new members
     pub new_sequence : sequence (set ts k.field t) (after k m) ≡ members
     new_sequence = ap (λ u. members_in u m) here ∙ one_sequence t edited_lawful m members e.kept.shown
 
     within_cs : c < length cs
     within_cs = let is = e.was in grind (arith, get_or_past)
 
-    alike : (i : ℕ) → i ≢ c → (o : Option (Collection V)) → at cs i ≡ o → shown_as (set ts k.field t) o ≡ shown_as ts o
+    alike : (i : ℕ) → i ≢ c → (o : Option (Collection V)) → at cs i ≡ o → represented_as (set ts k.field t) o ≡ represented_as ts o
     alike i n None is = refl
     alike i n (Some l) is = ap (λ (s : List Place). let r : Option Sequence = Some (seen_as l s) in r) (same_sequence i l n is)
 
-    collections_after : map (shown_as (set ts k.field t)) (set cs c (Some (after k m))) ≡ set (map (shown_as ts) cs) c (Some (seen_as (after k m) members))
+    collections_after : map (represented_as (set ts k.field t)) (set cs c (Some (after k m))) ≡ set (map (represented_as ts) cs) c (Some (seen_as (after k m) members))
     collections_after =
-        let old_seen = shown_as ts in
-        let new_seen = shown_as (set ts k.field t) in
+        let old_seen = represented_as ts in
+        let new_seen = represented_as (set ts k.field t) in
         let new_one : Option Sequence = Some (seen_as (after k m) members) in
         let others = set_map_same old_seen new_seen cs c new_one None (λ i n h. alike i n (at cs i) refl) in
         let this : new_seen (Some (after k m)) ≡ new_one = ap (λ (s : List Place). let r : Option Sequence = Some (seen_as (after k m) s) in r) new_sequence in

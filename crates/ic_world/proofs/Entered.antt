@@ -11,7 +11,7 @@ use Rattle.ic_world.specs.declared.collections_by_number.Numbered.{Numbered}
 use Rattle.ic_world.specs.ByNumber.{items_of, live_in, disposed, lying, in_field, in_slot, by_number, AreNumbered, HaveLists, IsEntered}
 use Rattle.ic_world.proofs.ByNumber.{Lists, get_front, get_last, some_not_none}
 
--- a list more, which is empty, shows what was there
+-- a list more, which is empty, represents what was there
 empty_more : {V : Type 0} (ls : Lists V) (l : List (Numbered V)) → l ≡ [] → HaveLists ls (ls ++ l ∷ [])
 empty_more [] l e zero = e
 empty_more [] l e (suc g) = refl
@@ -19,7 +19,7 @@ empty_more (x ∷ ls) l e zero = refl
 empty_more (x ∷ ls) l e (suc g) = empty_more ls l e g
 
 module _ {V : Type 0} where
-  -- THE SAME LISTS show the same
+  -- THE SAME LISTS represent the same
   module _ (ls new : Lists V) (same : HaveLists ls new) where
     lying_same : (g j : ℕ) → lying new g j ≡ lying ls g j
     lying_same g j = ap (λ xs. slice_get xs j) (same g)
@@ -31,9 +31,9 @@ module _ {V : Type 0} where
       kept = λ c s e live. let y = are.kept c s e live in (y.0, lying_same s.field s.index ∙ y.1);
     }
 
-    pub shown_same : (ns : List Slot) → by_number new ns ≡ by_number ls ns
-    shown_same [] = refl
-    shown_same (s ∷ ns) = λ i. in_field s.field (lying_same s.field s.index i) ∷ shown_same ns i
+    pub represented_same : (ns : List Slot) → by_number new ns ≡ by_number ls ns
+    represented_same [] = refl
+    represented_same (s ∷ ns) = λ i. in_field s.field (lying_same s.field s.index i) ∷ represented_same ns i
 
   -- ONE MORE in a field, under the next number
   module _ {ls new : Lists V} {ns : List Slot} (are : AreNumbered ls ns) (f : ℕ) (n : Numbered V) (s : Slot) (entered : IsEntered ls f n s new) (next : n.number ≡ length ns) where
@@ -96,8 +96,8 @@ module _ {V : Type 0} where
               let y = are.kept c t is live in (y.0, before_last t.field t.index (free c t is) ∙ y.1)
         ]
 
-    pub shown_more : by_number new (ns ++ s ∷ []) ≡ by_number ls ns ++ Some (record { field = f; members = n.members }) ∷ []
-    shown_more =
+    pub represented_more : by_number new (ns ++ s ∷ []) ≡ by_number ls ns ++ Some (record { field = f; members = n.members }) ∷ []
+    represented_more =
         map-append (in_slot new) ns (s ∷ []) ∙ (λ i. same ns (λ c t e. (c, e)) i ++ in_field (entered.field i) ((ap (λ h. lying new h s.index) entered.field ∙ last) i) ∷ [])
       where
         same : (part : List Slot) → ((c : ℕ) (t : Slot) → slice_get part c ≡ Some t → (d : ℕ) × (slice_get ns d ≡ Some t)) → by_number new part ≡ by_number ls part

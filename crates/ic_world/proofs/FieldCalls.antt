@@ -7,15 +7,10 @@ use Rattle.std.proofs.lemmas.List.Folds.{list_any_at, list_any_none}
 use Rattle.std.proofs.Math.ListN.{get_or-map as map_at}
 use Rattle.std.specs.declared.cmp.Ordering.{Ordering}
 use Rattle.std.specs.FinSet as set
-use Rattle.ic_unsafe_ref.specs.declared.place.Place.{Place}
-use Rattle.ic_unsafe_ref.specs.Places.{index_of}
-use Rattle.ic_unsafe_ref.specs.Objects.{Objects}
-use Rattle.ic_unsafe_ref.specs.Objects.{is_placed as place_is_placed}
+use Rattle.ic_link_ops.specs.Prelude.{Place, index_of, Objects, is_placed as place_is_placed, IsAbsent, IsMember, IsCovered, IsUnlinked, ChangesOnly}
 use Rattle.ic_unsafe_ref.proofs.PlaceLemmas.{same_index}
-use Rattle.ic_link_ops.specs.Sequences.{IsAbsent, IsMember}
-use Rattle.ic_link_ops.specs.Tables.{IsCovered, IsUnlinked, ChangesOnly}
 use Rattle.ic_any_collection.specs.declared.any_table.AnyTable.{AnyTable}
-use Rattle.ic_any_collection.specs.AnyTables.{look}
+use Rattle.ic_any_collection.specs.AnyTables.{table_in}
 use Rattle.ic_world.specs.declared.field.WorldField.{WorldField}
 use Rattle.ic_any_collection.specs.Entries.{is_linked}
 use Rattle.ic_any_collection.specs.AnyCollection.{Held, members_in}
@@ -29,7 +24,7 @@ use Rattle.ic_world.specs.Collections.{HasMember}
 use Rattle.ic_world.specs.LeftLinked.{IsKept}
 use Rattle.ic_world.specs.LinkedSets.{linked_in}
 use Rattle.ic_world.specs.Calls.{linked, done}
-use Rattle.ic_world.specs.Tables.{table, table_of, left_in, sequence, seen_as, shown_as, at, family_of, IsWhole}
+use Rattle.ic_world.specs.Tables.{table, table_of, left_in, sequence, seen_as, represented_as, at, family_of, IsWhole}
 use Rattle.ic_world.specs.Step.{Step}
 use Rattle.ic_world.proofs.Linked.{in_linked, absent_or}
 use Rattle.ic_world.proofs.Readings.{table_read, set_back, left_back, some_within, collection_is, linked_at}
@@ -111,26 +106,26 @@ module _ {A V M : Type 0} {adapter : A} {objects : Objects V} {room : ℕ} (tabl
       let within : f < length tables = let a = whole.in_field c k is in omega (arith, a, same, length-map tables table_of) in
       subst (λ u. Held u k.members) (ap (table (map table_of tables)) same ∙ table_read tables f t within read) (whole.held c k is)
 
-  has_at : (c : ℕ) → has_member_in f p (get_or (map (shown_as (map table_of tables)) cs) c None) ≡ has_member_in f p (shown_as (map table_of tables) (at cs c))
-  has_at c = ap (has_member_in f p) (map_at (shown_as (map table_of tables)) cs c None)
+  has_at : (c : ℕ) → has_member_in f p (get_or (map (represented_as (map table_of tables)) cs) c None) ≡ has_member_in f p (represented_as (map table_of tables) (at cs c))
+  has_at c = ap (has_member_in f p) (map_at (represented_as (map table_of tables)) cs c None)
 
   -- it has the place as a member, as its table tells
   here_is : (c : ℕ) (k : Collection V) (t : WorldField M) → at cs c ≡ Some k → k.field ≡ f → t ≡ get_or tables f t → (b : Bool) → (IsTrue b ↔ IsMember p (members_in (table_of t) k.members))
-      → has_member_in f p (get_or (map (shown_as (map table_of tables)) cs) c None) ≡ b
+      → has_member_in f p (get_or (map (represented_as (map table_of tables)) cs) c None) ≡ b
   here_is c k t is same read b tells =
       let within : f < length tables = let a = whole.in_field c k is in omega (arith, a, same, length-map tables table_of) in
       let seen : members_in (table_of t) k.members ≡ sequence (map table_of tables) k = ap (λ u. members_in u k.members) (sym (ap (table (map table_of tables)) same ∙ table_read tables f t within read)) in
-      has_at c ∙ ap (λ o. has_member_in f p (shown_as (map table_of tables) o)) is
+      has_at c ∙ ap (λ o. has_member_in f p (represented_as (map table_of tables) o)) is
       ∙ ap (λ x. x && is_among p (sequence (map table_of tables) k)) (eq-eqb k.field f same)
       ∙ ap (is_among p) (sym seen) ∙ among_is p (members_in (table_of t) k.members) b tells
 
   -- one of another field has not, nor has none
-  other_is : (c : ℕ) (k : Collection V) → at cs c ≡ Some k → k.field ≢ f → has_member_in f p (get_or (map (shown_as (map table_of tables)) cs) c None) ≡ false
+  other_is : (c : ℕ) (k : Collection V) → at cs c ≡ Some k → k.field ≢ f → has_member_in f p (get_or (map (represented_as (map table_of tables)) cs) c None) ≡ false
   other_is c k is other =
-      has_at c ∙ ap (λ o. has_member_in f p (shown_as (map table_of tables) o)) is ∙ ap (λ x. x && is_among p (sequence (map table_of tables) k)) (ne_eqb k.field f other)
+      has_at c ∙ ap (λ o. has_member_in f p (represented_as (map table_of tables) o)) is ∙ ap (λ x. x && is_among p (sequence (map table_of tables) k)) (ne_eqb k.field f other)
 
-  none_is : (c : ℕ) → at cs c ≡ None → has_member_in f p (get_or (map (shown_as (map table_of tables)) cs) c None) ≡ false
-  none_is c is = has_at c ∙ ap (λ o. has_member_in f p (shown_as (map table_of tables) o)) is
+  none_is : (c : ℕ) → at cs c ≡ None → has_member_in f p (get_or (map (represented_as (map table_of tables)) cs) c None) ≡ false
+  none_is c is = has_at c ∙ ap (λ o. has_member_in f p (represented_as (map table_of tables) o)) is
 
   -- it is a member of none, if no collection of the field has it
   none_has : (t : WorldField M) → t ≡ get_or tables f t → ((c : ℕ) (k : Collection V) → at cs c ≡ Some k → k.field ≡ f → IsMember p (members_in (table_of t) k.members) → ⊥)
@@ -139,7 +134,7 @@ module _ {A V M : Type 0} {adapter : A} {objects : Objects V} {room : ℕ} (tabl
       list_any_none (has_member_in f p) xs (λ c d low. ap (has_member_in f p) (get_or_default xs c d None low) ∙ by c (at cs c) refl)
     where
       xs : List (Option Sequence)
-      xs = map (shown_as (map table_of tables)) cs
+      xs = map (represented_as (map table_of tables)) cs
 
       by : (c : ℕ) (o : Option (Collection V)) → at cs c ≡ o → has_member_in f p (get_or xs c None) ≡ false
       by c None is = none_is c is
@@ -158,7 +153,7 @@ module _ {A V M : Type 0} {adapter : A} {objects : Objects V} {room : ℕ} (tabl
   asked t read true tells =
       let h = tells.0 refl in
       let here = here_is h.number h.one t h.is h.field read true ((λ _. h.member), (λ _. refl)) in
-      sym (list_any_at (has_member_in f p) (map (shown_as (map table_of tables)) cs) h.number None (rw length-map (some_within cs h.number h.is)) here)
+      sym (list_any_at (has_member_in f p) (map (represented_as (map table_of tables)) cs) h.number None (rw length-map (some_within cs h.number h.is)) here)
   asked t read false tells =
       sym (none_has t read (λ c k is same there. let no = tells.1 (record { number = c; one = k; is = is; field = same; member = there }) in cc))
 
@@ -178,13 +173,13 @@ module _ {A V M : Type 0} {adapter : A} {objects : Objects V} {room : ℕ} (tabl
       by false e = absurd (kept.1.none f p kept_in (linked_read tables kept f t p within read ∙ held, absent_in w f p e))
 
   -- AN OBJECT UNLINKED BY FORCE, where it is a member of none
-  module _ (within : f < length tables) (t : WorldField M) (read : t ≡ get_or tables f t) (links : AnyTable M) (free : IsUnlinked is_linked (look links) p) (frame : ChangesOnly (table_of t) (look links) p)
+  module _ (within : f < length tables) (t : WorldField M) (read : t ≡ get_or tables f t) (links : AnyTable M) (free : IsUnlinked is_linked (table_in links) p) (frame : ChangesOnly (table_of t) (table_in links) p)
       {old : Family A V} (view : family_of adapter objects (map table_of tables) cs ≡ old) (none : is_member_in old f p ≡ false) where
     in_map : f < length (map table_of tables)
     in_map = rw length-map within
 
-    changes : ChangesOnly (table (map table_of tables) f) (look links) p
-    changes = subst (λ u. ChangesOnly u (look links) p) (sym (table_read tables f t within read)) frame
+    changes : ChangesOnly (table (map table_of tables) f) (table_in links) p
+    changes = subst (λ u. ChangesOnly u (table_in links) p) (sym (table_read tables f t within read)) frame
 
     absent : (c : ℕ) (k : Collection V) → at cs c ≡ Some k → k.field ≡ f → IsAbsent p (sequence (map table_of tables) k)
     absent c k is same =
@@ -195,10 +190,10 @@ module _ {A V M : Type 0} {adapter : A} {objects : Objects V} {room : ℕ} (tabl
     unlinked_step cmp key_of has =
         let w = family_of adapter objects (map table_of tables) cs in
         rw map-set (step_accepted cmp key_of w (ForceUnlink f p) done _ (field_there w f _ (rw length-map in_map) ∙ passes (is_placed w p) NoSuchObject _ has ∙ passes _ IsMemberRefusal None (ap not (rw (← view) at none)))
-        (refl, freed_family whole f in_map (look links) p free changes absent))
+        (refl, freed_family whole f in_map (table_in links) p free changes absent))
 
     pub unlinked_by : {K : Type 0} (cmp : K → K → Ordering) (key_of : A → V → K) → place_is_placed objects p ≡ true
         → IsKept adapter objects room (set_at tables f (record t { links = links })) cs × Step cmp key_of old (ForceUnlink f p) done (family_of adapter objects (map table_of (set_at tables f (record t { links = links }))) cs)
     unlinked_by cmp key_of has =
         let step = unlinked_step cmp key_of has in
-        ((rw map-set (freed_whole whole f in_map (look links) p free changes absent), rw (left_back tables f t links (set_back tables f t read)) (none_freed kept.1 cmp key_of f p done step)), rw (← view) step)
+        ((rw map-set (freed_whole whole f in_map (table_in links) p free changes absent), rw (left_back tables f t links (set_back tables f t read)) (none_freed kept.1 cmp key_of f p done step)), rw (← view) step)

@@ -5,28 +5,24 @@ use Rattle.std.proofs.lemmas.List.{get_or_past, map-append, map-set, length-map,
 use Rattle.std.proofs.Math.ListN.{get_or-map as map_at}
 use Rattle.std.specs.FinSet as set_of
 use Rattle.std.specs.declared.cmp.Ordering.{Ordering}
-use Rattle.ic_unsafe_ref.specs.declared.place.Place.{Place}
-use Rattle.ic_unsafe_ref.specs.Places.{index_of}
-use Rattle.ic_unsafe_ref.specs.Objects.{Objects}
+use Rattle.ic_link_ops.specs.Prelude.{Place, index_of, Objects, IsAbsent, Table, Extent, IsCovered, IsUnlinked, ChangesOnly, ChangesOnlyIn}
 use Rattle.ic_unsafe_ref.proofs.PlaceLemmas.{same_index}
-use Rattle.ic_link_ops.specs.Sequences.{IsAbsent}
-use Rattle.ic_link_ops.specs.Tables.{Table, Extent, IsCovered, IsUnlinked, ChangesOnly, KeepsBeside}
 use Rattle.ic_link_ops.proofs.SequenceLemmas.{disjoint_cons}
 use Rattle.ic_any_collection.specs.declared.entry.Entry.{Entry}
 use Rattle.ic_any_collection.specs.declared.any_table.AnyTable.{AnyTable}
 use Rattle.ic_any_collection.specs.declared.kind.Kind.{Kind}
-use Rattle.ic_any_collection.specs.AnyTables.{look}
+use Rattle.ic_any_collection.specs.AnyTables.{table_in}
 use Rattle.ic_any_collection.specs.Kinds.{kind_with}
 use Rattle.ic_any_collection.specs.Entries.{is_linked, kind_of}
 use Rattle.ic_any_collection.specs.AnyCollection.{Keeps}
 use Rattle.ic_any_collection.proofs.AllKinds.{lawful as lawful_field}
-use Rattle.ic_any_collection.proofs.AllKinds.{IsLawful, one_sequence, shown_frame, keeps_frame}
+use Rattle.ic_any_collection.proofs.AllKinds.{IsLawful, one_sequence, represented_frame, keeps_frame}
 use Rattle.ic_world.specs.declared.collection.Collection.{Collection}
 use Rattle.ic_world.specs.declared.field.WorldField.{WorldField}
 use Rattle.ic_world.specs.Family.{Family, Sequence, LinkField, with_linked, linked_of, field_of}
 use Rattle.ic_world.specs.LeftLinked.{IsKept}
 use Rattle.ic_world.specs.LinkedSets.{linked_in}
-use Rattle.ic_world.specs.Tables.{table, table_of, no_table, field_in, sequence, seen_as, shown_as, at, family_of, IsWhole, HasObject}
+use Rattle.ic_world.specs.Tables.{table, table_of, no_table, field_in, sequence, seen_as, represented_as, at, family_of, IsWhole, HasObject}
 use Rattle.ic_world.specs.declared.call.Refusal.{Refusal}
 use Rattle.ic_world.specs.declared.call.Command.TheVariants.{AddField}
 use Rattle.ic_world.specs.Replies.{reply_of}
@@ -81,7 +77,7 @@ Covering count r said old new is_enough = record {
 
 -- it is table f, which was read
 module _ {M A E : Type 0} {said is_enough : Type 0} (ts : List (Table Entry)) (tables : List (WorldField M)) (f count : ℕ) (within : f < length tables) (x : WorldField M) (links : AnyTable M) (r : Result A E)
-    (e : Covering count r said (table_of (get_or tables f x)) (look links) is_enough) where
+    (e : Covering count r said (table_of (get_or tables f x)) (table_in links) is_enough) where
   abbrev u : WorldField M
   u = record (get_or tables f x) { links = links }
 
@@ -121,14 +117,14 @@ module _ {V : Type 0} {objects : Objects V} {room : ℕ} {ts : List (Table Entry
   kept_sequence : (c : ℕ) (k : Collection V) → at cs c ≡ Some k → sequence us k ≡ sequence ts k
   kept_sequence c k is = one_sequence (table us k.field) (law k.field) k.members (sequence ts k) (kept c k is).shown
 
-  alike : (c : ℕ) (o : Option (Collection V)) → at cs c ≡ o → shown_as us o ≡ shown_as ts o
+  alike : (c : ℕ) (o : Option (Collection V)) → at cs c ≡ o → represented_as us o ≡ represented_as ts o
   alike c None is = refl
   alike c (Some k) is = ap (λ (s : List Place). let r : Option Sequence = Some (seen_as k s) in r) (kept_sequence c k is)
 
-  pub kept_collections : map (shown_as us) cs ≡ map (shown_as ts) cs
+  pub kept_collections : map (represented_as us) cs ≡ map (represented_as ts) cs
   kept_collections =
-      ext_get_or None (map (shown_as us) cs) (map (shown_as ts) cs) (length-map cs (shown_as us) ∙ sym (length-map cs (shown_as ts))) (λ c h.
-      map_at (shown_as us) cs c None ∙ alike c (at cs c) refl ∙ sym (map_at (shown_as ts) cs c None))
+      ext_get_or None (map (represented_as us) cs) (map (represented_as ts) cs) (length-map cs (represented_as us) ∙ sym (length-map cs (represented_as ts))) (λ c h.
+      map_at (represented_as us) cs c None ∙ alike c (at cs c) refl ∙ sym (map_at (represented_as ts) cs c None))
 
   pub kept_whole : (more : ℕ) → room ≤ more → length ts ≤ length us → ((f : ℕ) → f < length us → more ≤ (table us f).extent.places)
       → ((f : ℕ) (q : Place) → is_linked ((table us f).entry q) ≡ true → HasObject objects (index_of q)) → IsWhole objects more us cs
@@ -149,7 +145,7 @@ module _ {A V : Type 0} (adapter : A) (objects : Objects V) (ts us : List (Table
   grown_kept c k is =
       let old = whole.held c k is in record {
         carried = rw (grown.each k.field).identity old.carried;
-        shown = shown_frame (table ts k.field) (table us k.field) k.members (sequence ts k) [] old.shown (disjoint_none (sequence ts k)) (λ q out. (grown.each k.field).entries q);
+        shown = represented_frame (table ts k.field) (table us k.field) k.members (sequence ts k) [] old.shown (disjoint_none (sequence ts k)) (λ q out. (grown.each k.field).entries q);
         stands = old.stands;
       }
 
@@ -174,11 +170,11 @@ module _ {A V : Type 0} (adapter : A) (objects : Objects V) (ts us : List (Table
       kept_whole whole us grown_lawful grown_kept more reach (let n = grown.count in omega (arith, n)) covered (λ f q h. whole.placed f q (rw ((grown.each f).entries q) at h))
 
 -- in a table that covered no place when it was made nothing is linked, and growing keeps it so
-pub nothing_linked : {M : Type 0} (links : AnyTable M) (t : Table Entry) → (look links).extent.places ≡ 0 → ((q : Place) → t.entry q ≡ (look links).entry q) → (q : Place) → is_linked (t.entry q) ≡ false
+pub nothing_linked : {M : Type 0} (links : AnyTable M) (t : Table Entry) → (table_in links).extent.places ≡ 0 → ((q : Place) → t.entry q ≡ (table_in links).entry q) → (q : Place) → is_linked (t.entry q) ≡ false
 nothing_linked links t covers same q = by (is_linked (t.entry q)) refl
   where
     by : (b : Bool) → is_linked (t.entry q) ≡ b → is_linked (t.entry q) ≡ false
-    by true e = let h : IsCovered (look links) q = lawful_field links q (rw (same q) at e) in absurd (omega (arith, h, covers))
+    by true e = let h : IsCovered (table_in links) q = lawful_field links q (rw (same q) at e) in absurd (omega (arith, h, covers))
     by false e = e
 
 -- A FIELD more, of which no place is linked
@@ -233,15 +229,15 @@ module _ {V : Type 0} {objects : Objects V} {room : ℕ} {ts : List (Table Entry
 -- and what adding it comes to
 module _ {A V K M : Type 0} {adapter : A} {objects : Objects V} {room : ℕ} (tables : List (WorldField M)) {cs : List (Option (Collection V))} (kept : IsKept adapter objects room tables cs)
     {old : Family A V} (view : family_of adapter objects (map table_of tables) cs ≡ old) (cmp : K → K → Ordering) (key_of : A → V → K) where
-  pub field_added : (kind : Kind) (links : AnyTable M) → IsFresh kind room (look links) → (r : Result ℕ Refusal) (news : List (WorldField M)) → Appends tables (record { links = links; left_linked = false }) r news
+  pub field_added : (kind : Kind) (links : AnyTable M) → IsFresh kind room (table_in links) → (r : Result ℕ Refusal) (news : List (WorldField M)) → Appends tables (record { links = links; left_linked = false }) r news
       → IsKept adapter objects room news cs × Step cmp key_of old (AddField kind) (reply_of (λ f. field f) r) (family_of adapter objects (map table_of news) cs)
   field_added kind links fresh (Ok f) news e =
       let new : WorldField M = record { links = links; left_linked = false } in
       let tables_are = map-append table_of tables (new ∷ []) in
       let left_are = map-append (λ (x : WorldField M). x.left_linked) tables (new ∷ []) in
-      let family = field_family kept.0 (look links) fresh.free {adapter = adapter} kind fresh.kind_is in
+      let family = field_family kept.0 (table_in links) fresh.free {adapter = adapter} kind fresh.kind_is in
       let none = none_added kept.1 (length-map tables _ ∙ sym (length-map (map table_of tables) field_in ∙ length-map tables table_of)) kind in
-      rw (← view, e.1, tables_are, left_are) ((field_whole kept.0 (look links) fresh.free fresh.covers, rw family none), (rw (length-map, length-map) e.0, family))
+      rw (← view, e.1, tables_are, left_are) ((field_whole kept.0 (table_in links) fresh.free fresh.covers, rw family none), (rw (length-map, length-map) e.0, family))
   field_added kind links fresh (Err r) news e = rw (e.0, e.1) (kept, view)
 
 -- A PLACE LESS LINKED in the table of field f, that of no member of a collection there
@@ -276,7 +272,7 @@ module _ {V : Type 0} {objects : Objects V} {room : ℕ} {ts : List (Table Entry
   kept_all c k is = elim (cases_eq k.field f) [
     | inl same ↦
         let was : Keeps (table ts f) k.members (sequence ts k) = subst (λ g. Keeps (table ts g) k.members (sequence ts k)) same (whole.held c k is) in
-        let beside : KeepsBeside (table ts f) t (p ∷ []) = record { extent = frame.extent; others = λ q out. frame.others q out.0 } in
+        let beside : ChangesOnlyIn (table ts f) t (p ∷ []) = record { extent = frame.extent; others = λ q out. frame.others q out.0 } in
         let now : Keeps t k.members (sequence ts k) = keeps_frame k.members (sequence ts k) (p ∷ []) was (disjoint_cons p (sequence ts k) [] (none c k is same) (disjoint_none (sequence ts k))) beside in
         subst (λ g. Keeps (table us g) k.members (sequence ts k)) (sym same) (subst (λ u. Keeps u k.members (sequence ts k)) (sym here) now)
     | inr other ↦ subst (λ u. Keeps u k.members (sequence ts k)) (sym (there k.field other)) (whole.held c k is)

@@ -1,88 +1,75 @@
 -- What an object that is put into a gap, or in the place of a member, leaves to the world, and what it is refused for.
-use Rattle.std.proofs.Common.{◌≡◌, Bool, not, is_some, Option, Some, None, [], ◌∷◌, Result, OnOk, OnErr, IfOk, refl, sym, ap, ◌∙◌, append-nil}
-use Rattle.ic_unsafe_ref.specs.declared.place.Place.{Place}
-use Rattle.ic_link_ops.specs.Sequences.{at_front, at_back, first, IsAfter, IsBefore}
-use Rattle.ic_link_ops.specs.Tables.{IsCovered}
+use Rattle.std.proofs.Common.{◌≡◌, ◌∙◌, Bool, true, false, not, is_some, Option, Some, None, [], ◌∷◌, Ok, Err, refl, sym, ap}
+use Rattle.ic_link_ops.specs.Prelude.{Place, Cut, join, first, IsCovered, IsLinked}
+use Rattle.ic_any_collection.specs.declared.gap.Gap.{Gap}
+use Rattle.ic_any_collection.specs.declared.gap.Gap.TheVariants.{Front, Back, Before, After}
+use Rattle.ic_any_collection.specs.Gaps.{can_insert, can_replace, IsGapAt, rests, onto}
+use Rattle.ic_any_collection.specs.Gaps as gaps
 use Rattle.ic_any_collection.specs.declared.any_table.AnyTable.{AnyTable}
-use Rattle.ic_any_collection.specs.declared.edit_error.EditError.{EditError}
-use Rattle.ic_any_collection.specs.AnyTables.{look}
+use Rattle.ic_any_collection.specs.AnyTables.{table_in}
 use Rattle.ic_any_collection.specs.Entries.{is_linked}
 use Rattle.ic_any_collection.specs.declared.any_collection.AnyCollection.{AnyCollection}
-use Rattle.ic_any_collection.specs.AnyCollection.{kind_in, cursor_in, members_in, has_before, is_list, is_two_way_list, is_singly, Held}
-use Rattle.ic_any_collection.specs.Edits.{AtGap, Puts, Swaps, IsUnchanged}
-use Rattle.ic_any_collection.specs.Refusals.{refusal_in, refusal_of_object, refusal_of_put, refusal_of_swap}
+use Rattle.ic_any_collection.specs.AnyCollection.{kind_in, cursor_in, members_in, Held}
+use Rattle.ic_any_collection.specs.Edits.{AtGap, Puts, SwapsIfAny, IsUnchanged}
 use Rattle.ic_any_collection.proofs.AllKinds.{lawful, distinct}
 use Rattle.ic_world.specs.declared.calls.one_call.Call.TheVariants as one
-use Rattle.ic_world.specs.declared.calls.one_call.Where.{Where}
-use Rattle.ic_world.specs.declared.calls.one_call.Where.TheVariants.{Front, Back, Before, After}
-use Rattle.ic_world.specs.declared.call.Refusal.TheVariants.{WrongKind, NothingThere, AlreadyLinked}
-use Rattle.ic_world.specs.Calls.{done, object, asks, has_call, member_at, rests, onto, refusal_of, IsAt, IsFrontOf}
+use Rattle.ic_world.specs.declared.call.Refusal.TheVariants.{NothingThere, AlreadyLinked}
+use Rattle.ic_world.specs.Calls.{done, object, member_at, refusal_of, is_linked_in}
 use Rattle.ic_world.specs.Calls as calls
-use Rattle.ic_world.specs.Replies.{told}
 use Rattle.ic_world.specs.Turns.{Ran, state_of}
 use Rattle.ic_world.proofs.Linked.{in_linked}
 use Rattle.ic_world.proofs.Neighbors.{next_gap}
-use Rattle.ic_world.proofs.Tested.{told_put, told_swap, told_ok, told_err, on_ok, if_ok}
+use Rattle.ic_world.proofs.Tested.{goes_on, stops}
 use Rattle.ic_world.proofs.Turned.{turns_put, turns_swap}
 
-module _ {V M : Type 0} (K : Type 0) (old new : AnyTable M) (p : Place) (m m' : AnyCollection V) where
-  -- AN OBJECT IS PUT IN, or refused
-  abbrev pub PutsAt : Where → Result Unit EditError → Type 0
-  PutsAt at r = Ran (p ∷ []) (refusal_of {K = K} (one.Put at p)) (λ _ s t. calls.PutReplies at p s done t) old new m m' (told r)
+module _ {V M : Type 0} (K : Type 0) (old new : AnyTable M) (at : Gap) (p : Place) (m m' : AnyCollection V) where
+  -- whether p is linked, as the world asks it
+  linked_so : {b : Bool} → is_linked ((table_in old).entry p) ≡ b → not (is_linked_in (state_of (table_in old) m) p) ≡ not b
+  linked_so e = ap not (in_linked (table_in old) (lawful old) p ∙ e)
 
-  module _ (r : Result Unit EditError) where
-    puts_at : (at : Where) (has : Bool) → has_call {K = K} (one.Put at p) (kind_in m) ≡ has → refusal_in r ≡ refusal_of_put has (look old) p
-        → IfOk r (λ _. AtGap (members_in (look old) m) (λ gap. IsAt at (cursor_in m) gap × Puts (look old) (look new) m m' gap p (rests at (cursor_in m))))
-        → OnErr r (IsUnchanged old new m m') → PutsAt at r
-    puts_at at has is tests put unchanged = record {
-      tested = told_put r has (look old) p tests ∙ ap (λ b. asks b WrongKind (asks (not (is_linked ((look old).entry p))) AlreadyLinked None)) (sym is)
-          ∙ ap (λ b. asks (has_call {K = K} (one.Put at p) (kind_in m)) WrongKind (asks (not b) AlreadyLinked None)) (sym (in_linked (look old) (lawful old) p));
-      turned = told_ok _ r (if_ok _ _ r put (λ _ e. turns_put (lawful old) (lawful new) e.0 p e.1 e.2.1 (λ same. (refl, (e.0, e.1, (e.2.0, same))))));
-      unchanged = told_err _ r unchanged;
+  -- AN OBJECT IS PUT IN,
+  module _ (can : can_insert at (kind_in m) ≡ true) where
+    pub put_in : AtGap (members_in (table_in old) m) (λ gap. IsGapAt at (cursor_in m) gap × Puts (table_in old) (table_in new) m m' gap p (rests at (cursor_in m)))
+        → Ran {R = Unit {0}} (p ∷ []) (refusal_of {K = K} (one.Put at p)) (λ a s t. calls.PutReplies at p s done t) old new m m' (Ok tt)
+    put_in e = record {
+      tested = goes_on _ _ _ can (goes_on _ _ _ (linked_so e.2.1.links.was) refl);
+      turned = turns_put (lawful old) (lawful new) e.0 p e.1 e.2.1 (λ same. (refl, (e.0, e.1, (e.2.0, same))));
+      unchanged = tt;
     }
 
-    pub puts_front : refusal_in r ≡ refusal_of_put (is_list (kind_in m)) (look old) p → OnOk r (Puts (look old) (look new) m m' (at_front (members_in (look old) m)) p None)
-        → OnErr r (IsUnchanged old new m m') → PutsAt Front r
-    puts_front tests put = puts_at Front _ refl tests (on_ok _ _ r put (λ e. (at_front _, refl, (refl, e))))
+    -- or refused
+    pub put_not : IsLinked is_linked (table_in old) p × IsUnchanged old new m m' → Ran {R = Unit {0}} (p ∷ []) (refusal_of {K = K} (one.Put at p)) (λ a s t. calls.PutReplies at p s done t) old new m m' (Err AlreadyLinked)
+    put_not e = record { tested = goes_on _ _ _ can (stops _ _ _ (linked_so e.0)); turned = tt; unchanged = e.1 }
 
-    pub puts_back : refusal_in r ≡ refusal_of_put (is_two_way_list (kind_in m)) (look old) p → OnOk r (Puts (look old) (look new) m m' (at_back (members_in (look old) m)) p None)
-        → OnErr r (IsUnchanged old new m m') → PutsAt Back r
-    puts_back tests put = puts_at Back _ refl tests (on_ok _ _ r put (λ e. (at_back _, append-nil _, (refl, e))))
+  -- AN OBJECT TAKES THE PLACE of a member: the one that is meant,
+  member_there : (at : Gap) → can_replace at (kind_in m) ≡ true → Held (table_in old) m → (gap : Cut) → join gap ≡ members_in (table_in old) m → gaps.IsFrontOf at (members_in (table_in old) m) (cursor_in m) gap
+      → member_at at (state_of (table_in old) m) ≡ first gap.back
+  member_there Front can held gap same front = cc
+  member_there Back can held gap same front = cc
+  member_there Before can held gap same front = front
+  member_there After can held gap same front = next_gap gap (cursor_in m) (distinct (table_in old) m (members_in (table_in old) m) held.shown) same front
 
-    pub puts_after : refusal_in r ≡ refusal_of_object (look old) p
-        → OnOk r (AtGap (members_in (look old) m) (λ gap. IsAfter gap (cursor_in m) × Puts (look old) (look new) m m' gap p (cursor_in m))) → OnErr r (IsUnchanged old new m m') → PutsAt After r
-    puts_after tests put = puts_at After _ refl tests (on_ok _ _ r put (λ e. e))
+  module _ (can : can_replace at (kind_in m) ≡ true) (held : Held (table_in old) m) where
+    abbrev Swapped : Option Place → Bool → Type 0
+    Swapped out acquired = AtGap (members_in (table_in old) m) (λ gap. gaps.IsFrontOf at (members_in (table_in old) m) (cursor_in m) gap × (is_some out ≡ is_some (first gap.back))
+        × SwapsIfAny old new m m' gap p (onto at (cursor_in m) p) out acquired)
 
-    pub puts_before : refusal_in r ≡ refusal_of_put (has_before (kind_in m)) (look old) p
-        → OnOk r (AtGap (members_in (look old) m) (λ gap. IsBefore gap (cursor_in m) × Puts (look old) (look new) m m' gap p (cursor_in m))) → OnErr r (IsUnchanged old new m m') → PutsAt Before r
-    puts_before tests put = puts_at Before _ refl tests (on_ok _ _ r put (λ e. e))
+    is_there : (out : Option Place) (acquired : Bool) → Swapped out acquired → is_some (member_at at (state_of (table_in old) m)) ≡ is_some out
+    is_there out acquired e = ap is_some (member_there at can held e.0 e.1 e.2.0) ∙ sym e.2.1
 
-  -- AN OBJECT TAKES THE PLACE of a member, or is refused
-  abbrev pub SwapsAt : Where → Result Place EditError → Type 0
-  SwapsAt at r = Ran (p ∷ []) (refusal_of {K = K} (one.Swap at p)) (λ out s t. calls.SwapReplies at p s (object out) t) old new m m' (told r)
-
-  module _ (covered : IsCovered (look old) p) (r : Result Place EditError) where
-    swaps_at : (at : Where) (has : Bool) → has_call {K = K} (one.Swap at p) (kind_in m) ≡ has → (there : Option Place) → member_at at (state_of (look old) m) ≡ there
-        → refusal_in r ≡ refusal_of_swap has (is_some there) (look old) p
-        → IfOk r (λ out. AtGap (members_in (look old) m) (λ gap. IsFrontOf at (state_of (look old) m) gap × Swaps (look old) (look new) m m' gap p out (onto at (cursor_in m) p)))
-        → OnErr r (IsUnchanged old new m m') → SwapsAt at r
-    swaps_at at has is there at_there tests swapped unchanged = record {
-      tested = told_swap r has (is_some there) (look old) p tests
-          ∙ ap (λ b. asks b WrongKind (asks (is_some there) NothingThere (asks (not (is_linked ((look old).entry p))) AlreadyLinked None))) (sym is)
-          ∙ ap (λ o. asks (has_call {K = K} (one.Swap at p) (kind_in m)) WrongKind (asks (is_some o) NothingThere (asks (not (is_linked ((look old).entry p))) AlreadyLinked None))) (sym at_there)
-          ∙ ap (λ b. asks (has_call {K = K} (one.Swap at p) (kind_in m)) WrongKind (asks (is_some (member_at at (state_of (look old) m))) NothingThere (asks (not b) AlreadyLinked None)))
-          (sym (in_linked (look old) (lawful old) p));
-      turned = told_ok _ r (if_ok _ _ r swapped (λ out e. turns_swap (lawful old) (lawful new) e.0 p out covered e.1 e.2.1 (λ same. (e.0, e.1, (e.2.0, out, e.2.1.there, refl, same)))));
-      unchanged = told_err _ r unchanged;
+    pub swapped_in : (out : Place) → IsCovered (table_in old) p → Swapped (Some out) true
+        → Ran (p ∷ []) (refusal_of {K = K} (one.Swap at p)) (λ out s t. calls.SwapReplies at p s (object out) t) old new m m' (Ok out)
+    swapped_in out covered e = record {
+      tested = goes_on _ _ _ can (goes_on _ _ _ (is_there (Some out) true e) (goes_on _ _ _ (linked_so e.2.2.links.1.was) refl));
+      turned = turns_swap (lawful old) (lawful new) e.0 p out covered e.1 e.2.2 (λ same. (e.0, e.1, (e.2.0, out, e.2.2.there, refl, same)));
+      unchanged = tt;
     }
 
-    pub swaps_before : refusal_in r ≡ refusal_of_swap (has_before (kind_in m)) (is_some (cursor_in m)) (look old) p
-        → IfOk r (λ out. AtGap (members_in (look old) m) (λ gap. IsBefore gap (cursor_in m) × Swaps (look old) (look new) m m' gap p out (Some p))) → OnErr r (IsUnchanged old new m m') → SwapsAt Before r
-    swaps_before tests swapped = swaps_at Before _ refl (cursor_in m) refl tests swapped
+    -- none is there, or the object is linked
+    pub swap_nothing : (acquired : Bool) → Swapped None acquired
+        → Ran (p ∷ []) (refusal_of {K = K} (one.Swap at p)) (λ out s t. calls.SwapReplies at p s (object out) t) old new m m' (Err NothingThere)
+    swap_nothing acquired e = record { tested = goes_on _ _ _ can (stops _ _ _ (is_there None acquired e)); turned = tt; unchanged = e.2.2 }
 
-    pub swaps_after : Held (look old) m
-        → AtGap (members_in (look old) m) (λ gap. IsAfter gap (cursor_in m) × (refusal_in r ≡ refusal_of_swap (is_singly (kind_in m)) (is_some (first gap.back)) (look old) p))
-        → IfOk r (λ out. AtGap (members_in (look old) m) (λ gap. IsAfter gap (cursor_in m) × Swaps (look old) (look new) m m' gap p out (cursor_in m))) → OnErr r (IsUnchanged old new m m') → SwapsAt After r
-    swaps_after held tests swapped =
-        let next = next_gap tests.0 (cursor_in m) {s = members_in (look old) m} (distinct (look old) m (members_in (look old) m) held.shown) tests.1 tests.2.0 in
-        swaps_at After _ refl (first tests.0.back) next tests.2.1 swapped
+    pub swap_not : (out : Place) → Swapped (Some out) false
+        → Ran (p ∷ []) (refusal_of {K = K} (one.Swap at p)) (λ out s t. calls.SwapReplies at p s (object out) t) old new m m' (Err AlreadyLinked)
+    swap_not out e = record { tested = goes_on _ _ _ can (goes_on _ _ _ (is_there (Some out) false e) (stops _ _ _ (linked_so e.2.2.0))); turned = tt; unchanged = e.2.2.1 }

@@ -30,4 +30,3 @@ pub mod Seeking
 pub mod Inserted
 pub mod Apart
 pub mod Sound
-pub mod Meant

@@ -5,9 +5,7 @@ use Rattle.std.specs.Prelude.{slice_get}
 use Rattle.std.proofs.lemmas.List.{get_or_past, get_or-map}
 use Rattle.std.specs.declared.vec.Vec.{Vec}
 use Rattle.std.proofs.lemmas.Option.{same_Some, slice_get_read, slice_get_within}
-use Rattle.ic_unsafe_ref.specs.declared.place.Place.{Place}
-use Rattle.ic_link_ops.specs.Tables.{Table}
-use Rattle.ic_link_ops.specs.Sequences.{IsMember}
+use Rattle.ic_link_ops.specs.Prelude.{Place, IsMember, Table}
 use Rattle.ic_any_collection.specs.declared.entry.Entry.{Entry}
 use Rattle.ic_any_collection.specs.AnyCollection.{members_in, Held}
 use Rattle.ic_world.specs.declared.collection.Collection.{Collection}
@@ -16,16 +14,16 @@ use Rattle.ic_world.specs.declared.collections_by_number.Numbered.{Numbered}
 use Rattle.ic_world.specs.Tables.{at}
 use Rattle.ic_world.specs.Collections.{AreHeld, HasMember}
 use Rattle.ic_world.specs.ByNumber.{items_of, live_in, lying, in_field, by_number, AreNumbered, EachHeld, SomeHas}
-use Rattle.ic_world.proofs.ByNumber.{Lists, shown, shown_is, some_not_none}
+use Rattle.ic_world.proofs.ByNumber.{Lists, shown, represented_is, some_not_none}
 
 module _ {V : Type 0} {cs : List (Option (Collection V))} (ls : Lists V) (ns : List Slot) (are : AreNumbered ls ns) (view : by_number ls ns ≡ cs) where
-  -- what lies in a field is shown under its number
-  live_shown : (f i : ℕ) (n : Numbered V) → lying ls f i ≡ Some n → at cs n.number ≡ Some (record { field = f; members = n.members })
-  live_shown f i n lies = shown_is ls ns n.number (record { field = f; index = i }) view ∙ ap (shown ls) (are.found f i n lies) ∙ ap (in_field f) lies
+  -- what lies in a field is represented under its number
+  live_represented : (f i : ℕ) (n : Numbered V) → lying ls f i ≡ Some n → at cs n.number ≡ Some (record { field = f; members = n.members })
+  live_represented f i n lies = represented_is ls ns n.number (record { field = f; index = i }) view ∙ ap (shown ls) (are.found f i n lies) ∙ ap (in_field f) lies
 
-  -- and what is shown lies in its field
-  shown_live : (c : ℕ) (k : Collection V) → at cs c ≡ Some k → (i : ℕ) × (n : Numbered V) × (lying ls k.field i ≡ Some n) × (n.members ≡ k.members)
-  shown_live c k is = by (slice_get ns c) refl
+  -- and what is represented lies in its field
+  represented_live : (c : ℕ) (k : Collection V) → at cs c ≡ Some k → (i : ℕ) × (n : Numbered V) × (lying ls k.field i ≡ Some n) × (n.members ≡ k.members)
+  represented_live c k is = by (slice_get ns c) refl
     where
       there : (s : Slot) (o : Option (Numbered V)) → lying ls s.field s.index ≡ o → in_field s.field o ≡ Some k → (i : ℕ) × (n : Numbered V) × (lying ls k.field i ≡ Some n) × (n.members ≡ k.members)
       there s None e h = absurd cc
@@ -34,23 +32,23 @@ module _ {V : Type 0} {cs : List (Option (Collection V))} (ls : Lists V) (ns : L
           (s.index, n, ap (λ f. lying ls f s.index) (sym (ap (λ (x : Collection V). x.field) same)) ∙ e, ap (λ (x : Collection V). x.members) same)
 
       by : (o : Option Slot) → slice_get ns c ≡ o → (i : ℕ) × (n : Numbered V) × (lying ls k.field i ≡ Some n) × (n.members ≡ k.members)
-      by None e = absurd (some_not_none is (shown_is ls ns c (record { field = 0; index = 0 }) view ∙ ap (shown ls) e))
-      by (Some s) e = there s (lying ls s.field s.index) refl (sym (shown_is ls ns c s view ∙ ap (shown ls) e) ∙ is)
+      by None e = absurd (some_not_none is (represented_is ls ns c (record { field = 0; index = 0 }) view ∙ ap (shown ls) e))
+      by (Some s) e = there s (lying ls s.field s.index) refl (sym (represented_is ls ns c s view ∙ ap (shown ls) e) ∙ is)
 
   module _ (f : ℕ) (t : Table Entry) where
     pub each_held : AreHeld cs f t → EachHeld t (live_in ls f)
-    each_held held i n e = held n.number (record { field = f; members = n.members }) (live_shown f i n e) refl
+    each_held held i n e = held n.number (record { field = f; members = n.members }) (live_represented f i n e) refl
 
     pub has_member : (p : Place) (b : Bool) → (IsTrue b ↔ SomeHas t p (live_in ls f)) → (IsTrue b ↔ HasMember cs f t p)
     has_member p b tells = (
       (λ yes. let one = tells.0 yes in record {
         number = one.one.number;
         one = record { field = f; members = one.one.members };
-        is = live_shown f one.index one.one one.is;
+        is = live_represented f one.index one.one one.is;
         field = refl;
         member = one.member;
       }),
-      (λ has. tells.1 (let n = shown_live has.number has.one has.is in record {
+      (λ has. tells.1 (let n = represented_live has.number has.one has.is in record {
         index = n.0;
         one = n.1;
         is = ap (λ g. lying ls g n.0) (sym has.field) ∙ n.2;
@@ -61,7 +59,7 @@ module _ {V : Type 0} {cs : List (Option (Collection V))} (ls : Lists V) (ns : L
     -- a field past the lists has none
     pub has_none : (p : Place) → length ls ≤ f → HasMember cs f t p → ⊥
     has_none p past has =
-        let n = shown_live has.number has.one has.is in
+        let n = represented_live has.number has.one has.is in
         some_not_none n.2 (ap (λ xs. slice_get xs n.0) (get_or_past ls has.one.field [] (omega (arith, past, has.field))))
 
 -- THE LIST OF A FIELD, asked from its front

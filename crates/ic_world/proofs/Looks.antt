@@ -1,28 +1,27 @@
 -- How few looks a search by a fresh probe has made.
-use Rattle.std.proofs.Common.{◌≡◌, ℕ, List, Result, Ok, Err, OnOk, IfOk, refl, sym, subst, arith}
+use Rattle.std.proofs.Common.{◌≡◌, ℕ, Bool, true, false, List, refl, sym, subst, arith}
+use Rattle.std.specs.Bool.{OnTrue}
 use Rattle.std.specs.declared.cmp.Ordering.{Ordering}
-use Rattle.ic_unsafe_ref.specs.declared.place.Place.{Place}
-use Rattle.ic_unsafe_ref.specs.Objects.{Objects}
+use Rattle.ic_link_ops.specs.Prelude.{Place, Objects}
 use Rattle.ic_rbtree.specs.declared.keys.key_adapter.Bound.{Bound}
 use Rattle.ic_rbtree.specs.declared.keys.key_adapter.Bound.TheVariants.{Included, Excluded, Unbounded}
 use Rattle.ic_rbtree.specs.declared.keys.probe.KeyProbe.{KeyProbe}
 use Rattle.ic_rbtree.specs.Comparing.{compared, compared_within, bound_map, Looks, LooksWithin}
 use Rattle.ic_rbtree.specs.KeyProbe.{looks_of}
-use Rattle.ic_any_collection.specs.declared.edit_error.EditError.{EditError}
-use Rattle.ic_world.specs.Looks.{FewLooks, FewLooksWithin, looks_within}
+use Rattle.ic_world.specs.Looks.{WithinComparisonBound, WithinBound, looks_within}
 
 module _ {A V K : Type 0} (order : KeyProbe A V K → V → Ordering) where
   -- a probe that was never asked before has counted the looks of one descent,
-  pub few_asked : {old new : KeyProbe A V K} {s : List Place} → looks_of old ≡ 0 → Looks order looks_of old new s → FewLooks (looks_of new) s
-  few_asked {new = new} {s} none l = let e : looks_of new ≡ l.looks = omega (arith, l.counted, none) in subst (λ n. FewLooks n s) (sym e) l.few
+  pub few_asked : {old new : KeyProbe A V K} {s : List Place} → looks_of old ≡ 0 → Looks order looks_of old new s → WithinComparisonBound (looks_of new) s
+  few_asked {new = new} {s} none l = let e : looks_of new ≡ l.looks = omega (arith, l.counted, none) in subst (λ n. WithinComparisonBound n s) (sym e) l.few
 
   -- if what it was asked for is done,
-  pub few_done : (old new : KeyProbe A V K) (s : List Place) (answer : Result Unit EditError) → looks_of old ≡ 0 → OnOk answer (Looks order looks_of old new s) → IfOk answer (λ _. FewLooks (looks_of new) s)
-  few_done old new s (Ok done) none l = few_asked none l
-  few_done old new s (Err refusal) none l = tt
+  pub few_done : (old new : KeyProbe A V K) (s : List Place) (acquired : Bool) → looks_of old ≡ 0 → OnTrue acquired (Looks order looks_of old new s) → OnTrue acquired (WithinComparisonBound (looks_of new) s)
+  few_done old new s true none l = few_asked none l
+  few_done old new s false none l = tt
 
   -- and so has the probe of a bound
-  few_within : (old new : Bound (KeyProbe A V K)) (s : List Place) → looks_within old ≡ 0 → LooksWithin order looks_of old new s → FewLooksWithin old (looks_within new) s
+  few_within : (old new : Bound (KeyProbe A V K)) (s : List Place) → looks_within old ≡ 0 → LooksWithin order looks_of old new s → WithinBound old (looks_within new) s
   few_within (Included old) (Included new) s none l = few_asked none l
   few_within (Excluded old) (Excluded new) s none l = few_asked none l
   few_within Unbounded Unbounded s none l = refl
@@ -35,20 +34,20 @@ module _ {A V K : Type 0} (order : KeyProbe A V K → V → Ordering) where
 
 -- what is made of the end of a bound changes nothing of it
 module _ {B C : Type 0} (f : B → C) (n : ℕ) (s : List Place) where
-  few_of_end : (bound : Bound B) → FewLooksWithin bound n s → FewLooksWithin (bound_map f bound) n s
+  few_of_end : (bound : Bound B) → WithinBound bound n s → WithinBound (bound_map f bound) n s
   few_of_end (Included end) few = few
   few_of_end (Excluded end) few = few
   few_of_end Unbounded few = few
 
-  few_of_map : (bound : Bound B) → FewLooksWithin (bound_map f bound) n s → FewLooksWithin bound n s
+  few_of_map : (bound : Bound B) → WithinBound (bound_map f bound) n s → WithinBound bound n s
   few_of_map (Included end) few = few
   few_of_map (Excluded end) few = few
   few_of_map Unbounded few = few
 
 -- the looks of a search for the key of a bound, from none
 pub few_for : {A V K : Type 0} (order : KeyProbe A V K → V → Ordering) (by_key : K → V → Ordering) (objects : Objects V) (bound : Bound K) (old new : Bound (KeyProbe A V K)) (s : List Place)
-    → looks_within old ≡ 0 → compared_within order objects old ≡ compared_within by_key objects bound → LooksWithin order looks_of old new s → FewLooksWithin bound (looks_within new) s
+    → looks_within old ≡ 0 → compared_within order objects old ≡ compared_within by_key objects bound → LooksWithin order looks_of old new s → WithinBound bound (looks_within new) s
 few_for order by_key objects bound old new s none same looks =
     few_of_map (λ key. compared (by_key key) objects) (looks_within new) s bound
-    (subst (λ ends. FewLooksWithin ends (looks_within new) s) same
+    (subst (λ ends. WithinBound ends (looks_within new) s) same
     (few_of_end (λ probe. compared (order probe) objects) (looks_within new) s old (few_within order old new s none looks)))

@@ -1,12 +1,10 @@
 -- What the tests on members and their neighbors answer, by a gap beside the member.
 use Rattle.std.proofs.Common.{◌≡◌, ◌≢◌, ◌↔◌, IsTrue, inl, inr, Bool, true, false, cond, Option, Some, None, List, [], ◌∷◌, ◌++◌, refl, sym, ap, ◌∙◌, subst, drop, append_assoc, eq-eqb, ne_eqb}
 use Rattle.std.proofs.lemmas.Bool.{false_from_ne_true}
-use Rattle.ic_unsafe_ref.specs.declared.place.Place.{Place}
-use Rattle.ic_unsafe_ref.specs.Places.{index_of}
+use Rattle.ic_link_ops.specs.Prelude.{Place, index_of, Cut, join, first, last, last_or, but_last, IsAfter, IsBefore, IsAbsent, IsMember, IsDistinct}
 use Rattle.ic_unsafe_ref.proofs.PlaceLemmas.{same_index}
-use Rattle.ic_link_ops.specs.Sequences.{Cut, join, first, last, last_or, but_last, IsAfter, IsBefore, IsAbsent, IsMember, IsDistinct}
 use Rattle.ic_link_ops.proofs.SequenceLemmas.{absent_left, distinct_middle, first_is, nothing_last, split_last, member_split}
-use Rattle.ic_world.specs.Family.{same_place, is_among, before_or, behind_of, next_of}
+use Rattle.ic_world.specs.Family.{same_place, is_among, before_or, after_of, next_of}
 use Rattle.ic_world.proofs.Linked.{absent_or}
 
 same_here : (p : Place) → same_place p p ≡ true
@@ -15,7 +13,7 @@ same_here p = eq-eqb (index_of p) (index_of p) refl
 other_there : (x p : Place) → p ≢ x → same_place x p ≡ false
 other_there x p n = ne_eqb (index_of x) (index_of p) (λ e. n (sym (same_index x p e)))
 
--- in a sequence where p stands, and none in front of it is p
+-- in a sequence where p stands, and none before it is p
 among_at : (f b : List Place) (p : Place) → is_among p (f ++ p ∷ b) ≡ true
 among_at [] b p = rw (same_here p) refl
 among_at (x ∷ f) b p = elim (same_place x p) as (λ c. cond c true (is_among p (f ++ p ∷ b)) ≡ true) [ true ↦ refl | false ↦ among_at f b p ]
@@ -24,15 +22,15 @@ before_at : (f b : List Place) (p : Place) (o : Option Place) → IsAbsent p f �
 before_at [] b p o out = rw (same_here p) refl
 before_at (x ∷ f) b p o out = rw (other_there x p out.0) (before_at f b p (Some x) out.1)
 
-behind_at : (f b : List Place) (p : Place) → IsAbsent p f → behind_of (f ++ p ∷ b) p ≡ first b
-behind_at [] b p out = rw (same_here p) refl
-behind_at (x ∷ f) b p out = rw (other_there x p out.0) (behind_at f b p out.1)
+after_at : (f b : List Place) (p : Place) → IsAbsent p f → after_of (f ++ p ∷ b) p ≡ first b
+after_at [] b p out = rw (same_here p) refl
+after_at (x ∷ f) b p out = rw (other_there x p out.0) (after_at f b p out.1)
 
 pub not_among : (s : List Place) (p : Place) → IsAbsent p s → is_among p s ≡ false
 not_among [] p out = refl
 not_among (x ∷ s) p out = rw (other_there x p out.0) (not_among s p out.1)
 
--- a member is behind a gap
+-- a member is after a gap
 pub member_gap : (s : List Place) (p : Place) → IsMember p s → (gap : Cut) × (join gap ≡ s) × IsBefore gap (Some p)
 member_gap s p member = let e = member_split p s member in (record { front = e.0; back = p ∷ e.1 }, sym e.2, refl)
 
@@ -50,10 +48,10 @@ module _ (gap : Cut) {s : List Place} {p : Place} (cut : join gap ≡ s) (is : I
     pub before_gap : before_or None s p ≡ last gap.front
     before_gap = ap (λ t. before_or None t p) whole ∙ before_at gap.front (drop 1 gap.back) p None in_front
 
-    pub behind_gap : behind_of s p ≡ first (drop 1 gap.back)
-    behind_gap = ap (λ t. behind_of t p) whole ∙ behind_at gap.front (drop 1 gap.back) p in_front
+    pub after_gap : after_of s p ≡ first (drop 1 gap.back)
+    after_gap = ap (λ t. after_of t p) whole ∙ after_at gap.front (drop 1 gap.back) p in_front
 
--- the member behind a cursor
+-- the member after a cursor
 pub next_gap : (gap : Cut) (cursor : Option Place) {s : List Place} → IsDistinct s → join gap ≡ s → IsAfter gap cursor → next_of s cursor ≡ first gap.back
 next_gap gap None distinct cut is = ap first (sym cut) ∙ ap (λ f. first (f ++ gap.back)) (nothing_last gap.front is)
 next_gap gap (Some p) {s} distinct cut is =
@@ -61,7 +59,7 @@ next_gap gap (Some p) {s} distinct cut is =
     let here : s ≡ (but_last gap.front ++ p ∷ []) ++ gap.back = sym cut ∙ ap (λ f. f ++ gap.back) front in
     let all : s ≡ but_last gap.front ++ p ∷ gap.back = here ∙ append_assoc (but_last gap.front) (p ∷ []) gap.back in
     let out = absent_left p (but_last gap.front) gap.back (distinct_middle (but_last gap.front) gap.back p (subst IsDistinct all distinct)) in
-    ap (λ t. behind_of t p) all ∙ behind_at (but_last gap.front) gap.back p out
+    ap (λ t. after_of t p) all ∙ after_at (but_last gap.front) gap.back p out
 
 -- whether it is found that p is a member
 pub contains_tells : (s : List Place) (p : Place) (b : Bool) → IsTrue b ↔ IsMember p s → is_among p s ≡ b

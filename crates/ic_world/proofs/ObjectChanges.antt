@@ -11,12 +11,8 @@ use Rattle.std.specs.Cmp.{nat_cmp_total, unsigned_tied}
 use Rattle.std.specs.FinMap as map_of
 use Rattle.std.specs.FinSet as set_of
 use Rattle.std.specs.FinMap.{get-insert, get-remove}
-use Rattle.ic_unsafe_ref.specs.declared.place.Place.{Place}
-use Rattle.ic_unsafe_ref.specs.Places.{index_of}
-use Rattle.ic_unsafe_ref.specs.Objects.{Objects}
-use Rattle.ic_unsafe_ref.specs.Objects.{is_placed as place_is_placed}
+use Rattle.ic_link_ops.specs.Prelude.{Place, index_of, Objects, is_placed as place_is_placed, Table}
 use Rattle.ic_unsafe_ref.proofs.PlaceLemmas.{same_index}
-use Rattle.ic_link_ops.specs.Tables.{Table}
 use Rattle.ic_any_collection.specs.declared.entry.Entry.{Entry}
 use Rattle.ic_any_collection.specs.Entries.{is_linked}
 use Rattle.ic_world.specs.declared.field.WorldField.{WorldField}
@@ -33,7 +29,7 @@ use Rattle.ic_world.specs.Growth.{Grows}
 use Rattle.ic_world.specs.Pieces.{PlacesValue, SwapsValue}
 use Rattle.ic_world.specs.LeftLinked.{NoneLeftLinked}
 use Rattle.ic_world.specs.Step.{Step}
-use Rattle.ic_world.specs.Tables.{table, table_of, no_table, field_in, shown_as, family_of, IsWhole, HasObject}
+use Rattle.ic_world.specs.Tables.{table, table_of, no_table, field_in, represented_as, family_of, IsWhole, HasObject}
 use Rattle.ic_world.proofs.Linked.{side, in_linked}
 use Rattle.ic_world.proofs.Edits.{lawful}
 use Rattle.ic_world.proofs.Growth.{grown_whole, grown_family}
@@ -165,6 +161,6 @@ module _ {A V K : Type 0} (cmp : K → K → Ordering) (key_of : A → V → K) 
         let next = put.next in
         let below : index_of p < 2 ^ 32 = omega (arith, low, next) in (
           put_whole longer_whole p v put.values (omega (arith, here, next), below),
-          rw (← same_family) (put.vacant, below, λ i. record { adapter = adapter; objects = put.values i; fields = map field_in us; collections = map (shown_as us) cs }),
+          rw (← same_family) (put.vacant, below, λ i. record { adapter = adapter; objects = put.values i; fields = map field_in us; collections = map (represented_as us) cs }),
         )
     value_placed low has_room reach v (Err x) new e = rw (e.0, e.1) (longer_whole, same_family)

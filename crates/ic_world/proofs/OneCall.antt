@@ -4,14 +4,8 @@ use Rattle.std.proofs.lemmas.Bool.{cases_eq, and_parts}
 use Rattle.std.proofs.lemmas.List.{map-set, set-get_or}
 use Rattle.std.specs.List.{list_all}
 use Rattle.std.specs.declared.cmp.Ordering.{Ordering}
-use Rattle.ic_unsafe_ref.specs.declared.place.Place.{Place}
-use Rattle.ic_unsafe_ref.specs.Places.{index_of}
-use Rattle.ic_unsafe_ref.specs.Objects.{Objects}
-use Rattle.ic_unsafe_ref.specs.Objects.{is_placed as place_is_placed}
+use Rattle.ic_link_ops.specs.Prelude.{Place, index_of, Objects, is_placed as place_is_placed, IsAbsent, IsDisjoint, Table, IsCovered, IsUnlinked, ArePlaced}
 use Rattle.ic_unsafe_ref.proofs.PlaceLemmas.{same_index}
-use Rattle.ic_link_ops.specs.Sequences.{IsAbsent, IsDisjoint}
-use Rattle.ic_link_ops.specs.Tables.{Table, IsCovered, IsUnlinked}
-use Rattle.ic_link_ops.specs.PlacedObjects.{ArePlaced}
 use Rattle.ic_link_ops.proofs.Each.{all_members}
 use Rattle.ic_link_ops.proofs.SequenceLemmas.{disjoint_cons}
 use Rattle.ic_any_collection.specs.declared.entry.Entry.{Entry}

@@ -6,10 +6,7 @@ use Rattle.std.specs.declared.cmp.Ordering.{Ordering}
 use Rattle.std.specs.Ordering.{nat_cmp}
 use Rattle.std.specs.FinMap as map_of
 use Rattle.std.specs.FinMap.{get-empty}
-use Rattle.ic_unsafe_ref.specs.declared.place.Place.{Place}
-use Rattle.ic_unsafe_ref.specs.Objects.{Objects}
-use Rattle.ic_link_ops.specs.Sequences.{IsDisjoint}
-use Rattle.ic_link_ops.specs.Tables.{Table}
+use Rattle.ic_link_ops.specs.Prelude.{Place, Objects, IsDisjoint, Table}
 use Rattle.ic_any_collection.specs.declared.entry.Entry.{Entry}
 use Rattle.ic_world.specs.declared.field.WorldField.{WorldField}
 use Rattle.ic_any_collection.specs.declared.kind.Kind.{Kind}
@@ -23,7 +20,7 @@ use Rattle.ic_world.specs.Family.{Family, has_field, field_of, with_opened}
 use Rattle.ic_world.specs.Pieces.{Appends}
 use Rattle.ic_world.specs.declared.call.Command.TheVariants.{Open}
 use Rattle.ic_any_collection.specs.AnyCollection.{Keeps, Held, kind_in, cursor_in}
-use Rattle.ic_world.specs.Tables.{table, table_of, field_in, sequence, seen_as, shown_as, at, family_of, IsWhole}
+use Rattle.ic_world.specs.Tables.{table, table_of, field_in, sequence, seen_as, represented_as, at, family_of, IsWhole}
 use Rattle.ic_world.specs.Replies.{reply_of}
 use Rattle.ic_world.specs.Calls.{opened, refused, asks}
 use Rattle.ic_world.specs.Step.{Step}
@@ -79,7 +76,7 @@ module _ {V : Type 0} {objects : Objects V} {room : ℕ} {ts : List (Table Entry
   }
 
   pub appended_family : {A : Type 0} {adapter : A} → family_of adapter objects ts (cs ++ Some k ∷ []) ≡ with_opened (family_of adapter objects ts cs) (seen_as k (sequence ts k))
-  appended_family {adapter = adapter} = λ i. record { adapter = adapter; objects = objects.values; fields = (family_of adapter objects ts cs).fields; collections = map-append (shown_as ts) cs (Some k ∷ []) i }
+  appended_family {adapter = adapter} = λ i. record { adapter = adapter; objects = objects.values; fields = (family_of adapter objects ts cs).fields; collections = map-append (represented_as ts) cs (Some k ∷ []) i }
 
 -- what a test of an opening tells of the field, of the table that was read
 pub open_tests : {A V M : Type 0} (adapter : A) (objects : Objects V) (tables : List (WorldField M)) (cs : List (Option (Collection V))) {old : Family A V} → family_of adapter objects (map table_of tables) cs ≡ old → (f : ℕ) (kind : Kind) (t : WorldField M)
@@ -118,8 +115,8 @@ module _ {A V K : Type 0} (cmp : K → K → Ordering) (key_of : A → V → K) 
   pub opened_by : (r : Result ℕ Refusal) (news : List (Option (Collection V))) → Appends cs (Some fresh) r news
       → IsWhole objects room ts news × Step cmp key_of old (Open f kind) (reply_of (λ c. opened c) r) (family_of adapter objects ts news)
   opened_by (Ok n) news e =
-      let last : shown_as ts (Some fresh) ≡ Some (record { field = f; kind = kind; members = []; cursor = None }) = λ i. Some (record { field = f; kind = new.kind i; members = no_members i; cursor = new.null i }) in
-      let all = map-append (shown_as ts) cs (Some fresh ∷ []) ∙ ap (λ x. map (shown_as ts) cs ++ x ∷ []) last in
+      let last : represented_as ts (Some fresh) ≡ Some (record { field = f; kind = kind; members = []; cursor = None }) = λ i. Some (record { field = f; kind = new.kind i; members = no_members i; cursor = new.null i }) in
+      let all = map-append (represented_as ts) cs (Some fresh ∷ []) ∙ ap (λ x. map (represented_as ts) cs ++ x ∷ []) last in
       rw e.1 (
         appended_whole whole fresh within (subst (Keeps (table ts f) m) (sym no_members) keeps) (λ d l is same. subst (IsDisjoint (sequence ts l)) (sym no_members) (disjoint_none (sequence ts l))),
         step_accepted cmp key_of old (Open f kind) (opened n) _ none (rw (← view) (rw length-map e.0, λ i. record { adapter = adapter; objects = objects.values; fields = map field_in ts; collections = all i })),

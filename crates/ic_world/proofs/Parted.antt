@@ -1,8 +1,6 @@
 -- What a call that hands a part out leaves to the world, from what the collection's own call gives, whatever the kind.
 use Rattle.std.proofs.Common.{◌≡◌, Option, None, List, [], refl, subst, sym}
-use Rattle.ic_unsafe_ref.specs.declared.place.Place.{Place}
-use Rattle.ic_link_ops.specs.Sequences.{Cut, join, IsAfter, IsBefore, IsAbsent, IsDisjoint, IsDistinct}
-use Rattle.ic_link_ops.specs.Tables.{Table, KeepsBeside, KeepsLinked}
+use Rattle.ic_link_ops.specs.Prelude.{Place, Cut, join, IsAfter, IsBefore, IsAbsent, IsDisjoint, IsDistinct, Table, ChangesOnlyIn, KeepsLinked}
 use Rattle.ic_link_ops.proofs.SequenceLemmas.{absent_both, absent_left, absent_right, distinct_disjoint, disjoint_sym}
 use Rattle.ic_any_collection.specs.declared.entry.Entry.{Entry}
 use Rattle.ic_any_collection.specs.Entries.{is_linked}
@@ -26,15 +24,15 @@ absent_gap gap cut q out = subst (IsAbsent q) (sym cut) out
 module _ {V : Type 0} {old new : Table Entry} {m m' part : AnyCollection V} (law : IsLawful old) (law' : IsLawful new) where
   -- the members s stay, and u are handed out
   hands_by : {P : State → State → State → Type 0} (s u : List Place) (cursor : Option Place) → Keeps new m' s → Keeps new part u → Alike m m' → Alike m part
-      → cursor_in m' ≡ cursor → cursor_in part ≡ None → KeepsLinked is_linked old new → KeepsBeside old new (members_in old m)
+      → cursor_in m' ≡ cursor → cursor_in part ≡ None → KeepsLinked is_linked old new → ChangesOnlyIn old new (members_in old m)
       → ((q : Place) → IsAbsent q (members_in old m) → IsAbsent q s × IsAbsent q u) → IsDisjoint s u
       → P (state_of old m) (having (state_of old m) s cursor) (having (state_of old m) u None) → HandsOut P old new m m' part
   hands_by {P} s u cursor kept handed alike part_alike at null links frame within apart parts =
       let shown = one_sequence new law' m' s kept.shown in
-      let part_shown = one_sequence new law' part u handed.shown in
+      let part_represented = one_sequence new law' part u handed.shown in
       let linked = linked_same old new law law' links in
       let stays : state_of new m' ≡ having (state_of old m) s cursor = λ i. record { kind = alike i; members = shown i; cursor = at i; linked = linked i } in
-      let goes : state_of new part ≡ having (state_of old m) u None = λ i. record { kind = part_alike i; members = part_shown i; cursor = null i; linked = linked i } in
+      let goes : state_of new part ≡ having (state_of old m) u None = λ i. record { kind = part_alike i; members = part_represented i; cursor = null i; linked = linked i } in
       record {
         held = held_of law' m' s kept;
         hands_out = held_of law' part u handed;
@@ -42,8 +40,8 @@ module _ {V : Type 0} {old new : Table Entry} {m m' part : AnyCollection V} (law
         part_alike = part_alike;
         links = links;
         frame = frame;
-        within = λ q out. rw (shown, part_shown) (within q out);
-        apart = rw (shown, part_shown) apart;
+        within = λ q out. rw (shown, part_represented) (within q out);
+        apart = rw (shown, part_represented) apart;
         parts = subst (P (state_of old m) (state_of new m')) (sym goes) (subst (λ t. P (state_of old m) t (having (state_of old m) u None)) (sym stays) parts);
       }
 
@@ -57,13 +55,13 @@ module _ {V : Type 0} {old new : Table Entry} {m m' part : AnyCollection V} (law
       within apart parts
 
   module _ (held : Held old m) (gap : Cut) (cut : join gap ≡ members_in old m) where
-    -- what is behind the cursor is handed out
+    -- what is after the cursor is handed out
     pub hands_after : IsAfter gap (cursor_in m) → Parts old new m m' gap.front gap.back part → HandsOut (PartsOf After) old new m m' part
     hands_after after e =
         by_gap gap.front gap.back e (λ q out. let a = absent_gap gap cut q out in (absent_left q gap.front gap.back a, absent_right q gap.front gap.back a))
         (apart_gap held gap cut) (gap, cut, (after, refl, refl))
 
-    -- what is in front of it is
+    -- what is before it is
     pub hands_before : IsBefore gap (cursor_in m) → Parts old new m m' gap.back gap.front part → HandsOut (PartsOf Before) old new m m' part
     hands_before before e =
         by_gap gap.back gap.front e (λ q out. let a = absent_gap gap cut q out in (absent_right q gap.front gap.back a, absent_left q gap.front gap.back a))

@@ -1,16 +1,14 @@
 -- What was read, a range or where a cursor is, is a step that changes nothing.
 use Rattle.std.proofs.Common.{◌≡◌, ℕ, Bool, true, List, Option, refl, sym, ap, ◌∙◌, subst}
 use Rattle.std.specs.declared.cmp.Ordering.{Ordering}
-use Rattle.ic_unsafe_ref.specs.declared.place.Place.{Place}
-use Rattle.ic_unsafe_ref.specs.Objects.{Objects}
-use Rattle.ic_link_ops.specs.Tables.{Table}
+use Rattle.ic_link_ops.specs.Prelude.{Place, Objects, Table}
 use Rattle.ic_rbtree.specs.declared.keys.key_adapter.Bound.{Bound}
 use Rattle.ic_rbtree.specs.Ranges.{runs_up, IsRange}
 use Rattle.ic_any_collection.specs.declared.entry.Entry.{Entry}
 use Rattle.ic_any_collection.specs.declared.kind.Kind.{Kind}
 use Rattle.ic_any_collection.specs.declared.any_collection.AnyCollection.{AnyCollection}
 use Rattle.ic_any_collection.specs.AnyCollection.{kind_in, cursor_in, members_in, is_tree}
-use Rattle.ic_world.specs.Looks.{FewLooksWithin}
+use Rattle.ic_world.specs.Looks.{WithinBound}
 use Rattle.ic_world.specs.declared.collection.Collection.{Collection}
 use Rattle.ic_world.specs.declared.call.Command.TheVariants.{Range, Current}
 use Rattle.ic_world.specs.Family.{Family, objects_of}
@@ -28,7 +26,7 @@ module _ {A V K : Type 0} (cmp : K → K → Ordering) (key_of : A → V → K) 
   -- a range of such members
   abbrev Ranges : Family A V → List Place → Type 0
   Ranges w s = IsRange (bound_at cmp (key_of w.adapter) (objects_of w) min) (bound_at cmp (key_of w.adapter) (objects_of w) max) (runs_up cmp (key_of w.adapter) (objects_of w)) s places
-      × FewLooksWithin min first s × FewLooksWithin max second s
+      × WithinBound min first s × WithinBound max second s
 
   step_ranged : {t : Table Entry} {m : AnyCollection V} (w : Family A V) (c : ℕ) → Sees w c t m → is_tree (kind_in m) ≡ true → Ranges w (members_in t m) → Step cmp key_of w (Range c min max) (range places first second) w
   step_ranged {t} {m} w c sees tree replies =
@@ -39,7 +37,7 @@ module _ {A V K : Type 0} (cmp : K → K → Ordering) (key_of : A → V → K) 
   pub ranged : {t : Table Entry} {m : AnyCollection V} (adapter : A) (objects : Objects V) (ts : List (Table Entry)) (cs : List (Option (Collection V))) {w : Family A V} (c : ℕ) → family_of adapter objects ts cs ≡ w
       → Sees w c t m → is_tree (kind_in m) ≡ true
       → IsRange (bound_at cmp (key_of adapter) objects min) (bound_at cmp (key_of adapter) objects max) (runs_up cmp (key_of adapter) objects) (members_in t m) places
-      → FewLooksWithin min first (members_in t m) × FewLooksWithin max second (members_in t m) → Step cmp key_of w (Range c min max) (range places first second) w
+      → WithinBound min first (members_in t m) × WithinBound max second (members_in t m) → Step cmp key_of w (Range c min max) (range places first second) w
   ranged {t} {m} adapter objects ts cs {w} c view sees tree is looks = step_ranged w c sees tree (subst (λ v. Ranges v (members_in t m)) view (is, looks.0, looks.1))
 
 -- WHERE A CURSOR IS

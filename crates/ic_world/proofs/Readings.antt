@@ -4,8 +4,7 @@ use Rattle.std.specs.Prelude.{IsSome}
 use Rattle.std.proofs.lemmas.Option.{same_Some}
 use Rattle.std.proofs.lemmas.List.{length-map, get_or_past, get_or-map, map-set, set-get_or}
 use Rattle.std.proofs.Math.ListN.{get_or-map as map_at}
-use Rattle.ic_unsafe_ref.specs.Objects.{Objects}
-use Rattle.ic_link_ops.specs.Tables.{Table}
+use Rattle.ic_link_ops.specs.Prelude.{Objects, Table}
 use Rattle.ic_any_collection.specs.declared.entry.Entry.{Entry}
 use Rattle.ic_any_collection.specs.declared.any_table.AnyTable.{AnyTable}
 use Rattle.ic_world.specs.declared.field.WorldField.{WorldField}
@@ -13,7 +12,7 @@ use Rattle.ic_world.specs.declared.collection.Collection.{Collection}
 use Rattle.ic_any_collection.specs.declared.any_collection.AnyCollection.{AnyCollection}
 use Rattle.ic_any_collection.specs.AnyCollection.{Held}
 use Rattle.ic_world.specs.Collections.{its_field, its_members, having, with_members}
-use Rattle.ic_world.specs.Tables.{table, table_of, left_in, no_table, field_in, sequence, seen_as, shown_as, at, family_of}
+use Rattle.ic_world.specs.Tables.{table, table_of, left_in, no_table, field_in, sequence, seen_as, represented_as, at, family_of}
 use Rattle.ic_world.specs.LeftLinked.{IsKept}
 use Rattle.ic_world.specs.LinkedSets.{linked_in}
 use Rattle.ic_world.specs.Family.{Family, collection, field_of, linked_of}
@@ -85,14 +84,14 @@ module _ {V : Type 0} where
   with_is cs c k is m = ap (λ o. set cs c (having m o)) is
 
   module _ {A : Type 0} (adapter : A) (objects : Objects V) (ts : List (Table Entry)) (cs : List (Option (Collection V))) where
-    pub collection_at : (c : ℕ) → collection (family_of adapter objects ts cs) c ≡ shown_as ts (at cs c)
-    collection_at c = map_at (shown_as ts) cs c None
+    pub collection_at : (c : ℕ) → collection (family_of adapter objects ts cs) c ≡ represented_as ts (at cs c)
+    collection_at c = map_at (represented_as ts) cs c None
 
     pub collection_is : (c : ℕ) (k : Collection V) → at cs c ≡ Some k → collection (family_of adapter objects ts cs) c ≡ Some (seen_as k (sequence ts k))
-    collection_is c k e = collection_at c ∙ ap (shown_as ts) e
+    collection_is c k e = collection_at c ∙ ap (represented_as ts) e
 
     pub collection_not : (c : ℕ) → at cs c ≡ None → collection (family_of adapter objects ts cs) c ≡ None
-    collection_not c e = collection_at c ∙ ap (shown_as ts) e
+    collection_not c e = collection_at c ∙ ap (represented_as ts) e
 
     pub field_at : (f : ℕ) → f < length ts → field_of (family_of adapter objects ts cs) f ≡ field_in (table ts f)
     field_at f h = get_or-map field_in ts f no_table _ h

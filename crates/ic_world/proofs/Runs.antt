@@ -1,4 +1,4 @@
--- Steps, one behind the other.
+-- Steps, one after the other.
 use Rattle.std.proofs.Common.{◌≡◌, ◌∙◌, ℕ, ◌+◌, ◌<◌, ◌++◌, List, [], ◌∷◌, length, take, map, get_or, refl, sym, ap, subst}
 use Rattle.std.proofs.lemmas.List.{take_more, map-append}
 use Rattle.std.specs.declared.cmp.Ordering.{Ordering}
@@ -17,11 +17,11 @@ module _ {A V K : Type 0} (cmp : K → K → Ordering) (key_of : A → V → K) 
   runs_more (c ∷ calls) [] call reply old mid new run step = absurd run
 
   -- the same of a loop over the calls, which keeps its answers
-  pub runs_next : {X : Type 0} (told : X → Reply) (calls : List (Command V K)) (i : ℕ) (call : Command V K) (given : List X) (answer : X) (old mid new : Family A V)
-      → i < length calls → call ≡ get_or calls i call → Runs cmp key_of old (take i calls) (map told given) mid → Step cmp key_of mid call (told answer) new
-      → Runs cmp key_of old (take (i + 1) calls) (map told (given ++ answer ∷ [])) new
-  runs_next told calls i call given answer old mid new h is run step =
+  pub runs_next : {X : Type 0} (replied : X → Reply) (calls : List (Command V K)) (i : ℕ) (call : Command V K) (given : List X) (answer : X) (old mid new : Family A V)
+      → i < length calls → call ≡ get_or calls i call → Runs cmp key_of old (take i calls) (map replied given) mid → Step cmp key_of mid call (replied answer) new
+      → Runs cmp key_of old (take (i + 1) calls) (map replied (given ++ answer ∷ [])) new
+  runs_next replied calls i call given answer old mid new h is run step =
       let taken : take (i + 1) calls ≡ take i calls ++ call ∷ [] = take_more calls i call h ∙ ap (λ c. take i calls ++ c ∷ []) (sym is) in
-      subst (λ cs. Runs cmp key_of old cs (map told (given ++ answer ∷ [])) new) (sym taken)
-      (subst (λ rs. Runs cmp key_of old (take i calls ++ call ∷ []) rs new) (sym (map-append told given (answer ∷ [])))
-      (runs_more (take i calls) (map told given) call (told answer) old mid new run step))
+      subst (λ cs. Runs cmp key_of old cs (map replied (given ++ answer ∷ [])) new) (sym taken)
+      (subst (λ rs. Runs cmp key_of old (take i calls ++ call ∷ []) rs new) (sym (map-append replied given (answer ∷ [])))
+      (runs_more (take i calls) (map replied given) call (replied answer) old mid new run step))

@@ -1,16 +1,13 @@
 -- Calls that write no table: seeks, and an XOR list turned round.
-use Rattle.std.proofs.Common.{◌≡◌, true, false, Some, None, List, [], reverse, Result, Ok, Err, OnOk, OnErr, refl}
+use Rattle.std.proofs.Common.{◌≡◌, true, false, Some, None, List, [], reverse, Result, Ok, Err, refl}
 use Rattle.ic_unsafe_ref.specs.declared.place.Place.{Place}
 use Rattle.ic_link_ops.proofs.SequenceLemmas.{absent_reverse}
 use Rattle.ic_any_collection.specs.declared.kind.Kind.{Kind}
 use Rattle.ic_any_collection.specs.declared.kind.Kind.TheVariants as kind
 use Rattle.ic_any_collection.specs.declared.any_table.AnyTable.{AnyTable}
-use Rattle.ic_any_collection.specs.AnyTables.{look}
+use Rattle.ic_any_collection.specs.AnyTables.{table_in}
 use Rattle.ic_any_collection.specs.declared.any_collection.AnyCollection.{AnyCollection}
-use Rattle.ic_any_collection.specs.declared.edit_error.EditError.{EditError}
 use Rattle.ic_any_collection.specs.AnyCollection.{kind_in, cursor_in, members_in, has_pointer, is_xor, Keeps, Held, Alike}
-use Rattle.ic_any_collection.specs.Edits.{Moves}
-use Rattle.ic_any_collection.specs.Refusals.{refusal_in, refusal_of_kind}
 use Rattle.ic_any_collection.proofs.AllKinds.{lawful}
 use Rattle.ic_world.specs.declared.call.Refusal.{Refusal}
 use Rattle.ic_world.specs.declared.call.Refusal.TheVariants.{WrongKind}
@@ -20,8 +17,7 @@ use Rattle.ic_world.specs.declared.calls.seek.Seek.{Seek}
 use Rattle.ic_world.specs.Calls.{State, Call, done, moved, having, names, has_call, refusal_of}
 use Rattle.ic_world.specs.Seeks.{Sought}
 use Rattle.ic_world.specs.Turns.{Ran}
-use Rattle.ic_world.specs.Replies.{told}
-use Rattle.ic_world.proofs.Tested.{goes_on, stops, told_kind}
+use Rattle.ic_world.proofs.Tested.{goes_on, stops}
 use Rattle.ic_world.proofs.Turned.{turns_still, turns_kept, unmoved}
 
 -- no kind has both: a cursor made on a member from its place alone, and neighbors that must be told
@@ -31,24 +27,23 @@ pointer_not_xor kind.Doubly e h = cc
 pointer_not_xor kind.Xor e h = cc
 pointer_not_xor kind.Tree e h = cc
 
-pub ran_seek : {V M : Type 0} (K : Type 0) (links : AnyTable M) {m m' : AnyCollection V} (call : Seek) (p : Place) (result : Result Unit Refusal) → Held (look links) m → Sought call p (look links) m result m'
+pub ran_seek : {V M : Type 0} (K : Type 0) (links : AnyTable M) {m m' : AnyCollection V} (call : Seek) (p : Place) (result : Result Unit Refusal) → Held (table_in links) m → Sought call p (table_in links) m result m'
     → has_call {K = K} (seek call) (kind_in m) ≡ true
     → Ran (names {K = K} (seek call)) (refusal_of {K = K} (seek call)) (λ a s t. (done ≡ done) × (t ≡ moved s (Some p))) links links m m' result
 ran_seek K links call p (Ok a) held e is = record { tested = goes_on _ _ _ is e.tested; turned = turns_still (lawful links) e.moved (λ same. (refl, same)); unchanged = tt }
 ran_seek K links call p (Err r) held e is = record { tested = goes_on _ _ _ is e.tested; turned = tt; unchanged = (refl, rw e.unchanged (unmoved held)) }
 
 -- A CALL THAT THE KIND LACKS changes nothing
-pub ran_not : {V M K R : Type 0} {links : AnyTable M} {m : AnyCollection V} {names : List Place} {accepts : R → State → State → Type 0} (call : Call K) → Held (look links) m → has_call call (kind_in m) ≡ false
+pub ran_not : {V M K R : Type 0} {links : AnyTable M} {m : AnyCollection V} {names : List Place} {accepts : R → State → State → Type 0} (call : Call K) → Held (table_in links) m → has_call call (kind_in m) ≡ false
     → Ran names (refusal_of call) accepts links links m m (Err WrongKind)
 ran_not call held lacks = record { tested = stops _ _ _ lacks; turned = tt; unchanged = (refl, unmoved held) }
 
--- AN XOR LIST IS TURNED ROUND, or its kind lacks that
-pub turns_round : {V M : Type 0} (K : Type 0) (links : AnyTable M) {m m' : AnyCollection V} (r : Result Unit EditError) → refusal_in r ≡ refusal_of_kind (is_xor (kind_in m))
-    → OnOk r (Keeps (look links) m' (reverse (members_in (look links) m))) → Alike m m' → OnOk r (cursor_in m' ≡ None) → OnErr r (Moves (look links) m m' (cursor_in m))
-    → Ran [] (refusal_of {K = K} (whole Reverse)) (λ a s t. (done ≡ done) × (t ≡ having s (reverse s.members) None)) links links m m' (told r)
-turns_round K links (Ok a) tests kept alike null unchanged = record {
-  tested = told_kind {A = Unit} (Ok tt) _ tests;
+-- AN XOR LIST IS TURNED ROUND
+pub turns_round : {V M : Type 0} (K : Type 0) (links : AnyTable M) {m m' : AnyCollection V} → is_xor (kind_in m) ≡ true
+    → Keeps (table_in links) m' (reverse (members_in (table_in links) m)) → Alike m m' → cursor_in m' ≡ None
+    → Ran {R = Unit {0}} [] (refusal_of {K = K} (whole Reverse)) (λ a s t. (done ≡ done) × (t ≡ having s (reverse s.members) None)) links links m m' (Ok tt)
+turns_round K links can kept alike null = record {
+  tested = goes_on _ _ _ can refl;
   turned = turns_kept (lawful links) _ kept alike null (λ q out. absent_reverse q _ out) (λ same. (refl, same));
   unchanged = tt;
 }
-turns_round K links (Err e) tests kept alike null unchanged = record { tested = told_kind {A = Unit} (Err e) _ tests; turned = tt; unchanged = (refl, unchanged) }

@@ -5,19 +5,15 @@ use Rattle.std.proofs.lemmas.List.{length-map, get_or_past}
 use Rattle.std.specs.FinSet as set
 use Rattle.std.specs.FinSet.{contains-empty}
 use Rattle.std.specs.Ordering.{nat_cmp}
-use Rattle.ic_unsafe_ref.specs.declared.place.Place.{Place}
-use Rattle.ic_unsafe_ref.specs.Places.{index_of}
-use Rattle.ic_unsafe_ref.specs.Objects.{Objects}
-use Rattle.ic_link_ops.specs.Sequences.{Cut, join, last, but_last, IsAbsent, IsMember}
+use Rattle.ic_link_ops.specs.Prelude.{Place, index_of, Objects, Cut, join, last, but_last, IsAbsent, IsMember, Table}
 use Rattle.ic_link_ops.proofs.SequenceLemmas.{absent_left, absent_right, split_last}
-use Rattle.ic_link_ops.specs.Tables.{Table}
 use Rattle.ic_any_collection.specs.declared.entry.Entry.{Entry}
 use Rattle.ic_any_collection.specs.declared.kind.Kind.TheVariants.{Singly as SinglyKind}
 use Rattle.ic_any_collection.specs.Entries.{is_linked}
 use Rattle.ic_any_collection.specs.Kinds.{carries}
 use Rattle.ic_any_collection.specs.declared.any_collection.AnyCollection.{AnyCollection}
 use Rattle.ic_any_collection.specs.declared.any_collection.AnyCollection.TheVariants.{Singly, Doubly, Xor, Tree}
-use Rattle.ic_any_collection.specs.AnyCollection.{kind_in, cursor_in, StandsIn}
+use Rattle.ic_any_collection.specs.AnyCollection.{kind_in, cursor_in, IsCursorIn}
 use Rattle.ic_any_collection.proofs.AllKinds.{IsLawful, lawful, unlinked_absent}
 use Rattle.ic_world.specs.declared.collection.Collection.{Collection}
 use Rattle.ic_world.specs.declared.field.WorldField.{WorldField}
@@ -29,13 +25,13 @@ use Rattle.ic_world.proofs.Apart.{seen_at, are_apart}
 use Rattle.ic_world.proofs.Linked.{side, in_linked}
 use Rattle.ic_world.proofs.Readings.{field_at, linked_at}
 
--- the last member in front of a gap is one of all
+-- the last member before a gap is one of all
 last_member : (gap : Cut) (s : List Place) (p : Place) → join gap ≡ s → Some p ≡ last gap.front → IsMember p s
 last_member gap s p cut e out =
     (absent_right p (but_last gap.front) (p ∷ []) (subst (IsAbsent p) (split_last gap.front (sym e)) (absent_left p gap.front gap.back (subst (IsAbsent p) (sym cut) out)))).0 refl
 
 -- a cursor that stands in s is on a member
-stands_on : {V : Type 0} (m : AnyCollection V) (s : List Place) → StandsIn s m → (p : Place) → cursor_in m ≡ Some p → IsMember p s
+stands_on : {V : Type 0} (m : AnyCollection V) (s : List Place) → IsCursorIn s m → (p : Place) → cursor_in m ≡ Some p → IsMember p s
 stands_on (Singly l at) s h p e = last_member h.0 s p h.1 (sym e ∙ h.2)
 stands_on (Doubly l at) s h p e = last_member h.0 s p h.1 (sym e ∙ h.2)
 stands_on (Xor l at) s h p e = last_member h.0 s p h.1 (sym e ∙ h.2)

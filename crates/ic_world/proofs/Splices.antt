@@ -1,10 +1,7 @@
 -- A splice is two edits: the given collection is emptied, and then its members are put into the other.
 use Rattle.std.proofs.Common.{◌≡◌, ◌≢◌, ℕ, inl, inr, List, [], ◌∷◌, ◌++◌, set, Option, Some, None, refl, sym, ap, ◌∙◌, subst}
 use Rattle.std.proofs.lemmas.List.{get_or-set_other, set-get_or}
-use Rattle.ic_unsafe_ref.specs.declared.place.Place.{Place}
-use Rattle.ic_unsafe_ref.specs.Objects.{Objects}
-use Rattle.ic_link_ops.specs.Sequences.{Cut, join, splice, IsDisjoint}
-use Rattle.ic_link_ops.specs.Tables.{Table}
+use Rattle.ic_link_ops.specs.Prelude.{Place, Objects, Cut, join, splice, IsDisjoint, Table}
 use Rattle.ic_link_ops.proofs.SequenceLemmas.{disjoint_sym, disjoint_both}
 use Rattle.ic_any_collection.specs.declared.entry.Entry.{Entry}
 use Rattle.ic_any_collection.specs.declared.any_collection.AnyCollection.{AnyCollection}

@@ -11,7 +11,7 @@ use Rattle.ic_world.specs.declared.collections_by_number.Slot.{Slot}
 use Rattle.ic_world.specs.declared.collections_by_number.Numbered.{Numbered}
 use Rattle.ic_world.specs.Tables.{at}
 use Rattle.ic_world.specs.ByNumber.{items_of, live_in, disposed, lying, in_field, by_number, AreNumbered, IsTakenOut}
-use Rattle.ic_world.proofs.ByNumber.{Lists, shown, shows, get_written, get_other, get_front, get_last, some_not_none, number_apart, field_within, shown_is, Reads, list_is}
+use Rattle.ic_world.proofs.ByNumber.{Lists, shown, shows, get_written, get_other, get_front, get_last, some_not_none, number_apart, field_within, represented_is, Reads, list_is}
 
 module _ {V : Type 0} where
   -- ONE LESS in a field, where the last one moves to its index
@@ -161,8 +161,8 @@ module _ {V : Type 0} where
           ]
         ]
 
-    pub shown_less : by_number fewer after ≡ set (by_number ls ns) c None
-    shown_less = shows ls fewer ns after c None (length-set (set ns moved s) c gone ∙ length-set ns moved s) others (ap (shown fewer) slot_gone ∙ ap (in_field gone.field) nothing_disposed)
+    pub represented_less : by_number fewer after ≡ set (by_number ls ns) c None
+    represented_less = shows ls fewer ns after c None (length-set (set ns moved s) c gone ∙ length-set ns moved s) others (ap (shown fewer) slot_gone ∙ ap (in_field gone.field) nothing_disposed)
       where
         nothing_disposed : lying fewer gone.field gone.index ≡ None
         nothing_disposed = by (lying fewer gone.field gone.index) refl
@@ -193,7 +193,7 @@ module _ {V : Type 0} where
       by (Some x) e = absurd (let low = are.before s.field s.index x e in omega (arith, low, at_end))
 
       none : at cs c ≡ None
-      none = shown_is ls ns c s view ∙ ap (shown ls) is ∙ ap (in_field s.field) (by (lying ls s.field s.index) refl)
+      none = represented_is ls ns c s view ∙ ap (shown ls) is ∙ ap (in_field s.field) (by (lying ls s.field s.index) refl)
 
 -- the same, as a call reads the lists and writes them
 module _ {V M : Type 0} (lists : List (Vec (Numbered V) M)) (ns : List Slot) (c : ℕ) (s : Slot) (are : AreNumbered (map items_of lists) ns) (r : Reads (map items_of lists) ns c s)
@@ -208,7 +208,7 @@ module _ {V M : Type 0} (lists : List (Vec (Numbered V) M)) (ns : List Slot) (c 
     pub taken_numbered : AreNumbered (map items_of (set lists s.field v)) (set (set ns moved s) c gone)
     taken_numbered = subst (λ ls. AreNumbered ls (set (set ns moved s) c gone)) (sym (map-set items_of lists s.field v)) (numbered_less are c s r.slot r.one r.lies moved v.items out_of gone disposed_of)
 
-    pub taken_shown : {cs : List (Option (Collection V))} → by_number (map items_of lists) ns ≡ cs → by_number (map items_of (set lists s.field v)) (set (set ns moved s) c gone) ≡ set cs c None
-    taken_shown view =
-        ap (λ ls. by_number ls (set (set ns moved s) c gone)) (map-set items_of lists s.field v) ∙ shown_less are c s r.slot r.one r.lies moved v.items out_of gone disposed_of
+    pub taken_represented : {cs : List (Option (Collection V))} → by_number (map items_of lists) ns ≡ cs → by_number (map items_of (set lists s.field v)) (set (set ns moved s) c gone) ≡ set cs c None
+    taken_represented view =
+        ap (λ ls. by_number ls (set (set ns moved s) c gone)) (map-set items_of lists s.field v) ∙ represented_less are c s r.slot r.one r.lies moved v.items out_of gone disposed_of
         ∙ ap (λ x. set x c None) view

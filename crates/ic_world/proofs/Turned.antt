@@ -3,11 +3,8 @@ use Rattle.std.proofs.Common.{◌≡◌, ◌≢◌, ◌⊎◌, inl, inr, true, f
 use Rattle.std.proofs.lemmas.Bool.{cases_eq}
 use Rattle.std.specs.Ordering.{nat_cmp}
 use Rattle.std.specs.FinSet as set
-use Rattle.ic_unsafe_ref.specs.declared.place.Place.{Place}
-use Rattle.ic_unsafe_ref.specs.Places.{index_of}
+use Rattle.ic_link_ops.specs.Prelude.{Place, index_of, Cut, join, insert, remove, replace, IsAbsent, Table, IsCovered, IsUnlinked}
 use Rattle.ic_unsafe_ref.proofs.PlaceLemmas.{same_index}
-use Rattle.ic_link_ops.specs.Sequences.{Cut, join, insert, remove, replace, IsAbsent}
-use Rattle.ic_link_ops.specs.Tables.{Table, IsCovered, IsUnlinked}
 use Rattle.ic_link_ops.proofs.SequenceLemmas.{absent_both, absent_left, absent_right}
 use Rattle.ic_link_ops.proofs.StepLemmas.{released_stay, each_unlinked}
 use Rattle.ic_any_collection.specs.declared.entry.Entry.{Entry}
@@ -58,7 +55,7 @@ module _ {V : Type 0} {old new : Table Entry} {m m' : AnyCollection V} (law : Is
       turns_by (p ∷ []) (inr refl) (e.links.was, tt) (λ q out h. sym (e.links.others q out.0) ∙ h) e.leaves
       (λ q out. absent q (subst (λ s. IsAbsent q (p ∷ s)) (sym cut) out)) (linked_gains old new law law' p e.links.is e.links.others) accepts
 
-  -- p, the member behind the gap, is taken out
+  -- p, the member after the gap, is taken out
   pub turns_out : {cursor : Option Place} {Accepts : State → State → Type 0} (gap : Cut) (p : Place) → join gap ≡ members_in old m → (e : Takes old new m m' gap p cursor)
       → (state_of new m' ≡ taken (state_of old m) gap p cursor → Accepts (state_of old m) (state_of new m')) → Turns [] Accepts old new m m'
   turns_out gap p cut e accepts =
@@ -71,7 +68,7 @@ module _ {V : Type 0} {old new : Table Entry} {m m' : AnyCollection V} (law : Is
       turns_by [] (inl refl) tt (λ q out h. still q h) e.leaves
       (λ q out. absent q (subst (IsAbsent q) (sym cut) out)) (linked_loses old new law law' p e.links.is e.links.others) accepts
 
-  -- p takes the place of `out`, the member behind the gap
+  -- p takes the place of `out`, the member after the gap
   pub turns_swap : {cursor : Option Place} {Accepts : State → State → Type 0} (gap : Cut) (p out : Place) → IsCovered old p → join gap ≡ members_in old m → (e : Swaps old new m m' gap p out cursor)
       → (state_of new m' ≡ swapped (state_of old m) gap p out cursor → Accepts (state_of old m) (state_of new m')) → Turns (p ∷ []) Accepts old new m m'
   turns_swap gap p out covered cut e accepts =

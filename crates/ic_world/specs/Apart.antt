@@ -1,7 +1,6 @@
 -- That collections share no member, and have none but objects.
 use Rattle.std.specs.Prelude.{◌≡◌, ◌≢◌, ℕ, Some}
-use Rattle.ic_link_ops.specs.Sequences.{IsDistinct, IsDisjoint}
-use Rattle.ic_link_ops.specs.PlacedObjects.{ArePlaced}
+use Rattle.ic_link_ops.specs.Prelude.{IsDistinct, IsDisjoint, ArePlaced}
 use Rattle.ic_world.specs.Family.{Family, Sequence, collection, objects_of}
 
 module _ {A V : Type 0} where

@@ -1,9 +1,7 @@
 -- The collections of a world by number and by field: each live one lies in a list of its field, and a slot under its number says where.
 use Rattle.std.specs.Prelude.{◌≡◌, ◌≢◌, ℕ, ◌<◌, List, [], ◌∷◌, ◌++◌, length, map, Option, Some, None, slice_index_or, slice_get, slice_set}
 use Rattle.std.specs.declared.vec.Vec.{Vec}
-use Rattle.ic_unsafe_ref.specs.declared.place.Place.{Place}
-use Rattle.ic_link_ops.specs.Tables.{Table}
-use Rattle.ic_link_ops.specs.Sequences.{IsMember}
+use Rattle.ic_link_ops.specs.Prelude.{Place, IsMember, Table}
 use Rattle.ic_any_collection.specs.declared.entry.Entry.{Entry}
 use Rattle.ic_any_collection.specs.declared.any_collection.AnyCollection.{AnyCollection}
 use Rattle.ic_any_collection.specs.AnyCollection.{members_in, Held}
@@ -36,7 +34,7 @@ in_field f (Some n) = Some (record { field = f; members = n.members })
 abbrev pub in_slot : {V : Type 0} → List (List (Numbered V)) → Slot → Option (Collection V)
 in_slot ls s = in_field s.field (lying ls s.field s.index)
 
--- the collections by number, as their slots show them
+-- the collections by number, as their slots represent them
 abbrev pub by_number : {V : Type 0} → List (List (Numbered V)) → List Slot → List (Option (Collection V))
 by_number ls ns = map (in_slot ls) ns
 
@@ -78,7 +76,7 @@ Enters old f n (Some s) new = IsEntered old f n s new
 abbrev pub EachHeld : {V : Type 0} → Table Entry → List (Numbered V) → Type 0
 EachHeld {V} t list = (i : ℕ) (n : Numbered V) → slice_get list i ≡ Some n → Held t n.members
 
--- and shows the place as a member of one of them
+-- and represents the place as a member of one of them
 pub record SomeHas {V : Type 0} (t : Table Entry) (p : Place) (list : List (Numbered V)) : Type 0 where
   pub index : ℕ
   pub one : Numbered V

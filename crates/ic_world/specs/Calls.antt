@@ -3,24 +3,22 @@ use Rattle.std.specs.Prelude.{◌≡◌, ℕ, Bool, true, false, not, is_some, r
 use Rattle.std.specs.declared.cmp.Ordering.{Ordering}
 use Rattle.std.specs.Ordering.{nat_cmp}
 use Rattle.std.specs.FinSet as set
-use Rattle.ic_unsafe_ref.specs.declared.place.Place.{Place}
-use Rattle.ic_unsafe_ref.specs.Places.{index_of}
-use Rattle.ic_unsafe_ref.specs.Objects.{Objects}
-use Rattle.ic_link_ops.specs.Sequences.{Cut, join, insert, remove, replace, first, last, but_last, IsAfter, IsBefore}
+use Rattle.ic_link_ops.specs.Prelude.{Place, index_of, Objects, Cut, join, insert, remove, replace, first, last, but_last, IsAfter, IsBefore}
 use Rattle.ic_any_collection.specs.declared.kind.Kind.{Kind}
 use Rattle.ic_rbtree.specs.declared.keys.key_adapter.Bound.{Bound}
 use Rattle.ic_rbtree.specs.Borders.{Finds, IsBorder, IsLowerBorder, IsUpperBorder, less_at}
 use Rattle.ic_rbtree.specs.Comparing.{compared, compared_within, order_of, own_order}
-use Rattle.ic_any_collection.specs.AnyCollection.{has_before, is_list, is_two_way_list, is_singly, is_xor, is_tree, has_pointer}
+use Rattle.ic_any_collection.specs.AnyCollection.{has_before, is_xor, is_tree, has_pointer}
+use Rattle.ic_any_collection.specs.declared.gap.Gap.{Gap}
+use Rattle.ic_any_collection.specs.declared.gap.Gap.TheVariants.{Front, Back, Before, After}
+use Rattle.ic_any_collection.specs.Gaps as gaps
+pub use Rattle.ic_any_collection.specs.Gaps.{IsGapAt, rests, onward, onto}
 use Rattle.ic_any_collection.specs.Keyed.{IsVacantFor}
-use Rattle.ic_world.specs.Looks.{FewLooks, FewLooksWithin}
-pub use Rattle.ic_any_collection.specs.Refusals.{asks}
+use Rattle.ic_world.specs.Looks.{WithinComparisonBound, WithinBound}
 use Rattle.ic_world.specs.declared.call.Refusal.{Refusal}
 use Rattle.ic_world.specs.declared.call.Refusal.TheVariants.{WrongKind, NothingThere, NotAMember, NotANeighbour, AlreadyLinked}
 pub use Rattle.ic_world.specs.declared.calls.one_call.Call.{Call}
 use Rattle.ic_world.specs.declared.calls.one_call.Call.TheVariants as one
-use Rattle.ic_world.specs.declared.calls.one_call.Where.{Where}
-use Rattle.ic_world.specs.declared.calls.one_call.Where.TheVariants.{Front, Back, Before, After}
 use Rattle.ic_world.specs.declared.calls.one_call.Direction.{Direction}
 use Rattle.ic_world.specs.declared.calls.one_call.Direction.TheVariants.{Next, Prev}
 use Rattle.ic_world.specs.declared.calls.seek.Seek.{Seek}
@@ -28,7 +26,7 @@ use Rattle.ic_world.specs.declared.calls.seek.Seek.TheVariants.{Null, On, With}
 use Rattle.ic_world.specs.declared.calls.whole.Whole.TheVariants.{Clear, Reverse}
 use Rattle.ic_world.specs.declared.calls.search.Search.TheVariants.{Find, LowerBound, UpperBound}
 use Rattle.ic_world.specs.declared.calls.insertion.Insertion.TheVariants.{Insert, CursorInsert}
-use Rattle.ic_world.specs.Family.{same_position, is_among, before_or, behind_of, next_of}
+use Rattle.ic_world.specs.Family.{same_position, is_among, before_or, after_of, next_of}
 
 -- A COLLECTION AS ITS CALLS SEE IT: its kind, its members in order, the member that its cursor is on, and the linked places of its field
 pub record State : Type 0 where
@@ -52,6 +50,11 @@ pub data Reply : Type 0 where
   entry : Bool → Place → ℕ → Reply
   refused : Refusal → Reply
 
+-- the refusal r unless the test holds, and then the rest of the tests
+abbrev pub asks : {R : Type 0} → Bool → R → Option R → Option R
+asks true r rest = rest
+asks false r rest = Some r
+
 -- an object, or none
 abbrev pub object_or_nothing : Option Place → Reply
 object_or_nothing None = nothing
@@ -61,8 +64,8 @@ object_or_nothing (Some p) = object p
 abbrev pub is_linked_in : State → Place → Bool
 is_linked_in s p = set.contains s.linked (index_of p)
 
--- the cursor is elsewhere; the members are others too; p goes into the gap; p, the member behind the gap, goes out; p takes the place of
--- `out`, the member behind the gap
+-- the cursor is elsewhere; the members are others too; p goes into the gap; p, the member after the gap, goes out; p takes the place of
+-- `out`, the member after the gap
 abbrev pub moved : State → Option Place → State
 moved s cursor = record s { cursor = cursor }
 
@@ -99,17 +102,9 @@ named_if (Some p) = p ∷ []
 module _ {K : Type 0} where
   -- WHICH KINDS HAVE A CALL
   abbrev pub has_call : Call K → Kind → Bool
-  has_call (one.Put Front p) k = is_list k
-  has_call (one.Put Back p) k = is_two_way_list k
-  has_call (one.Put Before p) k = has_before k
-  has_call (one.Put After p) k = true
-  has_call (one.Take Front) k = is_list k
-  has_call (one.Take Back) k = is_two_way_list k
-  has_call (one.Take Before) k = has_before k
-  has_call (one.Take After) k = is_singly k
-  has_call (one.Swap Before p) k = has_before k
-  has_call (one.Swap After p) k = is_singly k
-  has_call (one.Swap _ p) k = false
+  has_call (one.Put at p) k = gaps.can_insert at k
+  has_call (one.Take at) k = gaps.can_remove at k
+  has_call (one.Swap at p) k = gaps.can_replace at k
   has_call (one.Move Next) k = true
   has_call (one.Move Prev) k = has_before k
   has_call (one.Seek Null) k = true
@@ -132,26 +127,12 @@ module _ {K : Type 0} where
   names (one.Enter key p) = p ∷ []
   names _ = []
 
--- WHERE a call is meant for: the gap in front of all, behind all, in front of the cursor, or behind it; and where the cursor is then
-abbrev pub IsAt : Where → Option Place → Cut → Type 0
-IsAt Front cursor gap = IsAfter gap None
-IsAt Back cursor gap = IsBefore gap None
-IsAt Before cursor gap = IsBefore gap cursor
-IsAt After cursor gap = IsAfter gap cursor
-
-abbrev pub rests : Where → Option Place → Option Place
-rests Front cursor = None
-rests Back cursor = None
-rests Before cursor = cursor
-rests After cursor = cursor
-
--- the gap whose next member a call means: at the back, the one in front of the last member
-abbrev pub IsFrontOf : Where → State → Cut → Type 0
-IsFrontOf Back s gap = gap.front ≡ but_last s.members
-IsFrontOf at s gap = IsAt at s.cursor gap
+-- the gap whose next member a call means: at the back, the one before the last member
+abbrev pub IsFrontOf : Gap → State → Cut → Type 0
+IsFrontOf at s gap = gaps.IsFrontOf at s.members s.cursor gap
 
 -- the member itself
-abbrev pub member_at : Where → State → Option Place
+abbrev pub member_at : Gap → State → Option Place
 member_at Front s = first s.members
 member_at Back s = last s.members
 member_at Before s = s.cursor
@@ -159,7 +140,7 @@ member_at After s = next_of s.members s.cursor
 
 -- the member beside p
 abbrev pub beside_of : Direction → List Place → Place → Option Place
-beside_of Next s p = behind_of s p
+beside_of Next s p = after_of s p
 beside_of Prev s p = before_or None s p
 
 abbrev pub asks_unlinked : State → Place → Option Refusal
@@ -187,27 +168,19 @@ module _ {K : Type 0} where
   refusal_of call s = asks (has_call call s.kind) WrongKind (own_refusal call s)
 
 -- WHAT AN ACCEPTED CALL answers and leaves. AN OBJECT IS PUT into a gap
-abbrev pub PutReplies : Where → Place → State → Reply → State → Type 0
-PutReplies at p s reply t = (reply ≡ done) × AtGap s (λ gap. IsAt at s.cursor gap × (t ≡ put s gap p (rests at s.cursor)))
+abbrev pub PutReplies : Gap → Place → State → Reply → State → Type 0
+PutReplies at p s reply t = (reply ≡ done) × AtGap s (λ gap. IsGapAt at s.cursor gap × (t ≡ put s gap p (rests at s.cursor)))
 
 -- A MEMBER IS TAKEN OUT, if there is one. A cursor that was on it goes on to the next
-abbrev pub onward : Where → Option Place → Cut → Option Place
-onward Before cursor gap = first (drop 1 gap.back)
-onward at cursor gap = rests at cursor
-
 abbrev pub without : State → Cut → Option Place → Option Place → State
 without s gap cursor None = moved s cursor
 without s gap cursor (Some p) = taken s gap p cursor
 
-abbrev pub TakeReplies : Where → State → Reply → State → Type 0
+abbrev pub TakeReplies : Gap → State → Reply → State → Type 0
 TakeReplies at s reply t = AtGap s (λ gap. IsFrontOf at s gap × (reply ≡ object_or_nothing (first gap.back)) × (t ≡ without s gap (onward at s.cursor gap) (first gap.back)))
 
 -- A MEMBER IS SWAPPED for p. A cursor that was on it is on p
-abbrev pub onto : Where → Option Place → Place → Option Place
-onto Before cursor p = Some p
-onto at cursor p = rests at cursor
-
-abbrev pub SwapReplies : Where → Place → State → Reply → State → Type 0
+abbrev pub SwapReplies : Gap → Place → State → Reply → State → Type 0
 SwapReplies at p s reply t = AtGap s (λ gap. IsFrontOf at s gap × (out : Place) × (first gap.back ≡ Some out) × (reply ≡ object out) × (t ≡ swapped s gap p out (onto at s.cursor p)))
 
 -- THE CURSOR MOVES
@@ -217,8 +190,8 @@ MoveReplies Prev s reply t = AtGap s (λ gap. IsBefore gap s.cursor × (reply �
 
 -- A SEARCH answers a member or none, with the looks of a descent, and puts the cursor there
 abbrev pub SearchReplies : (Option Place → Type 0) → (ℕ → Type 0) → State → Reply → State → Type 0
-SearchReplies IsFound AreFew s (found position looks) t = IsFound position × AreFew looks × (t ≡ moved s position)
-SearchReplies IsFound AreFew s _ t = ⊥
+SearchReplies IsFound WithinBoundFor s (found position looks) t = IsFound position × WithinBoundFor looks × (t ≡ moved s position)
+SearchReplies IsFound WithinBoundFor s _ t = ⊥
 
 -- `cmp`: the order of the keys. `key_of`: the key of a value. `objects`: the values by place
 module _ {V K : Type 0} (cmp : K → K → Ordering) (key_of : V → K) (objects : Objects V) where
@@ -232,16 +205,16 @@ module _ {V K : Type 0} (cmp : K → K → Ordering) (key_of : V → K) (objects
   abbrev pub own_at : Place → Place → Ordering
   own_at p = compared (own_order cmp key_of objects p) objects
 
-  -- AN OBJECT IS PUT BY ITS KEY: behind members with that key
+  -- AN OBJECT IS PUT BY ITS KEY: after members with that key
   abbrev pub InsertionReplies : Place → Option Place → State → Reply → State → Type 0
-  InsertionReplies p cursor s (looked looks) t = AtGap s (λ gap. IsBorder (less_at (own_at p)) gap × (t ≡ put s gap p cursor)) × FewLooks looks s.members
+  InsertionReplies p cursor s (looked looks) t = AtGap s (λ gap. IsBorder (less_at (own_at p)) gap × (t ≡ put s gap p cursor)) × WithinComparisonBound looks s.members
   InsertionReplies p cursor s _ t = ⊥
 
   -- AN ENTRY is occupied by a member with the key; or vacant, at the gap where it would stand, and the object goes there if it is unlinked
   abbrev pub EntryReplies : K → Place → State → Reply → State → Type 0
-  EntryReplies key p s (entry true q looks) t = Finds (key_at key) s.members (Some q) × FewLooks looks s.members × (t ≡ moved s (Some q))
+  EntryReplies key p s (entry true q looks) t = Finds (key_at key) s.members (Some q) × WithinComparisonBound looks s.members × (t ≡ moved s (Some q))
   EntryReplies key p s (entry false q looks) t =
-      (q ≡ p) × (is_linked_in s p ≡ false) × FewLooks looks s.members × AtGap s (λ gap. IsVacantFor (key_at key) gap × (t ≡ put s gap p (Some p)))
+      (q ≡ p) × (is_linked_in s p ≡ false) × WithinComparisonBound looks s.members × AtGap s (λ gap. IsVacantFor (key_at key) gap × (t ≡ put s gap p (Some p)))
   EntryReplies key p s (refused AlreadyLinked) t = (is_linked_in s p ≡ true) × AtGap s (IsVacantFor (key_at key)) × (t ≡ s)
   EntryReplies key p s _ t = ⊥
 
@@ -255,9 +228,9 @@ module _ {V K : Type 0} (cmp : K → K → Ordering) (key_of : V → K) (objects
   Replies (one.Seek (With way p beside)) s reply t = (reply ≡ done) × (t ≡ moved s (Some p))
   Replies (one.Whole Clear) s reply t = (reply ≡ done) × (t ≡ cleared s)
   Replies (one.Whole Reverse) s reply t = (reply ≡ done) × (t ≡ having s (reverse s.members) None)
-  Replies (one.Search (Find key)) s reply t = SearchReplies (Finds (key_at key) s.members) (λ n. FewLooks n s.members) s reply t
-  Replies (one.Search (LowerBound bound)) s reply t = SearchReplies (IsLowerBorder (bound_at bound) s.members) (λ n. FewLooksWithin bound n s.members) s reply t
-  Replies (one.Search (UpperBound bound)) s reply t = SearchReplies (IsUpperBorder (bound_at bound) s.members) (λ n. FewLooksWithin bound n s.members) s reply t
+  Replies (one.Search (Find key)) s reply t = SearchReplies (Finds (key_at key) s.members) (λ n. WithinComparisonBound n s.members) s reply t
+  Replies (one.Search (LowerBound bound)) s reply t = SearchReplies (IsLowerBorder (bound_at bound) s.members) (λ n. WithinBound bound n s.members) s reply t
+  Replies (one.Search (UpperBound bound)) s reply t = SearchReplies (IsUpperBorder (bound_at bound) s.members) (λ n. WithinBound bound n s.members) s reply t
   Replies (one.Insertion (Insert p)) s reply t = InsertionReplies p (Some p) s reply t
   Replies (one.Insertion (CursorInsert p)) s reply t = InsertionReplies p s.cursor s reply t
   Replies (one.Enter key p) s reply t = EntryReplies key p s reply t

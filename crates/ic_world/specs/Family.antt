@@ -4,10 +4,7 @@ use Rattle.std.specs.List.{list_any}
 use Rattle.std.specs.Ordering.{nat_cmp}
 use Rattle.std.specs.FinSet as set
 use Rattle.std.specs.FinMap as map
-use Rattle.ic_unsafe_ref.specs.declared.place.Place.{Place}
-use Rattle.ic_unsafe_ref.specs.Places.{index_of}
-use Rattle.ic_unsafe_ref.specs.Objects.{Objects}
-use Rattle.ic_link_ops.specs.Sequences.{first}
+use Rattle.ic_link_ops.specs.Prelude.{Place, index_of, Objects, first}
 use Rattle.ic_any_collection.specs.declared.kind.Kind.{Kind}
 use Rattle.ic_any_collection.specs.declared.kind.Kind.TheVariants.{Singly}
 use Rattle.ic_any_collection.specs.Kinds.{number_of}
@@ -48,19 +45,19 @@ abbrev pub is_among : Place → List Place → Bool
 is_among p [] = false
 is_among p (x ∷ s) = cond (same_place x p) true (is_among p s)
 
--- the member in front of p, `b` where p is the first; the one behind it, none at the back
+-- the member before p, `b` where p is the first; the one after it, none at the back
 abbrev pub before_or : Option Place → List Place → Place → Option Place
 before_or b [] p = None
 before_or b (x ∷ s) p = cond (same_place x p) b (before_or (Some x) s p)
 
-abbrev pub behind_of : List Place → Place → Option Place
-behind_of [] p = None
-behind_of (x ∷ s) p = cond (same_place x p) (first s) (behind_of s p)
+abbrev pub after_of : List Place → Place → Option Place
+after_of [] p = None
+after_of (x ∷ s) p = cond (same_place x p) (first s) (after_of s p)
 
--- the member behind a position, at null the first one
+-- the member after a position, at null the first one
 abbrev pub next_of : List Place → Option Place → Option Place
 next_of s None = first s
-next_of s (Some p) = behind_of s p
+next_of s (Some p) = after_of s p
 
 -- the collection is of that field and has that member
 abbrev pub has_member_in : ℕ → Place → Option Sequence → Bool

@@ -1,10 +1,7 @@
 -- Places that are linked and no member's, as `fast_clear` leaves them.
 use Rattle.std.specs.Prelude.{◌≡◌, ℕ, Bool, true, false, List, map, Option, Some, slice_index_or}
 use Rattle.std.specs.FinSet as set
-use Rattle.ic_unsafe_ref.specs.declared.place.Place.{Place}
-use Rattle.ic_unsafe_ref.specs.Places.{index_of}
-use Rattle.ic_unsafe_ref.specs.Objects.{Objects}
-use Rattle.ic_link_ops.specs.Sequences.{IsAbsent}
+use Rattle.ic_link_ops.specs.Prelude.{Place, index_of, Objects, IsAbsent}
 use Rattle.ic_world.specs.declared.collection.Collection.{Collection}
 use Rattle.ic_world.specs.declared.field.WorldField.{WorldField}
 use Rattle.ic_world.specs.Family.{Family, Sequence, collection, linked_of}

@@ -8,7 +8,7 @@ use Rattle.ic_world.specs.declared.collection.Collection.{Collection}
 use Rattle.ic_world.specs.Collections.{with_members}
 use Rattle.ic_world.specs.contracts.collections_by_number.CollectionsByNumber.{the_row}
 
--- once the borrow r ends, collection c has the members that were left behind r
+-- once the borrow r ends, collection c has the members that were left after r
 module _ (T M : RattleType) (alloc : Ghosts M.Denot) (s : MutBor (List (Option (Collection T.Denot)))) (c : ℕ) where
   abbrev pub LendsMembers : MutBor (AnyCollection T.Denot) → Fml
   LendsMembers r = Lends (the_row T M alloc) (members_row T) s r (with_members s.now c)

@@ -5,13 +5,13 @@ use Rattle.ic_rbtree.specs.declared.keys.key_adapter.Bound.{Bound}
 use Rattle.ic_rbtree.specs.declared.keys.key_adapter.Bound.TheVariants.{Included, Excluded, Unbounded}
 use Rattle.ic_rbtree.specs.declared.keys.probe.KeyProbe.{KeyProbe}
 use Rattle.ic_rbtree.specs.KeyProbe.{looks_of}
-pub use Rattle.ic_rbtree.specs.Comparing.{FewLooks}
+pub use Rattle.ic_rbtree.specs.Comparing.{WithinComparisonBound}
 
 -- SO FEW LOOKS as a search within this bound makes in a tree with the members s: none by `Unbounded`
-abbrev pub FewLooksWithin : {B : Type 0} → Bound B → ℕ → List Place → Type 0
-FewLooksWithin (Included _) looks s = FewLooks looks s
-FewLooksWithin (Excluded _) looks s = FewLooks looks s
-FewLooksWithin Unbounded looks s = looks ≡ 0
+abbrev pub WithinBound : {B : Type 0} → Bound B → ℕ → List Place → Type 0
+WithinBound (Included _) looks s = WithinComparisonBound looks s
+WithinBound (Excluded _) looks s = WithinComparisonBound looks s
+WithinBound Unbounded looks s = looks ≡ 0
 
 -- how often the probe of a bound was asked: never, where there is none
 abbrev pub looks_within : {A V K : Type 0} → Bound (KeyProbe A V K) → ℕ

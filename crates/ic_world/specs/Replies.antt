@@ -1,11 +1,9 @@
 -- The replies that the results of methods stand for.
-use Rattle.std.specs.Prelude.{Bool, ℕ, Option, Some, None, Result, Ok, Err}
+use Rattle.std.specs.Prelude.{Bool, true, false, ℕ, Option, Some, None, Result, Ok, Err}
 use Rattle.ic_unsafe_ref.specs.declared.place.Place.{Place}
-use Rattle.ic_any_collection.specs.declared.edit_error.EditError.{EditError}
-use Rattle.ic_any_collection.specs.declared.edit_error.EditError.TheVariants as edit
 use Rattle.ic_any_collection.specs.declared.kind.Kind.{Kind}
 use Rattle.ic_world.specs.declared.call.Refusal.{Refusal}
-use Rattle.ic_world.specs.declared.call.Refusal.TheVariants.{WrongKind, NothingThere, AlreadyLinked}
+use Rattle.ic_world.specs.declared.call.Refusal.TheVariants.{AlreadyLinked}
 use Rattle.ic_world.specs.Calls.{Reply, entry, refused}
 use Rattle.ic_world.specs.Family.{Sequence}
 
@@ -24,20 +22,10 @@ abbrev pub entry_or_linked : Option (Bool × Place × ℕ) → Reply
 entry_or_linked (Some e) = entry e.0 e.1 e.2
 entry_or_linked None = refused AlreadyLinked
 
--- the refusal that a collection's own one is to a world, and so the result of a call
-abbrev pub refusal_by : EditError → Refusal
-refusal_by edit.WrongKind = WrongKind
-refusal_by edit.NothingThere = NothingThere
-refusal_by edit.AlreadyLinked = AlreadyLinked
-
-abbrev pub told : {A : Type 0} → Result A EditError → Result A Refusal
-told (Ok a) = Ok a
-told (Err e) = Err (refusal_by e)
-
--- what was done with so many looks, or refused
-abbrev pub with_looks : ℕ → Result Unit Refusal → Result ℕ Refusal
-with_looks looks (Ok _) = Ok looks
-with_looks looks (Err r) = Err r
+-- what was done with so many looks, where the object's link was acquired
+abbrev pub looked_if : ℕ → Bool → Result ℕ Refusal
+looked_if looks true = Ok looks
+looked_if looks false = Err AlreadyLinked
 
 -- the field and the kind of a collection that is there
 abbrev pub field_and_kind : Option Sequence → Option (ℕ × Kind)

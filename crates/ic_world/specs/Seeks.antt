@@ -1,7 +1,6 @@
 -- A seek, which writes no table.
 use Rattle.std.specs.Prelude.{◌≡◌, Some, Result, OnOk, OnErr}
-use Rattle.ic_unsafe_ref.specs.declared.place.Place.{Place}
-use Rattle.ic_link_ops.specs.Tables.{Table}
+use Rattle.ic_link_ops.specs.Prelude.{Place, Table}
 use Rattle.ic_any_collection.specs.declared.entry.Entry.{Entry}
 use Rattle.ic_any_collection.specs.declared.any_collection.AnyCollection.{AnyCollection}
 use Rattle.ic_any_collection.specs.Edits.{Moves}

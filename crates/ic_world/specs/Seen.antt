@@ -1,7 +1,6 @@
 -- What a call that only reads finds under the number of a collection.
 use Rattle.std.specs.Prelude.{◌≡◌, ℕ, Some}
-use Rattle.ic_link_ops.specs.Tables.{Table}
-use Rattle.ic_link_ops.specs.PlacedObjects.{ArePlaced}
+use Rattle.ic_link_ops.specs.Prelude.{Table, ArePlaced}
 use Rattle.ic_any_collection.specs.declared.entry.Entry.{Entry}
 use Rattle.ic_any_collection.specs.declared.any_collection.AnyCollection.{AnyCollection}
 use Rattle.ic_any_collection.specs.AnyCollection.{members_in, Held}

@@ -1,7 +1,6 @@
 -- THE CALLS OF SEVERAL COLLECTIONS: one is opened, hands a part out to one more, or is put into another.
 use Rattle.std.specs.Prelude.{◌≡◌, ℕ, Bool, true, not, List, [], length, Option, Some, None, MatchOption, nat_eq}
-use Rattle.ic_unsafe_ref.specs.declared.place.Place.{Place}
-use Rattle.ic_link_ops.specs.Sequences.{Cut, join, splice, IsAfter, IsBefore}
+use Rattle.ic_link_ops.specs.Prelude.{Place, Cut, join, splice, IsAfter, IsBefore}
 use Rattle.ic_any_collection.specs.declared.kind.Kind.{Kind}
 use Rattle.ic_any_collection.specs.Kinds.{carries}
 use Rattle.ic_any_collection.specs.AnyCollection.{is_list, is_two_way_list}

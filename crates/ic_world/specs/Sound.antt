@@ -1,9 +1,7 @@
 -- WHAT ALWAYS HOLDS of a world: it holds of a new one, and each call keeps it.
 use Rattle.std.specs.Prelude.{◌≡◌, ◌<◌, ◌^◌, ℕ, true, Some}
 use Rattle.std.specs.FinSet as set
-use Rattle.ic_unsafe_ref.specs.declared.place.Place.{Place}
-use Rattle.ic_unsafe_ref.specs.Places.{index_of}
-use Rattle.ic_link_ops.specs.Sequences.{IsMember}
+use Rattle.ic_link_ops.specs.Prelude.{Place, index_of, IsMember}
 use Rattle.ic_any_collection.specs.Kinds.{carries}
 use Rattle.ic_world.specs.Family.{Family, Sequence, collection, field_of, linked_of, has_field, is_placed}
 use Rattle.ic_world.specs.Apart.{AreApart}

@@ -1,8 +1,6 @@
--- Splices behind a cursor, and in front of it.
+-- Splices after a cursor, and before it.
 use Rattle.std.specs.Prelude.{◌≡◌, ◌≢◌, ℕ, Bool, true, false, List, [], Option, Some, None, length, ◌<◌, slice_set}
-use Rattle.ic_unsafe_ref.specs.declared.place.Place.{Place}
-use Rattle.ic_link_ops.specs.Sequences.{Cut, IsAfter, IsBefore, IsDisjoint}
-use Rattle.ic_link_ops.specs.Tables.{Table}
+use Rattle.ic_link_ops.specs.Prelude.{Place, Cut, IsAfter, IsBefore, IsDisjoint, Table}
 use Rattle.ic_any_collection.specs.declared.entry.Entry.{Entry}
 use Rattle.ic_any_collection.specs.declared.kind.Kind.{Kind}
 use Rattle.ic_any_collection.specs.declared.any_collection.AnyCollection.{AnyCollection}
@@ -11,7 +9,7 @@ use Rattle.ic_any_collection.specs.Edits.{AtGap, PutsAll}
 use Rattle.ic_world.specs.declared.collection.Collection.{Collection}
 use Rattle.ic_world.specs.Tables.{table, at}
 
--- in front of the cursor, if `before`, and else behind it
+-- before the cursor, if `before`, and else after it
 abbrev pub IsBesideOf : Bool → Cut → Option Place → Type 0
 IsBesideOf true = IsBefore
 IsBesideOf false = IsAfter

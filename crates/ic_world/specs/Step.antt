@@ -1,60 +1,23 @@
 -- ONE CALL OF A WORLD, as a step of its family, and a run of calls.
-use Rattle.std.specs.Prelude.{◌≡◌, ◌<◌, ◌^◌, ℕ, not, reverse, List, [], ◌∷◌, ◌++◌, length, Option, Some, None, MatchOption}
+use Rattle.std.specs.Prelude.{◌≡◌, ◌<◌, ◌^◌, ℕ, not, reverse, List, [], ◌∷◌, ◌++◌, length, Option, Some, None}
 use Rattle.std.specs.List.{list_all}
 use Rattle.std.specs.declared.cmp.Ordering.{Ordering}
 use Rattle.std.specs.FinSet as set
 use Rattle.std.specs.FinMap as map
-use Rattle.ic_unsafe_ref.specs.Places.{index_of}
-use Rattle.ic_link_ops.specs.Sequences.{IsAfter, IsBefore}
+use Rattle.ic_link_ops.specs.Prelude.{index_of, IsAfter, IsBefore}
 use Rattle.ic_rbtree.specs.declared.keys.key_adapter.Bound.{Bound}
 use Rattle.ic_rbtree.specs.Ranges.{runs_up, IsRange}
 use Rattle.ic_any_collection.specs.AnyCollection.{has_before, is_list, is_two_way_list, is_tree}
-use Rattle.ic_world.specs.Looks.{FewLooksWithin}
+use Rattle.ic_world.specs.Looks.{WithinBound}
 use Rattle.ic_world.specs.declared.call.Refusal.{Refusal}
 use Rattle.ic_world.specs.declared.call.Refusal.TheVariants.{NoSuchField, NoSuchObject, WrongKind, IsMember, StillLinked, TooManyObjects, OutOfMemory}
 use Rattle.ic_world.specs.declared.call.Command.{Command}
 use Rattle.ic_world.specs.declared.call.Command.TheVariants as call
 use Rattle.ic_world.specs.declared.calls.one_call.Call.{Call}
-use Rattle.ic_world.specs.declared.calls.one_call.Call.TheVariants as one
-use Rattle.ic_world.specs.declared.calls.one_call.Where.TheVariants as at
-use Rattle.ic_world.specs.declared.calls.one_call.Direction.TheVariants.{Next, Prev}
-use Rattle.ic_world.specs.declared.calls.seek.Seek.TheVariants.{Null, On, With}
-use Rattle.ic_world.specs.declared.calls.whole.Whole.TheVariants.{Clear, Reverse}
-use Rattle.ic_world.specs.declared.calls.search.Search.TheVariants.{Find, LowerBound, UpperBound}
-use Rattle.ic_world.specs.declared.calls.insertion.Insertion.TheVariants.{Insert, CursorInsert}
 use Rattle.ic_world.specs.declared.part.Part.TheVariants.{All, After, Before}
 use Rattle.ic_world.specs.Family.{Family, Sequence, collection, linked_of, has_field, is_placed, is_linked_somewhere, is_member_in, objects_of, with_linked, with_collection, with_opened}
 use Rattle.ic_world.specs.Calls.{State, Reply, done, object, field, opened, items, linked, range, refused, object_or_nothing, asks, unlinked, bound_at, names, refusal_of, Replies}
 use Rattle.ic_world.specs.Several.{asks_collection, with_members, state_in, with_state, StepBy, refusal_of_open, refusal_of_part, OpensWith, refusal_of_splice, SplicesAt}
-
-module _ {V K : Type 0} where
-  -- A COMMAND THAT IS A CALL OF ONE COLLECTION, with the collection's number
-  abbrev pub call_of : Command V K → Option (ℕ × Call K)
-  call_of (call.PushFront c p) = Some (c, one.Put at.Front p)
-  call_of (call.PushBack c p) = Some (c, one.Put at.Back p)
-  call_of (call.InsertBefore c p) = Some (c, one.Put at.Before p)
-  call_of (call.InsertAfter c p) = Some (c, one.Put at.After p)
-  call_of (call.PopFront c) = Some (c, one.Take at.Front)
-  call_of (call.PopBack c) = Some (c, one.Take at.Back)
-  call_of (call.Remove c) = Some (c, one.Take at.Before)
-  call_of (call.RemoveNext c) = Some (c, one.Take at.After)
-  call_of (call.ReplaceWith c p) = Some (c, one.Swap at.Before p)
-  call_of (call.ReplaceNextWith c p) = Some (c, one.Swap at.After p)
-  call_of (call.MoveNext c) = Some (c, one.Move Next)
-  call_of (call.MovePrev c) = Some (c, one.Move Prev)
-  call_of (call.GoNull c) = Some (c, one.Seek Null)
-  call_of (call.Seek c p) = Some (c, one.Seek (On p))
-  call_of (call.SeekWithPrev c p prev) = Some (c, one.Seek (With Prev p prev))
-  call_of (call.SeekWithNext c p next) = Some (c, one.Seek (With Next p next))
-  call_of (call.Clear c) = Some (c, one.Whole Clear)
-  call_of (call.Reverse c) = Some (c, one.Whole Reverse)
-  call_of (call.Find c key) = Some (c, one.Search (Find key))
-  call_of (call.LowerBound c bound) = Some (c, one.Search (LowerBound bound))
-  call_of (call.UpperBound c bound) = Some (c, one.Search (UpperBound bound))
-  call_of (call.Insert c p) = Some (c, one.Insertion (Insert p))
-  call_of (call.CursorInsert c p) = Some (c, one.Insertion (CursorInsert p))
-  call_of (call.Entry c key p) = Some (c, one.Enter key p)
-  call_of _ = None
 
 module _ {A V K : Type 0} where
   abbrev pub refusal_on : Family A V → ℕ → Call K → Option Refusal
@@ -62,6 +25,7 @@ module _ {A V K : Type 0} where
 
   -- THE FIRST REFUSAL that applies, in the order of their numbers
   abbrev pub refusal : Family A V → Command V K → Option Refusal
+  refusal w (call.On c one) = refusal_on w c one
   refusal w (call.AddField k) = None
   refusal w (call.Open f k) = refusal_of_open w f k
   refusal w (call.Place v) = None
@@ -80,10 +44,6 @@ module _ {A V K : Type 0} where
   refusal w (call.Range c min max) = asks_collection (collection w c) (λ s. asks (is_tree s.kind) WrongKind None)
   refusal w (call.IsLinked f p) = asks (has_field w f) NoSuchField (asks (is_placed w p) NoSuchObject None)
   refusal w (call.ForceUnlink f p) = asks (has_field w f) NoSuchField (asks (is_placed w p) NoSuchObject (asks (not (is_member_in w f p)) IsMember None))
-  refusal w other = elim (call_of other) [
-    | None ↦ None
-    | Some t ↦ refusal_on w t.0 t.1
-  ]
 
 module _ {A V K : Type 0} (cmp : K → K → Ordering) (key_of : A → V → K) where
   abbrev pub AcceptsOn : Family A V → ℕ → Call K → Reply → Family A V → Type 0
@@ -94,12 +54,13 @@ module _ {A V K : Type 0} (cmp : K → K → Ordering) (key_of : A → V → K) 
   abbrev pub RangeReplies : Family A V → Bound K → Bound K → Sequence → Reply → Type 0
   RangeReplies w min max s (range places first second) =
       IsRange (bound_at cmp (key_of w.adapter) (objects_of w) min) (bound_at cmp (key_of w.adapter) (objects_of w) max)
-      (runs_up cmp (key_of w.adapter) (objects_of w)) s.members places × FewLooksWithin min first s.members × FewLooksWithin max second s.members
+      (runs_up cmp (key_of w.adapter) (objects_of w)) s.members places × WithinBound min first s.members × WithinBound max second s.members
   RangeReplies w min max s (refused OutOfMemory) = Unit {0}
   RangeReplies w min max s _ = ⊥
 
   -- WHAT AN ACCEPTED CALL answers and leaves. Want of memory may be answered by the calls that take some, and leaves all as it was
   abbrev pub Accepts : Family A V → Command V K → Reply → Family A V → Type 0
+  Accepts old (call.On c one) reply new = AcceptsOn old c one reply new
   Accepts old (call.AddField k) (field f) new =
       (f ≡ length old.fields) × (new ≡ record old { fields = old.fields ++ record { kind = k; linked = set.empty } ∷ [] })
   Accepts old (call.AddField k) (refused OutOfMemory) new = new ≡ old
@@ -133,7 +94,6 @@ module _ {A V K : Type 0} (cmp : K → K → Ordering) (key_of : A → V → K) 
   Accepts old (call.Range c min max) reply new = (s : Sequence) × (collection old c ≡ Some s) × RangeReplies old min max s reply × (new ≡ old)
   Accepts old (call.IsLinked f p) reply new = (reply ≡ linked (set.contains (linked_of old f) (index_of p))) × (new ≡ old)
   Accepts old (call.ForceUnlink f p) reply new = (reply ≡ done) × (new ≡ with_linked old f (set.remove (linked_of old f) (index_of p)))
-  Accepts old other reply new = MatchOption (call_of other) ⊥ (λ t. AcceptsOn old t.0 t.1 reply new)
 
   -- A STEP: the call may be answered by this reply and lead from old to new
   abbrev pub Step : Family A V → Command V K → Reply → Family A V → Type 0

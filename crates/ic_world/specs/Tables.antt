@@ -1,14 +1,10 @@
--- The family that tables show: nothing of it is stored beside them but the cursors.
+-- The family that tables represent: nothing of it is stored beside them but the cursors.
 use Rattle.std.specs.Prelude.{◌≡◌, ◌≢◌, ℕ, ◌<◌, ◌≤◌, ◌^◌, Bool, true, false, List, [], map, length, Option, Some, None, IsSome, slice_index_or}
 use Rattle.std.specs.FinMap as map_of
-use Rattle.ic_unsafe_ref.specs.declared.place.Place.{Place}
-use Rattle.ic_unsafe_ref.specs.Places.{index_of}
-use Rattle.ic_unsafe_ref.specs.Objects.{Objects}
-use Rattle.ic_link_ops.specs.Tables.{Table}
-use Rattle.ic_link_ops.specs.Sequences.{IsDisjoint}
+use Rattle.ic_link_ops.specs.Prelude.{Place, index_of, Objects, IsDisjoint, Table}
 use Rattle.ic_link_ops.specs.declared.color.Color.TheVariants.{Red}
 use Rattle.ic_any_collection.specs.declared.entry.Entry.{Entry}
-use Rattle.ic_any_collection.specs.AnyTables.{look}
+use Rattle.ic_any_collection.specs.AnyTables.{table_in}
 use Rattle.ic_any_collection.specs.Entries.{is_linked, kind_of}
 use Rattle.ic_any_collection.specs.AnyCollection.{kind_in, cursor_in, members_in, Held}
 use Rattle.ic_world.specs.declared.collection.Collection.{Collection}
@@ -18,7 +14,7 @@ use Rattle.ic_world.specs.LinkedSets.{linked_in}
 
 -- the table of a field of a world, and in which fields members were left linked
 abbrev pub table_of : {M : Type 0} → WorldField M → Table Entry
-table_of f = look f.links
+table_of f = table_in f.links
 
 abbrev pub left_in : {M : Type 0} → List (WorldField M) → List Bool
 left_in fields = map (λ f. f.left_linked) fields
@@ -43,28 +39,28 @@ module _ {V : Type 0} where
   abbrev pub at : List (Option (Collection V)) → ℕ → Option (Collection V)
   at cs c = slice_index_or cs c None
 
-  -- the sequence that the tables show for a collection
+  -- the sequence that the tables represent for a collection
   abbrev pub sequence : List (Table Entry) → Collection V → List Place
   sequence ts k = members_in (table ts k.field) k.members
 
   abbrev pub seen_as : Collection V → List Place → Sequence
   seen_as k s = record { field = k.field; kind = kind_in k.members; members = s; cursor = cursor_in k.members }
 
-  abbrev pub shown_as : List (Table Entry) → Option (Collection V) → Option Sequence
-  shown_as ts None = None
-  shown_as ts (Some k) = Some (seen_as k (sequence ts k))
+  abbrev pub represented_as : List (Table Entry) → Option (Collection V) → Option Sequence
+  represented_as ts None = None
+  represented_as ts (Some k) = Some (seen_as k (sequence ts k))
 
-  -- THE FAMILY that these tables show
+  -- THE FAMILY that these tables represent
   abbrev pub family_of : {A : Type 0} → A → Objects V → List (Table Entry) → List (Option (Collection V)) → Family A V
   family_of adapter objects ts cs = record {
     adapter = adapter;
     objects = objects.values;
     fields = map field_in ts;
-    collections = map (shown_as ts) cs;
+    collections = map (represented_as ts) cs;
   }
 
-  -- the objects stand below 2 ^ 32 and below `room`, which each table covers; only objects are linked; each collection is kept by its table, and those of
-  -- one field share no member
+  -- the objects stand below 2 ^ 32 and below `room`, which each table covers; only objects are linked; each collection is kept by its table, and
+  -- those of one field share no member
   pub record IsWhole (objects : Objects V) (room : ℕ) (ts : List (Table Entry)) (cs : List (Option (Collection V))) : Type 0 where
     pub within : (i : ℕ) → HasObject objects i → (i < room) × (i < 2 ^ 32)
     pub covered : (f : ℕ) → f < length ts → room ≤ (table ts f).extent.places

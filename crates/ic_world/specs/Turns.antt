@@ -1,16 +1,13 @@
 -- What a call of one collection gives to the world, whatever it does.
-use Rattle.std.specs.Prelude.{◌≡◌, ◌⊎◌, true, Option, List, [], ◌∷◌, ◌++◌, Result, IfOk, OnErr}
-use Rattle.ic_unsafe_ref.specs.declared.place.Place.{Place}
-use Rattle.ic_link_ops.specs.Sequences.{IsAbsent, IsDisjoint}
-use Rattle.ic_link_ops.specs.Tables.{Table, KeepsBeside, KeepsLinked, IsUnlinked}
+use Rattle.std.specs.Prelude.{◌≡◌, ◌⊎◌, true, Option, Some, None, List, [], ◌∷◌, ◌++◌, Result, Ok, Err, IfOk, OnErr}
+use Rattle.ic_link_ops.specs.Prelude.{Place, IsAbsent, IsDisjoint, Table, ChangesOnlyIn, KeepsLinked, IsUnlinked}
 use Rattle.ic_any_collection.specs.declared.entry.Entry.{Entry}
 use Rattle.ic_any_collection.specs.declared.any_table.AnyTable.{AnyTable}
-use Rattle.ic_any_collection.specs.AnyTables.{look}
+use Rattle.ic_any_collection.specs.AnyTables.{table_in}
 use Rattle.ic_any_collection.specs.Entries.{is_linked}
 use Rattle.ic_any_collection.specs.declared.any_collection.AnyCollection.{AnyCollection}
 use Rattle.ic_any_collection.specs.AnyCollection.{kind_in, cursor_in, members_in, Held, Alike}
 use Rattle.ic_any_collection.specs.Edits.{IsUnchanged}
-pub use Rattle.ic_any_collection.specs.Refusals.{refusal_in}
 use Rattle.ic_world.specs.declared.call.Refusal.{Refusal}
 use Rattle.ic_world.specs.LinkedSets.{linked_in}
 use Rattle.ic_world.specs.Calls.{State}
@@ -20,8 +17,13 @@ abbrev pub Each : (Place → Type 0) → List Place → Type 0
 Each P [] = Unit {0}
 Each P (p ∷ s) = P p × Each P s
 
+-- the refusal in a result, none where the call was accepted
+abbrev pub refusal_in : {A R : Type 0} → Result A R → Option R
+refusal_in (Ok a) = None
+refusal_in (Err r) = Some r
+
 module _ {V : Type 0} where
-  -- the state of a collection, as its table shows it
+  -- the state of a collection, as its table represents it
   abbrev pub state_of : Table Entry → AnyCollection V → State
   state_of t m = record { kind = kind_in m; members = members_in t m; cursor = cursor_in m; linked = linked_in t }
 
@@ -31,7 +33,7 @@ module _ {V : Type 0} where
     pub named : (fresh ≡ []) ⊎ (fresh ≡ names)
     pub free : Each (IsUnlinked is_linked old) fresh
     pub only : (q : Place) → IsAbsent q fresh → is_linked (new.entry q) ≡ true → is_linked (old.entry q) ≡ true
-    pub frame : KeepsBeside old new (fresh ++ members_in old m)
+    pub frame : ChangesOnlyIn old new (fresh ++ members_in old m)
     pub within : (q : Place) → IsAbsent q (fresh ++ members_in old m) → IsAbsent q (members_in new m')
     pub held : Held new m'
     pub alike : Alike m m'
@@ -40,8 +42,8 @@ module _ {V : Type 0} where
   -- A CALL IS DONE: it is refused as its tests say, and nothing has changed; or it leaves what it accepts
   pub record Ran {M R : Type 0} (names : List Place) (refusal : State → Option Refusal) (accepts : R → State → State → Type 0)
       (links links' : AnyTable M) (m m' : AnyCollection V) (result : Result R Refusal) : Type 0 where
-    pub tested : refusal_in result ≡ refusal (state_of (look links) m)
-    pub turned : IfOk result (λ answer. Turns names (accepts answer) (look links) (look links') m m')
+    pub tested : refusal_in result ≡ refusal (state_of (table_in links) m)
+    pub turned : IfOk result (λ answer. Turns names (accepts answer) (table_in links) (table_in links') m m')
     pub unchanged : OnErr result (IsUnchanged links links' m m')
 
   -- WHAT A CALL THAT HANDS A PART OUT LEAVES: the same places are linked, and nothing but entries of members is changed
@@ -51,7 +53,7 @@ module _ {V : Type 0} where
     pub alike : Alike m m'
     pub part_alike : Alike m handed
     pub links : KeepsLinked is_linked old new
-    pub frame : KeepsBeside old new (members_in old m)
+    pub frame : ChangesOnlyIn old new (members_in old m)
     pub within : (q : Place) → IsAbsent q (members_in old m) → IsAbsent q (members_in new m') × IsAbsent q (members_in new handed)
     pub apart : IsDisjoint (members_in new m') (members_in new handed)
     pub parts : Parts (state_of old m) (state_of new m') (state_of new handed)

@@ -1,12 +1,13 @@
 //! The calls of a world, and what they answer.
 //!
 //! ```text
-//! Command::PushBack(0, place) // answered by Answer::Done, or by Answer::Refused(Refusal::AlreadyLinked)
+//! Command::On(0, Call::Put(Gap::Back, place)) // `push_back`: Answer::Done, or Answer::Refused(Refusal::AlreadyLinked)
 //! ```
 
 ghost use Rattle.std.specs.Prelude.{◌≡◌, ⊤};
 ghost use Rattle.ic_world.specs.Refusals.{number_of};
 
+use crate::calls::one_call::Call;
 use ic_any_collection::Kind;
 use ic_rbtree::Bound;
 use ic_unsafe_ref::Place;
@@ -71,37 +72,19 @@ impl Refusal {
     {
         *self as u8
     }
-
-    /// The name of the refusal, as it is printed.
-    pub fn name(&self) -> &'static str {
-        match self {
-            Refusal::NoSuchField => "NoSuchField",
-            Refusal::NoSuchCollection => "NoSuchCollection",
-            Refusal::NoSuchObject => "NoSuchObject",
-            Refusal::WrongKind => "WrongKind",
-            Refusal::SameCollection => "SameCollection",
-            Refusal::OtherField => "OtherField",
-            Refusal::NothingThere => "NothingThere",
-            Refusal::NotAMember => "NotAMember",
-            Refusal::NotANeighbour => "NotANeighbour",
-            Refusal::AlreadyLinked => "AlreadyLinked",
-            Refusal::IsMember => "IsMember",
-            Refusal::StillLinked => "StillLinked",
-            Refusal::TooManyObjects => "TooManyObjects",
-            Refusal::OutOfMemory => "OutOfMemory",
-        }
-    }
 }
 
 impl fmt::Debug for Refusal {
     fn fmt<W: fmt::Write>(&self, f: &mut fmt::Formatter<W>) -> fmt::Result {
-        f.write_str(self.name())
+        write!(f, "{self}")
     }
 }
 
 /// A call of a world, with what it is given. Fields and collections are named by their numbers, objects by their places.
 #[derive(Copy)]
 pub enum Command<V, K> {
+    /// A call of one collection.
+    On(usize, Call<K>),
     /// `place`
     Place(V),
     /// `remove_object`
@@ -114,8 +97,6 @@ pub enum Command<V, K> {
     Open(usize, Kind),
     /// `dispose`
     Dispose(usize),
-    /// `clear`
-    Clear(usize),
     /// `fast_clear`
     FastClear(usize),
     /// `take`
@@ -124,64 +105,18 @@ pub enum Command<V, K> {
     Show(usize),
     /// `show_back`
     ShowBack(usize),
-    /// `push_front`
-    PushFront(usize, Place),
-    /// `push_back`
-    PushBack(usize, Place),
-    /// `pop_front`
-    PopFront(usize),
-    /// `pop_back`
-    PopBack(usize),
-    /// `move_next`
-    MoveNext(usize),
-    /// `move_prev`
-    MovePrev(usize),
-    /// `go_null`
-    GoNull(usize),
     /// `current`
     Current(usize),
-    /// `seek`
-    Seek(usize, Place),
-    /// `seek_with_prev`: with the member in front of it, none at the front
-    SeekWithPrev(usize, Place, Option<Place>),
-    /// `seek_with_next`: with the member behind it, none at the back
-    SeekWithNext(usize, Place, Option<Place>),
-    /// `insert_after`
-    InsertAfter(usize, Place),
-    /// `insert_before`
-    InsertBefore(usize, Place),
-    /// `remove`
-    Remove(usize),
-    /// `remove_next`
-    RemoveNext(usize),
-    /// `replace_with`
-    ReplaceWith(usize, Place),
-    /// `replace_next_with`
-    ReplaceNextWith(usize, Place),
-    /// `splice_after`: all of the second collection behind the cursor of the first
+    /// `splice_after`: all of the second collection after the cursor of the first
     SpliceAfter(usize, usize),
-    /// `splice_before`: all of the second collection in front of the cursor of the first
+    /// `splice_before`: all of the second collection before the cursor of the first
     SpliceBefore(usize, usize),
     /// `split_after`
     SplitAfter(usize),
     /// `split_before`
     SplitBefore(usize),
-    /// `reverse`
-    Reverse(usize),
-    /// `find`
-    Find(usize, K),
-    /// `lower_bound`
-    LowerBound(usize, Bound<K>),
-    /// `upper_bound`
-    UpperBound(usize, Bound<K>),
     /// `range`
     Range(usize, Bound<K>, Bound<K>),
-    /// `insert`
-    Insert(usize, Place),
-    /// `cursor_insert`
-    CursorInsert(usize, Place),
-    /// `entry`: with the object that goes in where no member has the key
-    Entry(usize, K, Place),
     /// `is_linked`: in a field
     IsLinked(usize, Place),
     /// `force_unlink`: in a field
@@ -226,51 +161,4 @@ pub enum Answer<M: Allocator = Global> {
     Entry(bool, Place, u64),
     /// Refused: nothing has changed.
     Refused(Refusal),
-}
-
-/// An answer in one line, as the program prints it.
-impl<M: Allocator> fmt::Display for Answer<M> {
-    fn fmt<W: fmt::Write>(&self, f: &mut fmt::Formatter<W>) -> fmt::Result {
-        let (word, number, looks) = match self {
-            Answer::Items(places) => return write_items(f, places),
-            Answer::Range(places, first, second) => {
-                write_items(f, places)?;
-                return write!(f, " looks {first} {second}");
-            }
-            Answer::Refused(refusal) => return write!(f, "refused {} {refusal}", refusal.number()),
-            Answer::Done => ("ok", None, None),
-            Answer::Nothing => ("none", None, None),
-            Answer::Object(place) => ("object", Some(place.index()), None),
-            Answer::Field(number) => ("field", Some(*number), None),
-            Answer::Collection(number) => ("collection", Some(*number), None),
-            Answer::Linked(true) => ("linked", None, None),
-            Answer::Linked(false) => ("unlinked", None, None),
-            Answer::Found(Some(place), looks) => ("object", Some(place.index()), Some(*looks)),
-            Answer::Found(None, looks) => ("none", None, Some(*looks)),
-            Answer::Looked(looks) => ("ok", None, Some(*looks)),
-            Answer::Entry(true, place, looks) => {
-                ("occupied object", Some(place.index()), Some(*looks))
-            }
-            Answer::Entry(false, place, looks) => {
-                ("inserted object", Some(place.index()), Some(*looks))
-            }
-        };
-        f.write_str(word)?;
-        if let Some(number) = number {
-            write!(f, " {number}")?;
-        }
-        if let Some(looks) = looks {
-            write!(f, " looks {looks}")?;
-        }
-        Ok(())
-    }
-}
-
-// The places of some objects, in one line.
-fn write_items<W: fmt::Write>(f: &mut fmt::Formatter<W>, places: &[Place]) -> fmt::Result {
-    write!(f, "items")?;
-    for place in places {
-        write!(f, " {}", place.index())?;
-    }
-    Ok(())
 }

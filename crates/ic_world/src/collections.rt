@@ -8,7 +8,7 @@
 
 ghost use Rattle.std.specs.Prelude.{◌≡◌, true, None, map};
 ghost use Rattle.ic_link_ops.specs.Sequences.{IsDisjoint};
-ghost use Rattle.ic_any_collection.specs.AnyTables.{look};
+ghost use Rattle.ic_any_collection.specs.AnyTables.{table_in};
 ghost use Rattle.ic_any_collection.specs.AnyCollection.{kind_in, members_in, Held};
 ghost use Rattle.ic_world.specs.Splices.{can_splice, PutsBeside, CanBeJoined, AreJoined};
 ghost use Rattle.ic_world.specs.Tables.{table_of, left_in};
@@ -32,12 +32,12 @@ fn put_beside<T, M: Allocator>(
     given: AnyCollection<T>,
     before: bool,
 )
-    requires held { Held (look links.old) list.old }
-    requires given { Held (look links.old) given }
+    requires held { Held (table_in links.old) list.old }
+    requires given { Held (table_in links.old) given }
     requires can { can_splice before (kind_in list.old) ≡ true }
     requires kinds { kind_in given ≡ kind_in list.old }
-    requires apart { IsDisjoint (members_in (look links.old) given) (members_in (look links.old) list.old) }
-    ensures { PutsBeside before (look links.old) (look links.new) list.old list.new (members_in (look links.old) given) }
+    requires apart { IsDisjoint (members_in (table_in links.old) given) (members_in (table_in links.old) list.old) }
+    ensures { PutsBeside before (table_in links.old) (table_in links.new) list.old list.new (members_in (table_in links.old) given) }
 {
     if before {
         list.splice_before(links, given);
@@ -125,7 +125,7 @@ impl<A: KeyAdapter, M: Allocator + Copy> World<A, M> {
         self.hand_out(collection, Part::All)
     }
 
-    /// Takes the members behind the cursor of a list, at null all of them, into a new one, and returns its number. The cursor stays.
+    /// Takes the members after the cursor of a list, at null all of them, into a new one, and returns its number. The cursor stays.
     ///
     /// Refused: `NoSuchCollection`, `WrongKind` of a tree, `OutOfMemory`. O(1).
     pub fn split_after(&mut self, collection: usize) -> Result<usize, Refusal>
@@ -134,7 +134,7 @@ impl<A: KeyAdapter, M: Allocator + Copy> World<A, M> {
         self.hand_out(collection, Part::After)
     }
 
-    /// Takes the members in front of the cursor of a list, at null all of them, into a new one, and returns its number. The cursor
+    /// Takes the members before the cursor of a list, at null all of them, into a new one, and returns its number. The cursor
     /// stays.
     ///
     /// Refused: `NoSuchCollection`, `WrongKind` of a tree or a singly linked list, `OutOfMemory`. O(1).
@@ -232,7 +232,7 @@ impl<A: KeyAdapter, M: Allocator + Copy> World<A, M> {
         Ok(())
     }
 
-    /// Puts all members of the given collection behind the cursor of the first, at null in front of all. The given one is empty then,
+    /// Puts all members of the given collection after the cursor of the first, at null before all. The given one is empty then,
     /// with its cursor at null; the first cursor stays.
     ///
     /// Refused: `NoSuchCollection`, `WrongKind` of trees and where the kinds differ, `SameCollection`, `OtherField`. O(1), of singly
@@ -243,7 +243,7 @@ impl<A: KeyAdapter, M: Allocator + Copy> World<A, M> {
         self.splice(collection, given, false)
     }
 
-    /// Puts all members of the given collection in front of the cursor of the first, at null behind all. The given one is empty then,
+    /// Puts all members of the given collection before the cursor of the first, at null after all. The given one is empty then,
     /// with its cursor at null; the first cursor stays.
     ///
     /// Refused: `NoSuchCollection`, `WrongKind` of trees, of singly linked lists and where the kinds differ, `SameCollection`,

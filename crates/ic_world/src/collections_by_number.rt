@@ -8,7 +8,7 @@
 
 ghost use Rattle.std.specs.Prelude.{◌≡◌, ◌<◌, ◌↔◌, [], length, map, slice_set, Some, None, IsSome, IsTrue, OnOk, vec_len};
 ghost use Rattle.ic_link_ops.specs.Tables.{IsCovered};
-ghost use Rattle.ic_any_collection.specs.AnyTables.{look};
+ghost use Rattle.ic_any_collection.specs.AnyTables.{table_in};
 ghost use Rattle.ic_world.specs.Tables.{at};
 ghost use Rattle.ic_world.specs.Collections.{its_field, its_members, AreHeld, HasMember};
 ghost use Rattle.ic_world.specs.ByNumber.{items_of, IsTakenOut, Enters, HaveLists, EachHeld, SomeHas};
@@ -122,9 +122,9 @@ fn enter<T, M: Allocator + Copy>(
 
 // Whether one of the collections has the object as a member: they are asked one after the other.
 fn contains_in<T, M: Allocator>(list: &[Numbered<T>], links: &AnyTable<M>, object: Place) -> bool
-    requires held { EachHeld (look links.now) list.now }
-    requires covered { IsCovered (look links.now) object }
-    ensures { IsTrue result ↔ SomeHas (look links.now) object list.now }
+    requires held { EachHeld (table_in links.now) list.now }
+    requires covered { IsCovered (table_in links.now) object }
+    ensures { IsTrue result ↔ SomeHas (table_in links.now) object list.now }
 {
     for one in list {
         if one.members.contains(links, object) {
@@ -223,9 +223,9 @@ impl<T, M: Allocator + Copy> CollectionsByNumber<T, M> {
 
     /// Whether a live collection of the field has the object as a member. Only these are asked, until one has it.
     pub(crate) fn any_contains(&self, field: usize, links: &AnyTable<M>, object: Place) -> bool
-        requires held { AreHeld self.now field (look links.now) }
-        requires covered { IsCovered (look links.now) object }
-        ensures { IsTrue result ↔ HasMember self.now field (look links.now) object }
+        requires held { AreHeld self.now field (table_in links.now) }
+        requires covered { IsCovered (table_in links.now) object }
+        ensures { IsTrue result ↔ HasMember self.now field (table_in links.now) object }
     {
         if field >= self.live.len() {
             return false;

@@ -6,7 +6,7 @@
 //! ```
 
 ghost use Rattle.std.specs.Prelude.{◌≡◌, true, IfSome};
-ghost use Rattle.ic_any_collection.specs.AnyTables.{look};
+ghost use Rattle.ic_any_collection.specs.AnyTables.{table_in};
 ghost use Rattle.ic_world.specs.Pieces.{IsFresh};
 
 use crate::World;
@@ -20,7 +20,7 @@ use std::alloc::Allocator;
 
 // A table that covers so many places, if memory is found for it.
 fn covering<M: Allocator>(alloc: M, kind: Kind, room: usize) -> Option<AnyTable<M>>
-    ensures { IfSome result (λ links. IsFresh kind room (look links)) }
+    ensures { IfSome result (λ links. IsFresh kind room (table_in links)) }
 {
     let mut links = AnyTable::new(alloc, kind);
     match links.cover(room) {

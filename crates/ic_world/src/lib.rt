@@ -23,6 +23,11 @@ mod run;
 mod world;
 
 pub use call::{Answer, Command, Refusal};
-pub use ic_any_collection::Kind;
+pub use calls::insertion::Insertion;
+pub use calls::one_call::{Call, Direction};
+pub use calls::search::Search;
+pub use calls::seek::Seek;
+pub use calls::whole::Whole;
+pub use ic_any_collection::{Gap, Kind};
 pub use ic_rbtree::Bound;
 pub use world::World;

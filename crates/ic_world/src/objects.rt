@@ -9,8 +9,7 @@ ghost use Rattle.std.specs.Prelude.{◌≡◌, ◌<◌, ◌≤◌, ◌^◌, ℕ,
 ghost use Rattle.std.specs.List.{list_any};
 ghost use Rattle.std.specs.FinMap as map;
 ghost use Rattle.std.specs.FinSet as set;
-ghost use Rattle.ic_unsafe_ref.specs.Places.{index_of};
-ghost use Rattle.ic_link_ops.specs.Tables.{IsCovered};
+ghost use Rattle.ic_link_ops.specs.Prelude.{index_of, IsCovered};
 ghost use Rattle.ic_world.specs.Family.{LinkField};
 ghost use Rattle.ic_world.specs.Tables.{table, table_of, left_in, field_in};
 ghost use Rattle.ic_world.specs.Growth.{Grows};

@@ -1,7 +1,7 @@
 //! Which members are handed out to a collection more.
 
 ghost use Rattle.std.specs.Prelude.{◌≡◌, true};
-ghost use Rattle.ic_any_collection.specs.AnyTables.{look};
+ghost use Rattle.ic_any_collection.specs.AnyTables.{table_in};
 ghost use Rattle.ic_any_collection.specs.AnyCollection.{kind_in, Held};
 ghost use Rattle.ic_world.specs.Turns.{HandsOut};
 ghost use Rattle.ic_world.specs.Several.{has_part, PartsOf};
@@ -15,9 +15,9 @@ use std::alloc::Allocator;
 pub enum Part {
     /// All of them. The cursor goes to null.
     All,
-    /// Those behind the cursor, which stays.
+    /// Those after the cursor, which stays.
     After,
-    /// Those in front of the cursor, which stays.
+    /// Those before the cursor, which stays.
     Before,
 }
 
@@ -39,9 +39,9 @@ impl Part {
         members: &mut AnyCollection<T>,
         links: &mut AnyTable<M>,
     ) -> AnyCollection<T>
-        requires held { Held (look links.old) members.old }
+        requires held { Held (table_in links.old) members.old }
         requires can { has_part self (kind_in members.old) ≡ true }
-        ensures { HandsOut (PartsOf self) (look links.old) (look links.new) members.old members.new result }
+        ensures { HandsOut (PartsOf self) (table_in links.old) (table_in links.new) members.old members.new result }
     {
         match self {
             Part::All => members.take(),

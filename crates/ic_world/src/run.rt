@@ -1,7 +1,7 @@
 //! Any call, by a command, and a list of them.
 //!
 //! ```text
-//! world.answer(Command::PopFront(queue)) // Answer::Object of the first member, or Answer::Nothing
+//! world.answer(Command::On(queue, Call::Take(Gap::Front))) // Answer::Object of the first member, or Answer::Nothing
 //! world.run(&commands, &mut answers)?    // one answer a command
 //! ```
 
@@ -14,7 +14,7 @@ use crate::World;
 use crate::call::{Answer, Command, Refusal};
 use crate::calls::gaps::{Put, Swap, Take};
 use crate::calls::insertion::EntryAt;
-use crate::calls::one_call::{Call, call_of};
+use crate::calls::one_call::Call;
 use crate::calls::seek::Move;
 use ic_rbtree::KeyAdapter;
 use ic_unsafe_ref::Place;
@@ -108,10 +108,8 @@ where
     pub fn answer(&mut self, command: Command<A::Value, A::Key>) -> Answer<M>
         ensures { Step A.Key.cmp A.key_of self.old command (reply_in result) self.new }
     {
-        if let Some((c, call)) = call_of(command) {
-            return self.answer_on(c, call);
-        }
         match command {
+            Command::On(c, call) => self.answer_on(c, call),
             Command::Place(value) => match self.place(value) {
                 Ok(place) => Answer::Object(place),
                 Err((refusal, _)) => Answer::Refused(refusal),
@@ -148,7 +146,6 @@ where
             Command::SplitBefore(c) => opened(self.split_before(c)),
             Command::Show(c) => listed(self.show(c)),
             Command::ShowBack(c) => listed(self.show_back(c)),
-            _ => unreachable!(),
         }
     }
 

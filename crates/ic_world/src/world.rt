@@ -1,7 +1,7 @@
 //! The world, and how a call goes to one of its collections.
 
 ghost use Rattle.std.specs.Prelude.{◌≡◌, [], Some, None, IfSome, IfNone};
-ghost use Rattle.ic_any_collection.specs.AnyTables.{look};
+ghost use Rattle.ic_any_collection.specs.AnyTables.{table_in};
 ghost use Rattle.std.specs.FinMap as map;
 ghost use Rattle.ic_world.specs.Calls.{opened};
 ghost use Rattle.ic_world.specs.Replies.{reply_of};
@@ -21,8 +21,9 @@ use std::marker::Model;
 /// Objects by place, and link fields and collections by number.
 ///
 /// A field is a table of links, and a collection is the head of a list or tree in one, with a cursor. No sequence is stored: the
-/// family that a clause sees is what the tables show. A field also knows whether members were ever left linked in it. Fields are numbered 0, 1, 2 in the order of `add_field`, and collections over
-/// all fields in the order in which `open`, `take` and the splits make them. A number is never used again.
+/// family that a clause sees is what the tables show. A field also knows whether members were ever left linked in it. Fields are numbered 0, 1, 2 in
+/// the order of `add_field`, and collections over all fields in the order in which `open`, `take` and the splits make them. A number is never used
+/// again.
 #[derive(Drop)]
 pub struct World<A: KeyAdapter, M: Allocator + Copy = Global> {
     pub(crate) adapter: A,
@@ -140,7 +141,7 @@ impl<A: KeyAdapter, M: Allocator + Copy> World<A, M> {
         &self,
         collection: usize,
     ) -> Option<(&AnyCollection<A::Value>, &AnyTable<M>)>
-        ensures some { IfSome result (λ found. Sees self.now collection (look found.1.now) found.0.now) }
+        ensures some { IfSome result (λ found. Sees self.now collection (table_in found.1.now) found.0.now) }
         ensures none { IfNone result (collection_of self.now collection ≡ None) }
     {
         let field = self.collections.field_of(collection)?;

@@ -1,4 +1,4 @@
--- EACH STEP KEEPS THE ORDER OF ENTRY in a collection for which it is orderly.
+-- EACH STEP KEEPS THE ORDER OF INSERTION in a collection for which it is orderly.
 use Rattle.std.proofs.Common.{◌≡◌, ◌≢◌, ◌⊎◌, inl, inr, ℕ, Bool, true, false, not, cond, nat_eq, List, [], ◌∷◌, ◌++◌, ◌<◌, length, drop, get_or, set, ltb-true, Option, Some, None, refl, sym, ap, ◌∙◌, subst, true≢false, eq-eqb, ne_eqb}
 use Rattle.std.proofs.lemmas.Bool.{cases_eq, and_parts}
 use Rattle.std.proofs.lemmas.List.{get_or-set_same, get_or-set_other, get_or_append_left, get_or_push, length-set}
@@ -11,12 +11,8 @@ use Rattle.std.specs.FinMap as map_of
 use Rattle.std.specs.FinMap.{get-insert, get-remove}
 use Rattle.std.specs.declared.cmp.Ordering.{Ordering}
 use Rattle.std.specs.declared.cmp.Ordering.TheVariants.{Less, Equal, Greater}
-use Rattle.ic_unsafe_ref.specs.declared.place.Place.{Place}
-use Rattle.ic_unsafe_ref.specs.Places.{index_of}
-use Rattle.ic_unsafe_ref.specs.Objects.{Objects, object_at}
+use Rattle.ic_link_ops.specs.Prelude.{Place, index_of, Objects, object_at, Cut, first, IsAbsent, IsDistinct, IsAfter, IsBefore, ArePlaced}
 use Rattle.ic_unsafe_ref.proofs.PlaceLemmas.{same_index, same_or_not}
-use Rattle.ic_link_ops.specs.PlacedObjects.{ArePlaced}
-use Rattle.ic_link_ops.specs.Sequences.{Cut, first, IsAbsent, IsDistinct, IsAfter, IsBefore}
 use Rattle.ic_link_ops.proofs.SequenceLemmas.{some_same, first_is}
 use Rattle.ic_any_collection.specs.declared.kind.Kind.{Kind}
 use Rattle.ic_any_collection.specs.declared.kind.Kind.TheVariants.{Singly}
@@ -31,8 +27,7 @@ use Rattle.ic_world.specs.declared.call.Command.{Command}
 use Rattle.ic_world.specs.declared.call.Command.TheVariants as call
 use Rattle.ic_world.specs.declared.calls.one_call.Call.{Call}
 use Rattle.ic_world.specs.declared.calls.one_call.Call.TheVariants as one
-use Rattle.ic_world.specs.declared.calls.one_call.Where.{Where}
-use Rattle.ic_world.specs.declared.calls.one_call.Where.TheVariants as at
+use Rattle.ic_any_collection.specs.declared.gap.Gap.{Gap}
 use Rattle.ic_world.specs.declared.calls.one_call.Direction.{Direction}
 use Rattle.ic_world.specs.declared.calls.one_call.Direction.TheVariants.{Next, Prev}
 use Rattle.ic_world.specs.declared.calls.seek.Seek.{Seek}
@@ -55,8 +50,8 @@ use Rattle.ic_world.proofs.Readings.{some_within}
 use Rattle.ic_world.proofs.Steps.{asks_none}
 use Rattle.ic_world.specs.Sound.{IsSound}
 use Rattle.ic_world_laws.specs.Sorted.{has_key}
-use Rattle.ic_world_laws.specs.Entered.{IsInOrderOf, StandsFor, without, put_last, emptied, entered_after, IsOrderly, KeepsOrder, StartsInOrder}
-use Rattle.ic_world_laws.proofs.EnteredLists.{HaveEqualKeys, equal_keys_itself, nothing_in_order, put_in_order, taken_in_order, equal_in_order, same_in_order}
+use Rattle.ic_world_laws.specs.InsertionOrder.{IsInOrderOf, KeepsInsertionOrder, without, put_last, emptied, insertion_order_after, IsOrderly, KeepsOrder, StartsInOrder}
+use Rattle.ic_world_laws.proofs.InsertionOrderLists.{HaveEqualKeys, equal_keys_itself, nothing_in_order, put_in_order, taken_in_order, equal_in_order, same_in_order}
 
 -- in a sound family every member is placed
 pub sound_placed : {A V : Type 0} (w : Family A V) → IsSound w → AreAllPlaced w
@@ -88,19 +83,19 @@ cond_same : {X : Type 0} (b : Bool) (x : X) → cond b x x ≡ x
 cond_same true x = refl
 cond_same false x = refl
 
-module _ {A V K : Type 0} {cmp : K → K → Ordering} (total : IsTotalOrder cmp) (key_of : A → V → K) (old : Family A V) (sound : IsSound old) (c : ℕ) (entered : List Place)
-    (stands : StandsFor cmp key_of old c entered) where
+module _ {A V K : Type 0} {cmp : K → K → Ordering} (total : IsTotalOrder cmp) (key_of : A → V → K) (old : Family A V) (sound : IsSound old) (c : ℕ) (insertion_order : List Place)
+    (stands : KeepsInsertionOrder cmp key_of old c insertion_order) where
   abbrev s : Sequence
   s = stands.0
 
   there : collection old c ≡ Some s
   there = stands.1
 
-  order : IsInOrderOf cmp key_of old entered s.members
+  order : IsInOrderOf cmp key_of old insertion_order s.members
   order = stands.2
 
-  abbrev Stands : Family A V → List Place → Type 0
-  Stands w e = StandsFor cmp key_of w c e
+  abbrev IsValidCursor : Family A V → List Place → Type 0
+  IsValidCursor w e = KeepsInsertionOrder cmp key_of w c e
 
   abbrev Ordered : List Place → List Place → Type 0
   Ordered e members = IsInOrderOf cmp key_of old e members
@@ -108,24 +103,24 @@ module _ {A V K : Type 0} {cmp : K → K → Ordering} (total : IsTotalOrder cmp
   placed : ArePlaced (objects_of old) s.members
   placed = sound_placed old sound c s there
 
-  left : {w new : Family A V} (e : List Place) → new ≡ w → Stands w e → Stands new e
-  left e is h = subst (λ w. Stands w e) (sym is) h
+  left : {w new : Family A V} (e : List Place) → new ≡ w → IsValidCursor w e → IsValidCursor new e
+  left e is h = subst (λ w. IsValidCursor w e) (sym is) h
 
   -- nothing changed
-  same_order : {new : Family A V} (e : List Place) → new ≡ old → e ≡ entered → Stands new e
+  same_order : {new : Family A V} (e : List Place) → new ≡ old → e ≡ insertion_order → IsValidCursor new e
   same_order e is same = left e is (s, there, subst (λ x. Ordered x s.members) (sym same) order)
 
   -- by the first refusal, and what is accepted
-  by_step : (o : Option Refusal) (Accepted : Reply → Family A V → Type 0) (reply : Reply) (new : Family A V) (e : List Place) → StepBy o Accepted old reply new → ((r : Refusal) → reply ≡ refused r → e ≡ entered)
-      → (o ≡ None → Accepted reply new → Stands new e) → Stands new e
+  by_step : (o : Option Refusal) (Accepted : Reply → Family A V → Type 0) (reply : Reply) (new : Family A V) (e : List Place) → StepBy o Accepted old reply new → ((r : Refusal) → reply ≡ refused r → e ≡ insertion_order)
+      → (o ≡ None → Accepted reply new → IsValidCursor new e) → IsValidCursor new e
   by_step (Some r) Accepted reply new e h refused_same accepted = same_order e h.1 (refused_same r h.0)
   by_step None Accepted reply new e h refused_same accepted = accepted refl h
 
   -- a call of one collection
-  on_order : (d : ℕ) (call : Call K) (reply : Reply) (new : Family A V) (e : List Place) → StepOn cmp key_of old d call reply new → ((r : Refusal) → reply ≡ refused r → e ≡ entered) → (d ≢ c → e ≡ entered)
-      → (d ≡ c → list_all (is_placed old) (names call) ≡ true → (t : State) → Replies cmp (key_of old.adapter) (objects_of old) call (state_in old s) reply t → Ordered e t.members) → Stands new e
+  on_order : (d : ℕ) (call : Call K) (reply : Reply) (new : Family A V) (e : List Place) → StepOn cmp key_of old d call reply new → ((r : Refusal) → reply ≡ refused r → e ≡ insertion_order) → (d ≢ c → e ≡ insertion_order)
+      → (d ≡ c → list_all (is_placed old) (names call) ≡ true → (t : State) → Replies cmp (key_of old.adapter) (objects_of old) call (state_in old s) reply t → Ordered e t.members) → IsValidCursor new e
   on_order d call reply new e step refused_same elsewhere here = by (refusal_on old d call) refl step where
-    by : (o : Option Refusal) → refusal_on old d call ≡ o → StepBy o (AcceptsOn cmp key_of old d call) old reply new → Stands new e
+    by : (o : Option Refusal) → refusal_on old d call ≡ o → StepBy o (AcceptsOn cmp key_of old d call) old reply new → IsValidCursor new e
     by (Some r) is h = same_order e h.1 (refused_same r h.0)
     by None is h = elim (cases_eq d c) [
       | inl same ↦
@@ -147,11 +142,11 @@ module _ {A V K : Type 0} {cmp : K → K → Ordering} (total : IsTotalOrder cmp
 
   -- one that leaves the members, and one of another collection
   still_order : (d : ℕ) (call : Call K) (reply : Reply) (new : Family A V) → StepOn cmp key_of old d call reply new
-      → ((t : State) → Replies cmp (key_of old.adapter) (objects_of old) call (state_in old s) reply t → t.members ≡ s.members) → Stands new entered
-  still_order d call reply new step still = on_order d call reply new entered step (λ r e. refl) (λ differ. refl) (λ same names_placed t h. subst (Ordered entered) (sym (still t h)) order)
+      → ((t : State) → Replies cmp (key_of old.adapter) (objects_of old) call (state_in old s) reply t → t.members ≡ s.members) → IsValidCursor new insertion_order
+  still_order d call reply new step still = on_order d call reply new insertion_order step (λ r e. refl) (λ differ. refl) (λ same names_placed t h. subst (Ordered insertion_order) (sym (still t h)) order)
 
-  other_order : (d : ℕ) (call : Call K) (reply : Reply) (new : Family A V) → d ≢ c → StepOn cmp key_of old d call reply new → Stands new entered
-  other_order d call reply new differ step = on_order d call reply new entered step (λ r e. refl) (λ _. refl) (λ same names_placed t h. absurd (differ same))
+  other_order : (d : ℕ) (call : Call K) (reply : Reply) (new : Family A V) → d ≢ c → StepOn cmp key_of old d call reply new → IsValidCursor new insertion_order
+  other_order d call reply new differ step = on_order d call reply new insertion_order step (λ r e. refl) (λ _. refl) (λ same names_placed t h. absurd (differ same))
 
   move_still : (way : Direction) (reply : Reply) (t : State) → Replies cmp (key_of old.adapter) (objects_of old) (one.Move way) (state_in old s) reply t → t.members ≡ s.members
   move_still Next reply t h = ap (λ (x : State). x.members) h.2.2
@@ -172,20 +167,20 @@ module _ {A V K : Type 0} {cmp : K → K → Ordering} (total : IsTotalOrder cmp
 
   -- AN INSERT IN ORDER
   put_here : (p : Place) (cursor : Option Place) (n : ℕ) (t : State) → is_placed old p ≡ true → InsertionReplies cmp (key_of old.adapter) (objects_of old) p cursor (state_in old s) (looked n) t
-      → Ordered (entered ++ p ∷ []) t.members
+      → Ordered (insertion_order ++ p ∷ []) t.members
   put_here p cursor n t has h =
       let own = value_there total (key_of old.adapter) (objects_of old) (object_at (objects_of old) p) has in
       let border = subst (λ at. IsBorder (less_at at) h.0.0) (own_order_is cmp (key_of old.adapter) (objects_of old) p own.1) h.0.2.0 in
-      subst (Ordered (entered ++ p ∷ [])) (sym (ap (λ (x : State). x.members) h.0.2.1))
-      (put_in_order total (key_of old.adapter) (objects_of old) p own.1 h.0.0 entered (subst (ArePlaced (objects_of old)) (sym h.0.1) placed) border (subst (Ordered entered) (sym h.0.1) order))
+      subst (Ordered (insertion_order ++ p ∷ [])) (sym (ap (λ (x : State). x.members) h.0.2.1))
+      (put_in_order total (key_of old.adapter) (objects_of old) p own.1 h.0.0 insertion_order (subst (ArePlaced (objects_of old)) (sym h.0.1) placed) border (subst (Ordered insertion_order) (sym h.0.1) order))
 
   put_order : (d : ℕ) (p : Place) (call : Call K) (cursor : State → Option Place) (n : ℕ) (new : Family A V) → names call ≡ p ∷ []
       → ((t : State) → Replies cmp (key_of old.adapter) (objects_of old) call (state_in old s) (looked n) t → InsertionReplies cmp (key_of old.adapter) (objects_of old) p (cursor (state_in old s)) (state_in old s) (looked n) t)
-      → StepOn cmp key_of old d call (looked n) new → Stands new (put_last c d p entered)
+      → StepOn cmp key_of old d call (looked n) new → IsValidCursor new (put_last c d p insertion_order)
   put_order d p call cursor n new named puts step =
-      on_order d call (looked n) new (put_last c d p entered) step (λ r e. absurd cc)
-      (λ differ. ap (λ b. cond b (entered ++ p ∷ []) entered) (ne_eqb d c differ))
-      (λ same names_placed t h. subst (λ e. Ordered e t.members) (sym (ap (λ b. cond b (entered ++ p ∷ []) entered) (eq-eqb d c same)))
+      on_order d call (looked n) new (put_last c d p insertion_order) step (λ r e. absurd cc)
+      (λ differ. ap (λ b. cond b (insertion_order ++ p ∷ []) insertion_order) (ne_eqb d c differ))
+      (λ same names_placed t h. subst (λ e. Ordered e t.members) (sym (ap (λ b. cond b (insertion_order ++ p ∷ []) insertion_order) (eq-eqb d c same)))
       (put_here p (cursor (state_in old s)) n t (and_parts (is_placed old p) true (subst (λ ps. list_all (is_placed old) ps ≡ true) named names_placed)).0 (puts t h)))
 
   -- AN ENTRY by the object's own key
@@ -196,7 +191,7 @@ module _ {A V K : Type 0} {cmp : K → K → Ordering} (total : IsTotalOrder cmp
   enter_still key p _ t same h = absurd h
 
   vacant_here : (key : K) (p q : Place) (n : ℕ) (t : State) → has_key cmp key_of old key p ≡ true → is_placed old p ≡ true
-      → Replies cmp (key_of old.adapter) (objects_of old) (one.Enter key p) (state_in old s) (entry false q n) t → Ordered (entered ++ p ∷ []) t.members
+      → Replies cmp (key_of old.adapter) (objects_of old) (one.Enter key p) (state_in old s) (entry false q n) t → Ordered (insertion_order ++ p ∷ []) t.members
   vacant_here key p q n t own has h =
       let objects = objects_of old in
       let v = value_there total (key_of old.adapter) objects (object_at objects p) has in
@@ -207,106 +202,106 @@ module _ {A V K : Type 0} {cmp : K → K → Ordering} (total : IsTotalOrder cmp
         fails = λ x e. sym (agree x) ∙ h.3.2.0.1.fails x e;
         passes = λ x e. sym (agree x) ∙ h.3.2.0.1.passes x e;
       } in
-      subst (Ordered (entered ++ p ∷ [])) (sym (ap (λ (x : State). x.members) h.3.2.1))
-      (put_in_order total (key_of old.adapter) objects p v.1 gap entered (subst (ArePlaced objects) (sym h.3.1) placed) border (subst (Ordered entered) (sym h.3.1) order))
+      subst (Ordered (insertion_order ++ p ∷ [])) (sym (ap (λ (x : State). x.members) h.3.2.1))
+      (put_in_order total (key_of old.adapter) objects p v.1 gap insertion_order (subst (ArePlaced objects) (sym h.3.1) placed) border (subst (Ordered insertion_order) (sym h.3.1) order))
 
-  vacant_order : (d : ℕ) (key : K) (p q : Place) (n : ℕ) (new : Family A V) → (d ≡ c → has_key cmp key_of old key p ≡ true) → StepOn cmp key_of old d (one.Enter key p) (entry false q n) new → Stands new (put_last c d p entered)
+  vacant_order : (d : ℕ) (key : K) (p q : Place) (n : ℕ) (new : Family A V) → (d ≡ c → has_key cmp key_of old key p ≡ true) → StepOn cmp key_of old d (one.Enter key p) (entry false q n) new → IsValidCursor new (put_last c d p insertion_order)
   vacant_order d key p q n new own step =
-      on_order d (one.Enter key p) (entry false q n) new (put_last c d p entered) step (λ r e. absurd cc)
-      (λ differ. ap (λ b. cond b (entered ++ p ∷ []) entered) (ne_eqb d c differ))
-      (λ same names_placed t h. subst (λ e. Ordered e t.members) (sym (ap (λ b. cond b (entered ++ p ∷ []) entered) (eq-eqb d c same)))
+      on_order d (one.Enter key p) (entry false q n) new (put_last c d p insertion_order) step (λ r e. absurd cc)
+      (λ differ. ap (λ b. cond b (insertion_order ++ p ∷ []) insertion_order) (ne_eqb d c differ))
+      (λ same names_placed t h. subst (λ e. Ordered e t.members) (sym (ap (λ b. cond b (insertion_order ++ p ∷ []) insertion_order) (eq-eqb d c same)))
       (vacant_here key p q n t (own same) (and_parts (is_placed old p) true names_placed).0 h))
 
   -- A MEMBER IS TAKEN OUT
   abbrev taken_by : Reply → List Place
-  taken_by (object p) = without p entered
-  taken_by _ = entered
+  taken_by (object p) = without p insertion_order
+  taken_by _ = insertion_order
 
-  take_here : (where_at : Where) (reply : Reply) (t : State) → TakeReplies where_at (state_in old s) reply t → Ordered (taken_by reply) t.members
+  take_here : (where_at : Gap) (reply : Reply) (t : State) → TakeReplies where_at (state_in old s) reply t → Ordered (taken_by reply) t.members
   take_here where_at reply t h = by (first h.0.back) refl h.2.1 h.2.2 where
     by : (o : Option Place) → first h.0.back ≡ o → reply ≡ object_or_nothing o → t ≡ without_member (state_in old s) h.0 (onward where_at s.cursor h.0) o → Ordered (taken_by reply) t.members
-    by None e is left_t = subst (λ r. Ordered (taken_by r) t.members) (sym is) (subst (Ordered entered) (sym (ap (λ (x : State). x.members) left_t)) order)
+    by None e is left_t = subst (λ r. Ordered (taken_by r) t.members) (sym is) (subst (Ordered insertion_order) (sym (ap (λ (x : State). x.members) left_t)) order)
     by (Some p) e is left_t =
         let all : h.0.front ++ p ∷ drop 1 h.0.back ≡ s.members = ap (λ b. h.0.front ++ b) (sym (first_is h.0.back (sym e))) ∙ h.1 in
-        subst (λ r. Ordered (taken_by r) t.members) (sym is) (subst (Ordered (without p entered)) (sym (ap (λ (x : State). x.members) left_t))
-        (taken_in_order total (key_of old.adapter) (objects_of old) h.0.front p (drop 1 h.0.back) entered (subst (ArePlaced (objects_of old)) (sym all) placed) (subst IsDistinct (sym all) (sound.apart.0 c s there))
-        (subst (Ordered entered) (sym all) order)))
+        subst (λ r. Ordered (taken_by r) t.members) (sym is) (subst (Ordered (without p insertion_order)) (sym (ap (λ (x : State). x.members) left_t))
+        (taken_in_order total (key_of old.adapter) (objects_of old) h.0.front p (drop 1 h.0.back) insertion_order (subst (ArePlaced (objects_of old)) (sym all) placed) (subst IsDistinct (sym all) (sound.apart.0 c s there))
+        (subst (Ordered insertion_order) (sym all) order)))
 
-  take_order : (d : ℕ) (where_at : Where) (reply : Reply) (new : Family A V) → StepOn cmp key_of old d (one.Take where_at) reply new → Stands new (cond (nat_eq d c) (taken_by reply) entered)
+  take_order : (d : ℕ) (where_at : Gap) (reply : Reply) (new : Family A V) → StepOn cmp key_of old d (one.Take where_at) reply new → IsValidCursor new (cond (nat_eq d c) (taken_by reply) insertion_order)
   take_order d where_at reply new step =
-      on_order d (one.Take where_at) reply new (cond (nat_eq d c) (taken_by reply) entered) step
-      (λ r e. ap (λ (x : Reply). cond (nat_eq d c) (taken_by x) entered) e ∙ cond_same (nat_eq d c) entered)
-      (λ differ. ap (λ b. cond b (taken_by reply) entered) (ne_eqb d c differ))
-      (λ same names_placed t h. subst (λ e. Ordered e t.members) (sym (ap (λ b. cond b (taken_by reply) entered) (eq-eqb d c same))) (take_here where_at reply t h))
+      on_order d (one.Take where_at) reply new (cond (nat_eq d c) (taken_by reply) insertion_order) step
+      (λ r e. ap (λ (x : Reply). cond (nat_eq d c) (taken_by x) insertion_order) e ∙ cond_same (nat_eq d c) insertion_order)
+      (λ differ. ap (λ b. cond b (taken_by reply) insertion_order) (ne_eqb d c differ))
+      (λ same names_placed t h. subst (λ e. Ordered e t.members) (sym (ap (λ b. cond b (taken_by reply) insertion_order) (eq-eqb d c same))) (take_here where_at reply t h))
 
-  take_none : (d : ℕ) (where_at : Where) (reply : Reply) (new : Family A V) → taken_by reply ≡ entered → StepOn cmp key_of old d (one.Take where_at) reply new → Stands new entered
-  take_none d where_at reply new same step = subst (Stands new) (ap (λ e. cond (nat_eq d c) e entered) same ∙ cond_same (nat_eq d c) entered) (take_order d where_at reply new step)
+  take_none : (d : ℕ) (where_at : Gap) (reply : Reply) (new : Family A V) → taken_by reply ≡ insertion_order → StepOn cmp key_of old d (one.Take where_at) reply new → IsValidCursor new insertion_order
+  take_none d where_at reply new same step = subst (IsValidCursor new) (ap (λ e. cond (nat_eq d c) e insertion_order) same ∙ cond_same (nat_eq d c) insertion_order) (take_order d where_at reply new step)
 
   -- ALL ARE TAKEN OUT
-  clear_order : (d : ℕ) (new : Family A V) → StepOn cmp key_of old d (one.Whole Clear) done new → Stands new (emptied c d entered)
+  clear_order : (d : ℕ) (new : Family A V) → StepOn cmp key_of old d (one.Whole Clear) done new → IsValidCursor new (emptied c d insertion_order)
   clear_order d new step =
-      on_order d (one.Whole Clear) done new (emptied c d entered) step (λ r e. absurd cc) (λ differ. ap (λ b. cond b [] entered) (ne_eqb d c differ))
-      (λ same names_placed t h. subst (λ e. Ordered e t.members) (sym (ap (λ b. cond b [] entered) (eq-eqb d c same)))
+      on_order d (one.Whole Clear) done new (emptied c d insertion_order) step (λ r e. absurd cc) (λ differ. ap (λ b. cond b [] insertion_order) (ne_eqb d c differ))
+      (λ same names_placed t h. subst (λ e. Ordered e t.members) (sym (ap (λ b. cond b [] insertion_order) (eq-eqb d c same)))
       (subst (Ordered []) (sym (ap (λ (x : State). x.members) h.1)) (nothing_in_order total (key_of old.adapter) (objects_of old))))
 
-  clear_none : (d : ℕ) (reply : Reply) (new : Family A V) → (reply ≡ done → ⊥) → StepOn cmp key_of old d (one.Whole Clear) reply new → Stands new entered
-  clear_none d reply new other step = on_order d (one.Whole Clear) reply new entered step (λ r e. refl) (λ differ. refl) (λ same names_placed t h. absurd (other h.0))
+  clear_none : (d : ℕ) (reply : Reply) (new : Family A V) → (reply ≡ done → ⊥) → StepOn cmp key_of old d (one.Whole Clear) reply new → IsValidCursor new insertion_order
+  clear_none d reply new other step = on_order d (one.Whole Clear) reply new insertion_order step (λ r e. refl) (λ differ. refl) (λ same names_placed t h. absurd (other h.0))
 
   -- a collection whose members went
-  gone : (w : Family A V) (d : ℕ) (x : Sequence) → x.members ≡ [] → d ≡ c → collection w c ≡ Some x → Stands w (emptied c d entered)
+  gone : (w : Family A V) (d : ℕ) (x : Sequence) → x.members ≡ [] → d ≡ c → collection w c ≡ Some x → IsValidCursor w (emptied c d insertion_order)
   gone w d x none same is =
-      subst (Stands w) (sym (ap (λ b. cond b [] entered) (eq-eqb d c same)))
+      subst (IsValidCursor w) (sym (ap (λ b. cond b [] insertion_order) (eq-eqb d c same)))
       (x, is, subst (IsInOrderOf cmp key_of w []) (sym none) (nothing_in_order total (key_of w.adapter) (objects_of w)))
 
-  fast_order : (d : ℕ) (reply : Reply) (new : Family A V) → Accepts cmp key_of old (call.FastClear d) reply new → Stands new (emptied c d entered)
+  fast_order : (d : ℕ) (reply : Reply) (new : Family A V) → Accepts cmp key_of old (call.FastClear d) reply new → IsValidCursor new (emptied c d insertion_order)
   fast_order d reply new h = elim (cases_eq d c) [
     | inl same ↦
         let x : Sequence = record h.0 { members = []; cursor = None } in
-        left (emptied c d entered) h.3 (gone (with_collection old d (Some x)) d x refl same
+        left (emptied c d insertion_order) h.3 (gone (with_collection old d (Some x)) d x refl same
         (subst (λ y. get_or (set old.collections d (Some x)) y None ≡ Some x) same (get_or-set_same old.collections d (Some x) None (some_within old.collections d h.1))))
     | inr differ ↦
-        subst (Stands new) (sym (ap (λ b. cond b [] entered) (ne_eqb d c differ)))
-        (left entered h.3 (s, get_or-set_other old.collections d c _ None (λ x. differ (sym x)) ∙ there, order))
+        subst (IsValidCursor new) (sym (ap (λ b. cond b [] insertion_order) (ne_eqb d c differ)))
+        (left insertion_order h.3 (s, get_or-set_other old.collections d c _ None (λ x. differ (sym x)) ∙ there, order))
   ]
 
   -- a part of another is handed out, or all of one
-  part_order : (d : ℕ) (part : Part) (reply : Reply) (new : Family A V) → d ≢ c → StepBy (refusal_of_part old d part) (OpensWith old d part) old reply new → Stands new entered
+  part_order : (d : ℕ) (part : Part) (reply : Reply) (new : Family A V) → d ≢ c → StepBy (refusal_of_part old d part) (OpensWith old d part) old reply new → IsValidCursor new insertion_order
   part_order d part reply new differ step = by (refusal_of_part old d part) reply step where
-    by : (o : Option Refusal) (reply : Reply) → StepBy o (OpensWith old d part) old reply new → Stands new entered
-    by (Some r) reply h = same_order entered h.1 refl
-    by None (opened e) h = left entered h.6 (
+    by : (o : Option Refusal) (reply : Reply) → StepBy o (OpensWith old d part) old reply new → IsValidCursor new insertion_order
+    by (Some r) reply h = same_order insertion_order h.1 refl
+    by None (opened e) h = left insertion_order h.6 (
       s,
       get_or_append_left (set old.collections d (Some (sequence_of h.1.field h.2))) _ None c (subst (λ n. c < n) (sym (length-set old.collections d (Some (sequence_of h.1.field h.2)))) (some_within old.collections c there))
           ∙ get_or-set_other old.collections d c (Some (sequence_of h.1.field h.2)) None (λ x. differ (sym x)) ∙ there,
       order,
     )
-    by None (refused OutOfMemory) h = same_order entered h refl
+    by None (refused OutOfMemory) h = same_order insertion_order h refl
     by None _ h = absurd h
 
-  take_all : (d e : ℕ) (new : Family A V) → StepBy (refusal_of_part old d All) (OpensWith old d All) old (opened e) new → Stands new (emptied c d entered)
+  take_all : (d e : ℕ) (new : Family A V) → StepBy (refusal_of_part old d All) (OpensWith old d All) old (opened e) new → IsValidCursor new (emptied c d insertion_order)
   take_all d e new step = elim (cases_eq d c) [
-    | inr differ ↦ subst (Stands new) (sym (ap (λ b. cond b [] entered) (ne_eqb d c differ))) (part_order d All (opened e) new differ step)
+    | inr differ ↦ subst (IsValidCursor new) (sym (ap (λ b. cond b [] insertion_order) (ne_eqb d c differ))) (part_order d All (opened e) new differ step)
     | inl same ↦ by (refusal_of_part old d All) step same
   ]
     where
-      by : (o : Option Refusal) → StepBy o (OpensWith old d All) old (opened e) new → d ≡ c → Stands new (emptied c d entered)
+      by : (o : Option Refusal) → StepBy o (OpensWith old d All) old (opened e) new → d ≡ c → IsValidCursor new (emptied c d insertion_order)
       by (Some r) h same = absurd (let no = h.0 in cc)
       by None h same =
           let x = sequence_of h.1.field h.2 in
-          left (emptied c d entered) h.6 (gone (with_opened (with_state old d h.1.field h.2) (sequence_of h.1.field h.3)) d x (ap (λ (z : State). z.members) h.5.0) same
+          left (emptied c d insertion_order) h.6 (gone (with_opened (with_state old d h.1.field h.2) (sequence_of h.1.field h.3)) d x (ap (λ (z : State). z.members) h.5.0) same
           (get_or_append_left (set old.collections d (Some x)) _ None c (subst (λ n. c < n) (sym (length-set old.collections d (Some x))) (some_within old.collections c there))
           ∙ subst (λ y. get_or (set old.collections d (Some x)) y None ≡ Some x) same (get_or-set_same old.collections d (Some x) None (some_within old.collections d h.4))))
 
-  splice_order : (Beside : Cut → Option Place → Type 0) (is : Kind → Bool) (d e : ℕ) (reply : Reply) (new : Family A V) → d ≢ c → e ≢ c → StepBy (refusal_of_splice old is d e) (SplicesAt Beside old d e) old reply new → Stands new entered
-  splice_order Beside is d e reply new differ_d differ_e step = by_step (refusal_of_splice old is d e) (SplicesAt Beside old d e) reply new entered step (λ r e. refl) (λ none h.
-      left entered h.8 (s, get_or-set_other (set old.collections e _) d c _ None (λ x. differ_d (sym x)) ∙ get_or-set_other old.collections e c _ None (λ x. differ_e (sym x)) ∙ there, order))
+  splice_order : (Beside : Cut → Option Place → Type 0) (is : Kind → Bool) (d e : ℕ) (reply : Reply) (new : Family A V) → d ≢ c → e ≢ c → StepBy (refusal_of_splice old is d e) (SplicesAt Beside old d e) old reply new → IsValidCursor new insertion_order
+  splice_order Beside is d e reply new differ_d differ_e step = by_step (refusal_of_splice old is d e) (SplicesAt Beside old d e) reply new insertion_order step (λ r e. refl) (λ none h.
+      left insertion_order h.8 (s, get_or-set_other (set old.collections e _) d c _ None (λ x. differ_d (sym x)) ∙ get_or-set_other old.collections e c _ None (λ x. differ_e (sym x)) ∙ there, order))
 
   -- OTHER OBJECTS, and those of the members as they were
-  objects_order : (p : Place) (m : map_of.FinMap nat_cmp V) → IsAbsent p s.members → ((q : Place) → q ≢ p → map_of.get m (index_of q) ≡ map_of.get old.objects (index_of q)) → Stands (record old { objects = m }) entered
+  objects_order : (p : Place) (m : map_of.FinMap nat_cmp V) → IsAbsent p s.members → ((q : Place) → q ≢ p → map_of.get m (index_of q) ≡ map_of.get old.objects (index_of q)) → IsValidCursor (record old { objects = m }) insertion_order
   objects_order p m out same = (
     s,
     there,
-    same_in_order total (key_of old.adapter) (objects_of old) (record { values = m; next = 0 }) entered s.members
+    same_in_order total (key_of old.adapter) (objects_of old) (record { values = m; next = 0 }) insertion_order s.members
         (λ q member. same q (λ e. member (subst (λ z. IsAbsent z s.members) (sym e) out))) order,
   )
 
@@ -316,12 +311,12 @@ module _ {A V K : Type 0} {cmp : K → K → Ordering} (total : IsTotalOrder cmp
       ∙ ap (λ b. cond b (Some v) (map_of.get old.objects (index_of q))) (unsigned_tied (index_of q) (index_of p) ∙ ne_eqb (index_of q) (index_of p) (λ e. n (same_index q p e)))
 
   -- a value for which the key of the old one stands, or one of an object that is no member
-  set_order : (p : Place) (v : V) → IsAbsent p entered ⊎ (has_key cmp key_of old (key_of old.adapter v) p ≡ true) → Stands (record old { objects = map_of.insert old.objects (index_of p) v }) entered
+  set_order : (p : Place) (v : V) → IsAbsent p insertion_order ⊎ (has_key cmp key_of old (key_of old.adapter v) p ≡ true) → IsValidCursor (record old { objects = map_of.insert old.objects (index_of p) v }) insertion_order
   set_order p v (inl out) = objects_order p (map_of.insert old.objects (index_of p) v) ((order.1 p).1 out) (inserted_at p v)
   set_order p v (inr equal) = (
     s,
     there,
-    equal_in_order total (key_of old.adapter) (objects_of old) (record { values = map_of.insert old.objects (index_of p) v; next = 0 }) entered s.members
+    equal_in_order total (key_of old.adapter) (objects_of old) (record { values = map_of.insert old.objects (index_of p) v; next = 0 }) insertion_order s.members
         (λ q member. by q (same_or_not q p)) order,
   )
     where
@@ -357,123 +352,107 @@ module _ {A V K : Type 0} {cmp : K → K → Ordering} (total : IsTotalOrder cmp
         (ltb-true s.field (length old.fields) k.in_field) (k.linked p member)) ∙ free))
   ]
 
-  place_order : (v : V) (reply : Reply) (new : Family A V) → Accepts cmp key_of old (call.Place v) reply new → Stands new entered
-  place_order v (object p) new h = left entered h.2 (objects_order p (map_of.insert old.objects (index_of p) v) (vacant_absent (objects_of old) p h.0 s.members placed) (inserted_at p v))
-  place_order v (refused TooManyObjects) new h = same_order entered h refl
-  place_order v (refused OutOfMemory) new h = same_order entered h refl
+  place_order : (v : V) (reply : Reply) (new : Family A V) → Accepts cmp key_of old (call.Place v) reply new → IsValidCursor new insertion_order
+  place_order v (object p) new h = left insertion_order h.2 (objects_order p (map_of.insert old.objects (index_of p) v) (vacant_absent (objects_of old) p h.0 s.members placed) (inserted_at p v))
+  place_order v (refused TooManyObjects) new h = same_order insertion_order h refl
+  place_order v (refused OutOfMemory) new h = same_order insertion_order h refl
   place_order v _ new h = absurd h
 
-  add_order : (k : Kind) (reply : Reply) (new : Family A V) → Accepts cmp key_of old (call.AddField k) reply new → Stands new entered
-  add_order k (field f) new h = left entered h.1 (s, there, order)
-  add_order k (refused OutOfMemory) new h = same_order entered h refl
+  add_order : (k : Kind) (reply : Reply) (new : Family A V) → Accepts cmp key_of old (call.AddField k) reply new → IsValidCursor new insertion_order
+  add_order k (field f) new h = left insertion_order h.1 (s, there, order)
+  add_order k (refused OutOfMemory) new h = same_order insertion_order h refl
   add_order k _ new h = absurd h
 
-  open_order : (f : ℕ) (k : Kind) (reply : Reply) (new : Family A V) → Accepts cmp key_of old (call.Open f k) reply new → Stands new entered
-  open_order f k (opened e) new h = left entered h.1 (s, get_or_append_left old.collections _ None c (some_within old.collections c there) ∙ there, order)
-  open_order f k (refused OutOfMemory) new h = same_order entered h refl
+  open_order : (f : ℕ) (k : Kind) (reply : Reply) (new : Family A V) → Accepts cmp key_of old (call.Open f k) reply new → IsValidCursor new insertion_order
+  open_order f k (opened e) new h = left insertion_order h.1 (s, get_or_append_left old.collections _ None c (some_within old.collections c there) ∙ there, order)
+  open_order f k (refused OutOfMemory) new h = same_order insertion_order h refl
   open_order f k _ new h = absurd h
 
-  show_order : (d : ℕ) (reply : Reply) (new : Family A V) → Accepts cmp key_of old (call.Show d) reply new → Stands new entered
-  show_order d (items places) new h = same_order entered h.3 refl
-  show_order d (refused OutOfMemory) new h = same_order entered h refl
+  show_order : (d : ℕ) (reply : Reply) (new : Family A V) → Accepts cmp key_of old (call.Show d) reply new → IsValidCursor new insertion_order
+  show_order d (items places) new h = same_order insertion_order h.3 refl
+  show_order d (refused OutOfMemory) new h = same_order insertion_order h refl
   show_order d _ new h = absurd h
 
-  show_back_order : (d : ℕ) (reply : Reply) (new : Family A V) → Accepts cmp key_of old (call.ShowBack d) reply new → Stands new entered
-  show_back_order d (items places) new h = same_order entered h.3 refl
-  show_back_order d (refused OutOfMemory) new h = same_order entered h refl
+  show_back_order : (d : ℕ) (reply : Reply) (new : Family A V) → Accepts cmp key_of old (call.ShowBack d) reply new → IsValidCursor new insertion_order
+  show_back_order d (items places) new h = same_order insertion_order h.3 refl
+  show_back_order d (refused OutOfMemory) new h = same_order insertion_order h refl
   show_back_order d _ new h = absurd h
 
-  take_refused : (d : ℕ) (r : Refusal) (new : Family A V) → OpensWith old d All (refused r) new → Stands new entered
-  take_refused d OutOfMemory new h = same_order entered h refl
+  take_refused : (d : ℕ) (r : Refusal) (new : Family A V) → OpensWith old d All (refused r) new → IsValidCursor new insertion_order
+  take_refused d OutOfMemory new h = same_order insertion_order h refl
   take_refused d _ new h = absurd h
 
   -- what every accepted call of a kind leaves
-  plain : (command : Command V K) (reply : Reply) (new : Family A V) → Step cmp key_of old command reply new → (refusal old command ≡ None → Accepts cmp key_of old command reply new → Stands new entered) → Stands new entered
-  plain command reply new step accepted = by_step (refusal old command) (Accepts cmp key_of old command) reply new entered step (λ r e. refl) accepted
+  plain : (command : Command V K) (reply : Reply) (new : Family A V) → Step cmp key_of old command reply new → (refusal old command ≡ None → Accepts cmp key_of old command reply new → IsValidCursor new insertion_order) → IsValidCursor new insertion_order
+  plain command reply new step accepted = by_step (refusal old command) (Accepts cmp key_of old command) reply new insertion_order step (λ r e. refl) accepted
 
-  keeps : (command : Command V K) (reply : Reply) (new : Family A V) → Step cmp key_of old command reply new → IsOrderly cmp key_of old c entered command → Stands new (entered_after c command reply entered)
-  keeps (call.Insert d p) (looked n) new step orderly = put_order d p (one.Insertion (Insert p)) (λ x. Some p) n new refl (λ t h. h) step
-  keeps (call.Insert d p) reply new step orderly = on_order d (one.Insertion (Insert p)) reply new entered step (λ r e. refl) (λ differ. refl) (λ same names_placed t h. absurd h)
-  keeps (call.CursorInsert d p) (looked n) new step orderly = put_order d p (one.Insertion (CursorInsert p)) (λ x. x.cursor) n new refl (λ t h. h) step
-  keeps (call.CursorInsert d p) reply new step orderly = on_order d (one.Insertion (CursorInsert p)) reply new entered step (λ r e. refl) (λ differ. refl) (λ same names_placed t h. absurd h)
-  keeps (call.PushFront d p) reply new step orderly = other_order d (one.Put at.Front p) reply new orderly step
-  keeps (call.PushBack d p) reply new step orderly = other_order d (one.Put at.Back p) reply new orderly step
-  keeps (call.InsertBefore d p) reply new step orderly = other_order d (one.Put at.Before p) reply new orderly step
-  keeps (call.InsertAfter d p) reply new step orderly = other_order d (one.Put at.After p) reply new orderly step
-  keeps (call.ReplaceWith d p) reply new step orderly = other_order d (one.Swap at.Before p) reply new orderly step
-  keeps (call.ReplaceNextWith d p) reply new step orderly = other_order d (one.Swap at.After p) reply new orderly step
-  keeps (call.Entry d key p) (entry false q n) new step orderly = vacant_order d key p q n new orderly step
-  keeps (call.Entry d key p) reply new step orderly = still_order d (one.Enter key p) reply new step (λ t h. enter_still key p reply t refl h)
-  keeps (call.Reverse d) reply new step orderly = other_order d (one.Whole Reverse) reply new orderly step
-  keeps (call.PopFront d) (object p) new step orderly = take_order d at.Front (object p) new step
-  keeps (call.PopFront d) reply new step orderly = take_none d at.Front reply new refl step
-  keeps (call.PopBack d) (object p) new step orderly = take_order d at.Back (object p) new step
-  keeps (call.PopBack d) reply new step orderly = take_none d at.Back reply new refl step
-  keeps (call.Remove d) (object p) new step orderly = take_order d at.Before (object p) new step
-  keeps (call.Remove d) reply new step orderly = take_none d at.Before reply new refl step
-  keeps (call.RemoveNext d) (object p) new step orderly = take_order d at.After (object p) new step
-  keeps (call.RemoveNext d) reply new step orderly = take_none d at.After reply new refl step
-  keeps (call.Clear d) done new step orderly = clear_order d new step
-  keeps (call.Clear d) reply new step orderly = clear_none d reply new (λ e. cc) step
-  keeps (call.FastClear d) done new step orderly = by_step (refusal {K = K} old (call.FastClear d)) (Accepts cmp key_of old (call.FastClear d)) done new (emptied c d entered) step (λ r e. absurd cc) (λ none h. fast_order d done new h)
+  keeps : (command : Command V K) (reply : Reply) (new : Family A V) → Step cmp key_of old command reply new → IsOrderly cmp key_of old c insertion_order command → IsValidCursor new (insertion_order_after c command reply insertion_order)
+  keeps (call.On d (one.Insertion (Insert p))) (looked n) new step orderly = put_order d p (one.Insertion (Insert p)) (λ x. Some p) n new refl (λ t h. h) step
+  keeps (call.On d (one.Insertion (Insert p))) reply new step orderly = on_order d (one.Insertion (Insert p)) reply new insertion_order step (λ r e. refl) (λ differ. refl) (λ same names_placed t h. absurd h)
+  keeps (call.On d (one.Insertion (CursorInsert p))) (looked n) new step orderly = put_order d p (one.Insertion (CursorInsert p)) (λ x. x.cursor) n new refl (λ t h. h) step
+  keeps (call.On d (one.Insertion (CursorInsert p))) reply new step orderly = on_order d (one.Insertion (CursorInsert p)) reply new insertion_order step (λ r e. refl) (λ differ. refl) (λ same names_placed t h. absurd h)
+  keeps (call.On d (one.Put where_at p)) reply new step orderly = other_order d (one.Put where_at p) reply new orderly step
+  keeps (call.On d (one.Swap where_at p)) reply new step orderly = other_order d (one.Swap where_at p) reply new orderly step
+  keeps (call.On d (one.Enter key p)) (entry false q n) new step orderly = vacant_order d key p q n new orderly step
+  keeps (call.On d (one.Enter key p)) reply new step orderly = still_order d (one.Enter key p) reply new step (λ t h. enter_still key p reply t refl h)
+  keeps (call.On d (one.Whole Reverse)) reply new step orderly = other_order d (one.Whole Reverse) reply new orderly step
+  keeps (call.On d (one.Take where_at)) (object p) new step orderly = take_order d where_at (object p) new step
+  keeps (call.On d (one.Take where_at)) reply new step orderly = take_none d where_at reply new refl step
+  keeps (call.On d (one.Whole Clear)) done new step orderly = clear_order d new step
+  keeps (call.On d (one.Whole Clear)) reply new step orderly = clear_none d reply new (λ e. cc) step
+  keeps (call.FastClear d) done new step orderly = by_step (refusal {K = K} old (call.FastClear d)) (Accepts cmp key_of old (call.FastClear d)) done new (emptied c d insertion_order) step (λ r e. absurd cc) (λ none h. fast_order d done new h)
   keeps (call.FastClear d) reply new step orderly = plain (call.FastClear d) reply new step (λ none h. absurd (let no = h.2 in cc))
   keeps (call.Take d) (opened e) new step orderly = take_all d e new step
-  keeps (call.Take d) (refused r) new step orderly = by_step (refusal_of_part old d All) (OpensWith old d All) (refused r) new entered step (λ x e. refl) (λ none h. take_refused d r new h)
-  keeps (call.Take d) reply new step orderly = by_step (refusal_of_part old d All) (OpensWith old d All) reply new entered step (λ x e. refl) (λ none h. absurd h)
-  keeps (call.MoveNext d) reply new step orderly = still_order d (one.Move Next) reply new step (move_still Next reply)
-  keeps (call.MovePrev d) reply new step orderly = still_order d (one.Move Prev) reply new step (move_still Prev reply)
-  keeps (call.GoNull d) reply new step orderly = still_order d (one.Seek Null) reply new step (seek_still Null reply)
-  keeps (call.Seek d p) reply new step orderly = still_order d (one.Seek (On p)) reply new step (seek_still (On p) reply)
-  keeps (call.SeekWithPrev d p beside) reply new step orderly = still_order d (one.Seek (With Prev p beside)) reply new step (seek_still (With Prev p beside) reply)
-  keeps (call.SeekWithNext d p beside) reply new step orderly = still_order d (one.Seek (With Next p beside)) reply new step (seek_still (With Next p beside) reply)
-  keeps (call.Find d key) reply new step orderly = still_order d (one.Search (Find key)) reply new step (search_still (Find key) reply)
-  keeps (call.LowerBound d bound) reply new step orderly = still_order d (one.Search (LowerBound bound)) reply new step (search_still (LowerBound bound) reply)
-  keeps (call.UpperBound d bound) reply new step orderly = still_order d (one.Search (UpperBound bound)) reply new step (search_still (UpperBound bound) reply)
+  keeps (call.Take d) (refused r) new step orderly = by_step (refusal_of_part old d All) (OpensWith old d All) (refused r) new insertion_order step (λ x e. refl) (λ none h. take_refused d r new h)
+  keeps (call.Take d) reply new step orderly = by_step (refusal_of_part old d All) (OpensWith old d All) reply new insertion_order step (λ x e. refl) (λ none h. absurd h)
+  keeps (call.On d (one.Move way)) reply new step orderly = still_order d (one.Move way) reply new step (move_still way reply)
+  keeps (call.On d (one.Seek seek)) reply new step orderly = still_order d (one.Seek seek) reply new step (seek_still seek reply)
+  keeps (call.On d (one.Search search)) reply new step orderly = still_order d (one.Search search) reply new step (search_still search reply)
   keeps (call.AddField k) reply new step orderly = plain (call.AddField k) reply new step (λ none. add_order k reply new)
   keeps (call.Open f k) reply new step orderly = plain (call.Open f k) reply new step (λ none. open_order f k reply new)
   keeps (call.Place v) reply new step orderly = plain (call.Place v) reply new step (λ none. place_order v reply new)
   keeps (call.RemoveObject p) reply new step orderly = plain (call.RemoveObject p) reply new step (λ none h.
       let has = asks_none (is_placed old p) NoSuchObject (asks (not (is_linked_somewhere old p)) StillLinked None) none in
-      left entered h.1 (objects_order p (map_of.remove old.objects (index_of p)) (free_absent p (not_false (is_linked_somewhere old p) (asks_none (not (is_linked_somewhere old p)) StillLinked None has.1).0)) (removed_at p)))
-  keeps (call.SetValue p v) reply new step orderly = plain (call.SetValue p v) reply new step (λ none h. left entered h.1 (set_order p v orderly))
-  keeps (call.Dispose d) reply new step orderly = plain (call.Dispose d) reply new step (λ none h. left entered h.3 (s, get_or-set_other old.collections d c None None (λ x. orderly (sym x)) ∙ there, order))
+      left insertion_order h.1 (objects_order p (map_of.remove old.objects (index_of p)) (free_absent p (not_false (is_linked_somewhere old p) (asks_none (not (is_linked_somewhere old p)) StillLinked None has.1).0)) (removed_at p)))
+  keeps (call.SetValue p v) reply new step orderly = plain (call.SetValue p v) reply new step (λ none h. left insertion_order h.1 (set_order p v orderly))
+  keeps (call.Dispose d) reply new step orderly = plain (call.Dispose d) reply new step (λ none h. left insertion_order h.3 (s, get_or-set_other old.collections d c None None (λ x. orderly (sym x)) ∙ there, order))
   keeps (call.SplitAfter d) reply new step orderly = part_order d After reply new orderly step
   keeps (call.SplitBefore d) reply new step orderly = part_order d Before reply new orderly step
-  keeps (call.Current d) reply new step orderly = plain (call.Current d) reply new step (λ none h. same_order entered h.3 refl)
+  keeps (call.Current d) reply new step orderly = plain (call.Current d) reply new step (λ none h. same_order insertion_order h.3 refl)
   keeps (call.Show d) reply new step orderly = plain (call.Show d) reply new step (λ none. show_order d reply new)
   keeps (call.ShowBack d) reply new step orderly = plain (call.ShowBack d) reply new step (λ none. show_back_order d reply new)
   keeps (call.SpliceAfter d e) reply new step orderly = splice_order IsAfter is_list d e reply new orderly.0 orderly.1 step
   keeps (call.SpliceBefore d e) reply new step orderly = splice_order IsBefore is_two_way_list d e reply new orderly.0 orderly.1 step
-  keeps (call.Range d min max) reply new step orderly = plain (call.Range d min max) reply new step (λ none h. same_order entered h.3 refl)
-  keeps (call.IsLinked f p) reply new step orderly = plain (call.IsLinked f p) reply new step (λ none h. same_order entered h.1 refl)
-  keeps (call.ForceUnlink f p) reply new step orderly = plain (call.ForceUnlink f p) reply new step (λ none h. left entered h.1 (s, there, order))
+  keeps (call.Range d min max) reply new step orderly = plain (call.Range d min max) reply new step (λ none h. same_order insertion_order h.3 refl)
+  keeps (call.IsLinked f p) reply new step orderly = plain (call.IsLinked f p) reply new step (λ none h. same_order insertion_order h.1 refl)
+  keeps (call.ForceUnlink f p) reply new step orderly = plain (call.ForceUnlink f p) reply new step (λ none h. left insertion_order h.1 (s, there, order))
 
 pub keeps_order : {A V K : Type 0} {cmp : K → K → Ordering} (total : IsTotalOrder cmp) (key_of : A → V → K) (old : Family A V) → IsSound old → (command : Command V K) (reply : Reply) (new : Family A V)
     → Step cmp key_of old command reply new → KeepsOrder cmp key_of old command reply new
-keeps_order total key_of old sound command reply new step = λ c entered stands orderly. keeps total key_of old sound c entered stands command reply new step orderly
+keeps_order total key_of old sound command reply new step = λ c insertion_order stands orderly. keeps total key_of old sound c insertion_order stands command reply new step orderly
 
 -- A COLLECTION MORE
 module _ {A V K : Type 0} {cmp : K → K → Ordering} (total : IsTotalOrder cmp) (key_of : A → V → K) (old : Family A V) where
   opened_at : (w : Family A V) (x : Sequence) (d : ℕ) → d ≡ length w.collections → collection (with_opened w x) d ≡ Some x
   opened_at w x d is = get_or_push w.collections (Some x) None d (sym is)
 
-  open_starts : (f : ℕ) (k : Kind) (d : ℕ) (new : Family A V) (o : Option Refusal) → StepBy o (Accepts {K = K} cmp key_of old (call.Open f k)) old (opened d) new → StandsFor cmp key_of new d []
+  open_starts : (f : ℕ) (k : Kind) (d : ℕ) (new : Family A V) (o : Option Refusal) → StepBy o (Accepts {K = K} cmp key_of old (call.Open f k)) old (opened d) new → KeepsInsertionOrder cmp key_of new d []
   open_starts f k d new (Some r) h = absurd (let no = h.0 in cc)
   open_starts f k d new None h =
       let x : Sequence = record { field = f; kind = k; members = []; cursor = None } in
-      subst (λ w. StandsFor cmp key_of w d []) (sym h.1) (x, opened_at old x d h.0, nothing_in_order total (key_of old.adapter) (objects_of old))
+      subst (λ w. KeepsInsertionOrder cmp key_of w d []) (sym h.1) (x, opened_at old x d h.0, nothing_in_order total (key_of old.adapter) (objects_of old))
 
-  take_starts : (c d : ℕ) (new : Family A V) (entered : List Place) → StandsFor cmp key_of old c entered → (o : Option Refusal) → StepBy o (OpensWith old c All) old (opened d) new → StandsFor cmp key_of new d entered
-  take_starts c d new entered stands (Some r) h = absurd (let no = h.0 in cc)
-  take_starts c d new entered stands None h =
+  take_starts : (c d : ℕ) (new : Family A V) (insertion_order : List Place) → KeepsInsertionOrder cmp key_of old c insertion_order → (o : Option Refusal) → StepBy o (OpensWith old c All) old (opened d) new → KeepsInsertionOrder cmp key_of new d insertion_order
+  take_starts c d new insertion_order stands (Some r) h = absurd (let no = h.0 in cc)
+  take_starts c d new insertion_order stands None h =
       let same : stands.0.members ≡ h.3.members = ap (λ (x : Sequence). x.members) (some_same (sym stands.1 ∙ h.4)) ∙ sym (ap (λ (t : State). t.members) h.5.1) in
-      subst (λ w. StandsFor cmp key_of w d entered) (sym h.6) (
+      subst (λ w. KeepsInsertionOrder cmp key_of w d insertion_order) (sym h.6) (
         sequence_of h.1.field h.3,
         opened_at (with_state old c h.1.field h.2) (sequence_of h.1.field h.3) d (h.0 ∙ sym (length-set old.collections c (Some (sequence_of h.1.field h.2)))),
-        subst (IsInOrderOf cmp key_of old entered) same stands.2,
+        subst (IsInOrderOf cmp key_of old insertion_order) same stands.2,
       )
 
   pub starts_in_order : (command : Command V K) (reply : Reply) (new : Family A V) → Step cmp key_of old command reply new → StartsInOrder cmp key_of old command reply new
   starts_in_order (call.Open f k) (opened d) new step = open_starts f k d new (refusal {K = K} old (call.Open f k)) step
-  starts_in_order (call.Take c) (opened d) new step = λ entered stands. take_starts c d new entered stands (refusal_of_part old c All) step
+  starts_in_order (call.Take c) (opened d) new step = λ insertion_order stands. take_starts c d new insertion_order stands (refusal_of_part old c All) step
   starts_in_order _ _ new step = tt

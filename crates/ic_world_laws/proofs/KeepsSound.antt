@@ -1,13 +1,11 @@
 -- EACH STEP KEEPS A FAMILY SOUND.
-use Rattle.std.proofs.Common.{◌≡◌, ◌≢◌, inl, inr, ℕ, Bool, true, false, not, ◌&&◌, List, [], ◌++◌, Option, Some, None, MatchOption, refl, sym, ap, ◌∙◌, subst, true≢false, eq-eqb}
+use Rattle.std.proofs.Common.{◌≡◌, ◌≢◌, inl, inr, ℕ, Bool, true, false, not, ◌&&◌, List, [], ◌++◌, Option, Some, None, refl, sym, ap, ◌∙◌, subst, true≢false, eq-eqb}
 use Rattle.std.proofs.lemmas.List.{get_or-set_same, get_or-set_other, set-get_or}
 use Rattle.std.proofs.lemmas.List.Folds.{list_any_at}
 use Rattle.std.specs.List.{list_all}
 use Rattle.std.specs.FinSet as set_of
 use Rattle.std.specs.declared.cmp.Ordering.{Ordering}
-use Rattle.ic_unsafe_ref.specs.declared.place.Place.{Place}
-use Rattle.ic_unsafe_ref.specs.Places.{index_of}
-use Rattle.ic_link_ops.specs.Sequences.{Cut, join, splice, IsAbsent, IsMember, IsDistinct, IsDisjoint, IsAfter, IsBefore}
+use Rattle.ic_link_ops.specs.Prelude.{Place, index_of, Cut, join, splice, IsAbsent, IsMember, IsDistinct, IsDisjoint, IsAfter, IsBefore}
 use Rattle.ic_link_ops.proofs.SequenceLemmas.{absent_left, absent_right, absent_both, distinct_left, distinct_right, distinct_disjoint, disjoint_sym, distinct_splice, some_same, none_not}
 use Rattle.ic_any_collection.specs.declared.kind.Kind.{Kind}
 use Rattle.ic_any_collection.specs.Kinds.{carries}
@@ -23,7 +21,7 @@ use Rattle.ic_world.specs.declared.part.Part.TheVariants.{All, After, Before}
 use Rattle.ic_world.specs.Family.{Family, LinkField, Sequence, is_among, has_member_in, collection, field_of, linked_of, has_field, is_placed, is_linked_somewhere, is_member_in, objects_of, with_linked, with_collection, with_opened}
 use Rattle.ic_world.specs.Calls.{State, Reply, object, field, opened, items, refused, asks, names, refusal_of, unlinked}
 use Rattle.ic_world.specs.Several.{StepBy, PartsOf, OpensWith, SplicesAt, asks_collection, with_members, state_in, with_state, sequence_of, refusal_of_part, refusal_of_splice}
-use Rattle.ic_world.specs.Step.{Step, StepOn, Accepts, AcceptsOn, refusal, refusal_on, call_of}
+use Rattle.ic_world.specs.Step.{Step, StepOn, Accepts, AcceptsOn, refusal, refusal_on}
 use Rattle.ic_world.specs.Sound.{IsSoundIn, IsSound}
 use Rattle.ic_world.proofs.CanSplice.{can_splice_of}
 use Rattle.ic_world.proofs.Linked.{absent_or}
@@ -254,10 +252,6 @@ module _ {A V : Type 0} (old : Family A V) (sound : IsSound old) where
       accepted (Some r) Accepted reply h keeps = left h.1 sound
       accepted None Accepted reply h keeps = keeps refl h
 
-      by_call : (o : Option (ℕ × Call K)) (reply : Reply) → StepBy (elim o [ None ↦ None | Some t ↦ refusal_on old t.0 t.1 ]) (λ r w. MatchOption o ⊥ (λ t. AcceptsOn cmp key_of old t.0 t.1 r w)) old reply new → IsSound new
-      by_call None reply step = absurd step
-      by_call (Some t) reply step = on_keeps t.0 t.1 reply step
-
       add_keeps : (k : Kind) (reply : Reply) → Accepts cmp key_of old (call.AddField k) reply new → IsSound new
       add_keeps k (field f) h = left h.1 (added_sound old sound k)
       add_keeps k (refused OutOfMemory) h = left h sound
@@ -314,4 +308,4 @@ module _ {A V : Type 0} (old : Family A V) (sound : IsSound old) where
           let placed = asks_none (is_placed old p) NoSuchObject _ there.1 in
           let none = not_false (is_member_in old f p) (asks_none (not (is_member_in old f p)) IsMemberRefusal None placed.1).0 in
           left h.1 (freed_sound old sound f p there.0 (absent_in f p none)))
-      keeps_sound other reply step = by_call (call_of other) reply step
+      keeps_sound (call.On c one) reply step = on_keeps c one reply step

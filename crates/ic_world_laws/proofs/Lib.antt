@@ -3,6 +3,6 @@ pub mod SortedLaws
 pub mod SoundCalls
 pub mod SoundFamilies
 pub mod KeepsSound
-pub mod EnteredLists
+pub mod InsertionOrderLists
 pub mod KeepsOrder
 pub mod RunLaws

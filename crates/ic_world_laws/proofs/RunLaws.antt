@@ -9,10 +9,10 @@ use Rattle.ic_world.specs.Family.{Family, Sequence}
 use Rattle.ic_world.specs.Sound.{IsSound}
 use Rattle.ic_world.specs.Step.{Step, Runs}
 use Rattle.ic_world_laws.specs.Sorted.{IsSortedIn}
-use Rattle.ic_world_laws.specs.Entered.{entered_after, StandsFor, StaysSorted, RunKeepsOrder}
+use Rattle.ic_world_laws.specs.InsertionOrder.{insertion_order_after, KeepsInsertionOrder, StaysSorted, RunKeepsInsertionOrder}
 use Rattle.ic_world_laws.specs.Runs.{IsLawful, AreLawful}
 use Rattle.ic_world_laws.proofs.StepLaws.{refused_stays, insert_refused, looks_few}
-use Rattle.ic_world_laws.proofs.SortedLaws.{finds_first, finds_end, is_within_both, goes_behind}
+use Rattle.ic_world_laws.proofs.SortedLaws.{finds_first, finds_end, is_within_both, goes_after}
 use Rattle.ic_world_laws.proofs.KeepsSound.{keeps_sound}
 use Rattle.ic_world_laws.proofs.KeepsOrder.{sound_placed, keeps_order, starts_in_order}
 
@@ -42,7 +42,7 @@ module _ {A V K : Type 0} {cmp : K → K → Ordering} (total : IsTotalOrder cmp
     key_is_found_first = finds_first total key_of old (sound_placed old sound) command new reply step;
     bound_is_found_at_its_end = finds_end total key_of old (sound_placed old sound) command new reply step;
     range_is_within_both = is_within_both total key_of old (sound_placed old sound) sound.apart command new reply step;
-    insert_goes_behind = goes_behind total key_of old (sound_placed old sound) command new reply step;
+    insert_goes_after = goes_after total key_of old (sound_placed old sound) command new reply step;
     stays_sorted = stays_sorted old sound command reply new step;
     keeps_order = keeps_order total key_of old sound command reply new step;
     starts_in_order = starts_in_order total key_of old command reply new step;
@@ -58,11 +58,11 @@ module _ {A V K : Type 0} {cmp : K → K → Ordering} (total : IsTotalOrder cmp
   are_lawful old sound [] (reply ∷ replies) new run = absurd run
   are_lawful old sound (command ∷ commands) [] new run = absurd run
 
-  -- and the order of entry over them
-  pub keep_order : (old : Family A V) (commands : List (Command V K)) (replies : List Reply) (new : Family A V) → AreLawful cmp key_of old commands replies new → RunKeepsOrder cmp key_of old commands replies new
-  keep_order old [] [] new run = λ c entered stands orderly. subst (λ w. StandsFor cmp key_of w c entered) (sym run) stands
-  keep_order old (command ∷ commands) (reply ∷ replies) new run = λ c entered stands orderly.
-      keep_order run.0 commands replies new run.2 c (entered_after c command reply entered) (run.1.keeps_order c entered stands orderly.0) (orderly.1 run.0 run.1.step)
+  -- and the order of insertion over them
+  pub keep_order : (old : Family A V) (commands : List (Command V K)) (replies : List Reply) (new : Family A V) → AreLawful cmp key_of old commands replies new → RunKeepsInsertionOrder cmp key_of old commands replies new
+  keep_order old [] [] new run = λ c insertion_order stands orderly. subst (λ w. KeepsInsertionOrder cmp key_of w c insertion_order) (sym run) stands
+  keep_order old (command ∷ commands) (reply ∷ replies) new run = λ c insertion_order stands orderly.
+      keep_order run.0 commands replies new run.2 c (insertion_order_after c command reply insertion_order) (run.1.keeps_order c insertion_order stands orderly.0) (orderly.1 run.0 run.1.step)
   keep_order old [] (reply ∷ replies) new run = absurd run
   keep_order old (command ∷ commands) [] new run = absurd run
 

@@ -5,12 +5,10 @@ use Rattle.std.proofs.lemmas.List.{get_or-set_same, get_or_past}
 use Rattle.std.specs.Cmp.{IsTotalOrder}
 use Rattle.std.specs.List.{filter, list_all}
 use Rattle.std.specs.declared.cmp.Ordering.{Ordering}
-use Rattle.ic_unsafe_ref.specs.declared.place.Place.{Place}
-use Rattle.ic_unsafe_ref.specs.Objects.{object_at}
-use Rattle.ic_link_ops.specs.Sequences.{Cut, join, insert, first, last}
+use Rattle.ic_link_ops.specs.Prelude.{Place, object_at, Cut, join, insert, first, last}
 use Rattle.ic_rbtree.specs.Borders.{IsBorder, IsSortedFor, less_at}
 use Rattle.ic_rbtree.proofs.KeyLaws.{value_there}
-use Rattle.ic_rbtree.proofs.SortedAnswers.{put_behind, for_key, found_first, vacant_finds, lower_first, upper_last, range_filter}
+use Rattle.ic_rbtree.proofs.SortedAnswers.{put_after, for_key, found_first, vacant_finds, lower_first, upper_last, range_filter}
 use Rattle.ic_rbtree.proofs.SortedValues.{own_order_is}
 use Rattle.ic_world.specs.declared.call.Command.{Command}
 use Rattle.ic_world.specs.declared.call.Command.TheVariants as call
@@ -23,7 +21,7 @@ use Rattle.ic_world.specs.Family.{Family, Sequence, collection, objects_of, is_p
 use Rattle.ic_world.specs.Calls.{Reply, found, looked, range, entry, State, key_at, own_at, names, InsertionReplies, Replies}
 use Rattle.ic_world.specs.Step.{Step, StepOn}
 use Rattle.ic_world.specs.Several.{state_in, with_state, sequence_of}
-use Rattle.ic_world_laws.specs.Sorted.{IsSortedIn, has_key, has_greater, is_greater, is_from, is_until, FindsFirst, FindsEnd, IsWithinBoth, PutsBehind, GoesBehind}
+use Rattle.ic_world_laws.specs.Sorted.{IsSortedIn, has_key, has_greater, is_greater, is_from, is_until, FindsFirst, FindsEnd, IsWithinBoth, PutsAfter, GoesAfter}
 use Rattle.ic_world_laws.proofs.StepLaws.{of_reply, of_range}
 
 -- a collection that was there is what it was set to
@@ -53,13 +51,13 @@ IfRange P _ = Unit
 module _ {A V K : Type 0} {cmp : K → K → Ordering} (total : IsTotalOrder cmp) (key_of : A → V → K) (old : Family A V) (placed : AreAllPlaced old) where
   -- THE FIRST MEMBER OF A KEY is found
   pub finds_first : (command : Command V K) (new : Family A V) (reply : Reply) → Step cmp key_of old command reply new → FindsFirst cmp key_of old command reply
-  finds_first (call.Find c key) new (found p n) step = λ s is sorted.
+  finds_first (call.On c (search (searches.Find key))) new (found p n) step = λ s is sorted.
       of_reply cmp key_of c (search (searches.Find key)) (IfFound (λ p. p ≡ first (filter (has_key cmp key_of old key) s.members))) old new (found p n) step s is (λ r. tt)
       (λ there t replies left. found_first total key_of old.adapter (objects_of old) (placed c s is) sorted key replies.0)
-  finds_first (call.Entry c key object) new (entry true p n) step = λ s is sorted.
+  finds_first (call.On c (enter key object)) new (entry true p n) step = λ s is sorted.
       of_reply cmp key_of c (enter key object) (IfOccupied (λ p. Some p ≡ first (filter (has_key cmp key_of old key) s.members))) old new (entry true p n) step s is (λ r. tt)
       (λ there t replies left. found_first total key_of old.adapter (objects_of old) (placed c s is) sorted key replies.0)
-  finds_first (call.Entry c key object) new (entry false p n) step = λ s is sorted.
+  finds_first (call.On c (enter key object)) new (entry false p n) step = λ s is sorted.
       of_reply cmp key_of c (enter key object) (IfVacant (None ≡ first (filter (has_key cmp key_of old key) s.members))) old new (entry false p n) step s is (λ r. tt)
       (λ there t replies left. let at = replies.3 in
       found_first total key_of old.adapter (objects_of old) (placed c s is) sorted key (vacant_finds at.0 at.1 at.2.0.0 at.2.0.1))
@@ -67,10 +65,10 @@ module _ {A V K : Type 0} {cmp : K → K → Ordering} (total : IsTotalOrder cmp
 
   -- THE FIRST MEMBER within a lower bound is found, and the last one within an upper one
   pub finds_end : (command : Command V K) (new : Family A V) (reply : Reply) → Step cmp key_of old command reply new → FindsEnd cmp key_of old command reply
-  finds_end (call.LowerBound c bound) new (found p n) step = λ s is sorted.
+  finds_end (call.On c (search (searches.LowerBound bound))) new (found p n) step = λ s is sorted.
       of_reply cmp key_of c (search (searches.LowerBound bound)) (IfFound (λ p. p ≡ first (filter (is_from cmp key_of old bound) s.members))) old new (found p n) step s is (λ r. tt)
       (λ there t replies left. lower_first total key_of old.adapter (objects_of old) (placed c s is) sorted bound replies.0)
-  finds_end (call.UpperBound c bound) new (found p n) step = λ s is sorted.
+  finds_end (call.On c (search (searches.UpperBound bound))) new (found p n) step = λ s is sorted.
       of_reply cmp key_of c (search (searches.UpperBound bound)) (IfFound (λ p. p ≡ last (filter (is_until cmp key_of old bound) s.members))) old new (found p n) step s is (λ r. tt)
       (λ there t replies left. upper_last total key_of old.adapter (objects_of old) (placed c s is) sorted bound replies.0)
   finds_end _ new _ step = tt
@@ -82,15 +80,15 @@ module _ {A V K : Type 0} {cmp : K → K → Ordering} (total : IsTotalOrder cmp
       (λ replies. range_filter total key_of old.adapter (objects_of old) (placed c s is) sorted min max (apart.0 c s is) replies.0)
   is_within_both apart _ new _ step = tt
 
-  -- an object that is put into such a gap stands behind all that are not greater than what was searched
+  -- an object that is put into such a gap stands after all that are not greater than what was searched
   there_is : (c : ℕ) (s : Sequence) → collection old c ≡ Some s → (new : Family A V) (t : State) → new ≡ with_state old c s.field t → collection new c ≡ Some (sequence_of s.field t)
   there_is c s is new t left = subst (λ w. collection w c ≡ Some (sequence_of s.field t)) (sym left) (set_there old.collections c (sequence_of s.field t) is)
 
   behind : (c : ℕ) (p : Place) (s : Sequence) → collection old c ≡ Some s → (new : Family A V) (t : State) → new ≡ with_state old c s.field t
-      → (at : Place → Ordering) → IsSortedFor at s.members → (gap : Cut) → join gap ≡ s.members → IsBorder (less_at at) gap → t.members ≡ insert gap p → PutsBehind cmp key_of old (less_at at) c p new s.members
-  behind c p s is new t left at sorted gap cut border members = (sequence_of s.field t, there_is c s is new t left, members ∙ put_behind sorted gap cut border p)
+      → (at : Place → Ordering) → IsSortedFor at s.members → (gap : Cut) → join gap ≡ s.members → IsBorder (less_at at) gap → t.members ≡ insert gap p → PutsAfter cmp key_of old (less_at at) c p new s.members
+  behind c p s is new t left at sorted gap cut border members = (sequence_of s.field t, there_is c s is new t left, members ∙ put_after sorted gap cut border p)
 
-  -- AN OBJECT THAT IS PUT IN ORDER goes behind all that are not greater
+  -- AN OBJECT THAT IS PUT IN ORDER goes after all that are not greater
   module _ (c : ℕ) (p : Place) (s : Sequence) (is : collection old c ≡ Some s) (sorted : IsSortedIn cmp key_of old s.members) (there : is_placed old p ≡ true)
       (new : Family A V) (t : State) (cursor : Option Place) (left : new ≡ with_state old c s.field t)
       (n : ℕ) (puts : InsertionReplies cmp (key_of old.adapter) (objects_of old) p cursor (state_in old s) (looked n) t) where
@@ -103,12 +101,12 @@ module _ {A V K : Type 0} {cmp : K → K → Ordering} (total : IsTotalOrder cmp
     members_are : t.members ≡ insert puts.0.0 p
     members_are = ap (λ (x : State). x.members) puts.0.2.1
 
-    puts_behind : PutsBehind cmp key_of old (is_greater cmp key_of old p) c p new s.members
-    puts_behind = behind c p s is new t left (own_at cmp (key_of old.adapter) (objects_of old) p)
+    puts_after : PutsAfter cmp key_of old (is_greater cmp key_of old p) c p new s.members
+    puts_after = behind c p s is new t left (own_at cmp (key_of old.adapter) (objects_of old) p)
         (subst (λ at. IsSortedFor at s.members) (sym own_is) (for_key total key_of old.adapter (objects_of old) (placed c s is) sorted (key_of old.adapter own.0))) puts.0.0 puts.0.1 puts.0.2.0 members_are
 
   abbrev IsInOrder : ℕ → Place → Family A V → Sequence → Reply → Type 0
-  IsInOrder c p new s (looked n) = PutsBehind cmp key_of old (is_greater cmp key_of old p) c p new s.members
+  IsInOrder c p new s (looked n) = PutsAfter cmp key_of old (is_greater cmp key_of old p) c p new s.members
   IsInOrder c p new s _ = Unit
 
   -- a call that inserts in order, wherever it leaves the cursor
@@ -118,7 +116,7 @@ module _ {A V K : Type 0} {cmp : K → K → Ordering} (total : IsTotalOrder cmp
   inserts c p call cursor named puts new n step s is sorted = of_reply cmp key_of c (insertion call) (IsInOrder c p new s) old new (looked n) step s is (λ r. tt) (λ there t replies left.
       let placed_p = (and_parts (is_placed old p) true (subst (λ ps. list_all (is_placed old) ps ≡ true) named there)).0 in
       let put = puts (state_in old s) t n replies in
-      puts_behind c p s is sorted placed_p new t (cursor (state_in old s)) left n put)
+      puts_after c p s is sorted placed_p new t (cursor (state_in old s)) left n put)
 
   put_by_key : (c : ℕ) (p : Place) (new : Family A V) (n : ℕ) → StepOn cmp key_of old c (insertion (insertions.Insert p)) (looked n) new
       → (s : Sequence) → collection old c ≡ Some s → IsSortedIn cmp key_of old s.members → IsInOrder c p new s (looked n)
@@ -128,12 +126,12 @@ module _ {A V K : Type 0} {cmp : K → K → Ordering} (total : IsTotalOrder cmp
       → (s : Sequence) → collection old c ≡ Some s → IsSortedIn cmp key_of old s.members → IsInOrder c p new s (looked n)
   put_by_cursor c p = inserts c p (insertions.CursorInsert p) (λ s. s.cursor) refl (λ s t n h. h)
 
-  pub goes_behind : (command : Command V K) (new : Family A V) (reply : Reply) → Step cmp key_of old command reply new → GoesBehind cmp key_of old command reply new
-  goes_behind (call.Insert c p) new (looked n) step = λ s is sorted. put_by_key c p new n step s is sorted
-  goes_behind (call.CursorInsert c p) new (looked n) step = λ s is sorted. put_by_cursor c p new n step s is sorted
-  goes_behind (call.Entry c key p) new (entry false q n) step = λ s is sorted.
-      of_reply cmp key_of c (enter key p) (IfVacant (PutsBehind cmp key_of old (has_greater cmp key_of old key) c p new s.members)) old new (entry false q n) step s is (λ r. tt)
+  pub goes_after : (command : Command V K) (new : Family A V) (reply : Reply) → Step cmp key_of old command reply new → GoesAfter cmp key_of old command reply new
+  goes_after (call.On c (insertion (insertions.Insert p))) new (looked n) step = λ s is sorted. put_by_key c p new n step s is sorted
+  goes_after (call.On c (insertion (insertions.CursorInsert p))) new (looked n) step = λ s is sorted. put_by_cursor c p new n step s is sorted
+  goes_after (call.On c (enter key p)) new (entry false q n) step = λ s is sorted.
+      of_reply cmp key_of c (enter key p) (IfVacant (PutsAfter cmp key_of old (has_greater cmp key_of old key) c p new s.members)) old new (entry false q n) step s is (λ r. tt)
       (λ there t replies left. let at = replies.3 in
       behind c p s is new t left (key_at cmp (key_of old.adapter) (objects_of old) key) (for_key total key_of old.adapter (objects_of old) (placed c s is) sorted key) at.0 at.1 at.2.0.1
       (ap (λ (x : State). x.members) at.2.1))
-  goes_behind _ new _ step = tt
+  goes_after _ new _ step = tt

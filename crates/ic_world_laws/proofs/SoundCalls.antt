@@ -7,17 +7,14 @@ use Rattle.std.specs.Ordering.{nat_cmp, eq_by_cmp}
 use Rattle.std.specs.FinSet as set_of
 use Rattle.std.specs.FinSet.{contains-insert, contains-remove}
 use Rattle.std.specs.declared.cmp.Ordering.{Ordering}
-use Rattle.ic_unsafe_ref.specs.declared.place.Place.{Place}
-use Rattle.ic_unsafe_ref.specs.Places.{index_of}
-use Rattle.ic_unsafe_ref.specs.Objects.{Objects}
+use Rattle.ic_link_ops.specs.Prelude.{Place, index_of, Objects, Cut, join, first, last, but_last, IsAbsent, IsMember, IsDistinct, IsDisjoint}
 use Rattle.ic_unsafe_ref.proofs.PlaceLemmas.{same_index, same_or_not}
-use Rattle.ic_link_ops.specs.Sequences.{Cut, join, first, last, but_last, IsAbsent, IsMember, IsDistinct, IsDisjoint}
 use Rattle.ic_link_ops.proofs.SequenceLemmas.{absent_left, absent_right, absent_both, absent_with, absent_reverse, distinct_insert, distinct_middle, distinct_remove, distinct_replace, distinct_reverse, some_same, none_not, first_is, split_last}
 use Rattle.ic_rbtree.specs.Borders.{Finds, equal_at, if_passes}
 use Rattle.ic_world.specs.declared.call.Refusal.TheVariants.{WrongKind, NothingThere, NotAMember, AlreadyLinked}
 use Rattle.ic_world.specs.declared.calls.one_call.Call.TheVariants as one
-use Rattle.ic_world.specs.declared.calls.one_call.Where.{Where}
-use Rattle.ic_world.specs.declared.calls.one_call.Where.TheVariants.{Front, Back, Before, After}
+use Rattle.ic_any_collection.specs.declared.gap.Gap.{Gap}
+use Rattle.ic_any_collection.specs.declared.gap.Gap.TheVariants.{Front, Back, Before, After}
 use Rattle.ic_world.specs.declared.calls.one_call.Direction.TheVariants.{Next, Prev}
 use Rattle.ic_world.specs.declared.calls.seek.Seek.TheVariants.{Null, On, With}
 use Rattle.ic_world.specs.declared.calls.whole.Whole.TheVariants.{Clear, Reverse}
@@ -206,7 +203,7 @@ module _ (has : Place → Bool) where
         );
       }
 
-      -- a member behind the gap
+      -- a member after the gap
       module _ (out : Place) (behind : first gap.back ≡ Some out) where
         back_is : gap.back ≡ out ∷ drop 1 gap.back
         back_is = first_is gap.back (sym behind)
@@ -279,20 +276,20 @@ module _ (has : Place → Bool) where
             }
 
     -- where a cursor rests, it is on a member
-    rests_in : (at : Where) (q : Place) → rests at s.cursor ≡ Some q → IsMember q s.members
+    rests_in : (at : Gap) (q : Place) → rests at s.cursor ≡ Some q → IsMember q s.members
     rests_in Front q e = absurd (none_not q e)
     rests_in Back q e = absurd (none_not q e)
     rests_in Before q e = right.cursor q e
     rests_in After q e = right.cursor q e
 
     -- and after a member went out, on one that is left
-    onward_in : (at : Where) (gap : Cut) → IsFrontOf at s gap → (q : Place) → onward at s.cursor gap ≡ Some q → IsMember q (gap.front ++ drop 1 gap.back)
+    onward_in : (at : Gap) (gap : Cut) → IsFrontOf at s gap → (q : Place) → onward at s.cursor gap ≡ Some q → IsMember q (gap.front ++ drop 1 gap.back)
     onward_in Front gap h q e = absurd (none_not q e)
     onward_in Back gap h q e = absurd (none_not q e)
     onward_in Before gap h q e = member_right gap.front (drop 1 gap.back) q (first_member (drop 1 gap.back) (sym e))
     onward_in After gap h q e = member_left gap.front (drop 1 gap.back) q (last_member gap.front (sym e ∙ h))
 
-    onto_in : (at : Where) (gap : Cut) (p : Place) → IsFrontOf at s gap → (q : Place) → onto at s.cursor p ≡ Some q → (q ≡ p) ⊎ IsMember q (gap.front ++ drop 1 gap.back)
+    onto_in : (at : Gap) (gap : Cut) (p : Place) → IsFrontOf at s gap → (q : Place) → onto at s.cursor p ≡ Some q → (q ≡ p) ⊎ IsMember q (gap.front ++ drop 1 gap.back)
     onto_in Front gap p h q e = absurd (none_not q e)
     onto_in Back gap p h q e = absurd (none_not q e)
     onto_in Before gap p h q e = inl (sym (some_same e))

@@ -9,9 +9,7 @@ use Rattle.std.specs.FinSet.{contains-empty}
 use Rattle.std.specs.FinMap as map_of
 use Rattle.std.specs.FinMap.{get-insert, get-remove}
 use Rattle.std.proofs.lemmas.List.Folds.{list_any_at}
-use Rattle.ic_unsafe_ref.specs.declared.place.Place.{Place}
-use Rattle.ic_unsafe_ref.specs.Places.{index_of}
-use Rattle.ic_link_ops.specs.Sequences.{IsAbsent, IsMember, IsDistinct, IsDisjoint}
+use Rattle.ic_link_ops.specs.Prelude.{Place, index_of, IsAbsent, IsMember, IsDistinct, IsDisjoint}
 use Rattle.ic_link_ops.proofs.SequenceLemmas.{some_same, none_not, disjoint_sym}
 use Rattle.ic_any_collection.specs.declared.kind.Kind.{Kind}
 use Rattle.ic_any_collection.specs.declared.kind.Kind.TheVariants.{Singly}

@@ -1,13 +1,10 @@
 -- What users rely on, from the steps of the calls.
-use Rattle.std.proofs.Common.{◌≡◌, ◌↔◌, ℕ, Bool, true, false, not, List, [], ◌∷◌, Option, Some, None, is_some, refl, sym, ap, ◌∙◌, subst, MatchOption}
+use Rattle.std.proofs.Common.{◌≡◌, ◌↔◌, ℕ, Bool, true, false, not, List, [], ◌∷◌, Option, Some, None, is_some, refl, sym, ap, ◌∙◌, subst}
 use Rattle.std.specs.List.{list_all}
 use Rattle.std.specs.declared.cmp.Ordering.{Ordering}
 use Rattle.std.specs.FinSet as finite_set
-use Rattle.ic_unsafe_ref.specs.declared.place.Place.{Place}
-use Rattle.ic_unsafe_ref.specs.Places.{index_of}
-use Rattle.ic_unsafe_ref.specs.Objects.{Objects}
+use Rattle.ic_link_ops.specs.Prelude.{Place, index_of, Objects, first, last}
 use Rattle.ic_rbtree.specs.declared.keys.key_adapter.Bound.{Bound}
-use Rattle.ic_link_ops.specs.Sequences.{first, last}
 use Rattle.ic_link_ops.proofs.SequenceLemmas.{some_same}
 use Rattle.ic_any_collection.specs.AnyCollection.{is_tree}
 use Rattle.ic_world.specs.declared.call.Refusal.{Refusal}
@@ -16,8 +13,7 @@ use Rattle.ic_world.specs.declared.call.Command.{Command}
 use Rattle.ic_world.specs.declared.call.Command.TheVariants as call
 use Rattle.ic_world.specs.declared.calls.one_call.Call.{Call}
 use Rattle.ic_world.specs.declared.calls.one_call.Call.TheVariants as one
-use Rattle.ic_world.specs.declared.calls.one_call.Where.{Where}
-use Rattle.ic_world.specs.declared.calls.one_call.Where.TheVariants as at
+use Rattle.ic_any_collection.specs.declared.gap.Gap.{Gap}
 use Rattle.ic_world.specs.declared.calls.one_call.Direction.TheVariants.{Next, Prev}
 use Rattle.ic_world.specs.declared.calls.seek.Seek.TheVariants.{Null, On, With}
 use Rattle.ic_world.specs.declared.calls.whole.Whole.TheVariants.{Clear, Reverse}
@@ -28,9 +24,9 @@ use Rattle.ic_world.specs.declared.part.Part.TheVariants.{All, After, Before}
 use Rattle.ic_world.specs.Family.{Family, Sequence, collection, linked_of, is_placed, objects_of}
 use Rattle.ic_world.specs.Calls.{State, Reply, found, looked, range, entry, refused, object_or_nothing, asks, asks_unlinked, has_call, names, member_at, refusal_of, Replies}
 use Rattle.ic_world.specs.Several.{StepBy, OpensWith, asks_collection, state_in, with_state}
-use Rattle.ic_world.specs.Step.{Step, StepOn, Accepts, AcceptsOn, RangeReplies, call_of}
+use Rattle.ic_world.specs.Step.{Step, StepOn, Accepts, AcceptsOn, RangeReplies}
 use Rattle.ic_world.proofs.Steps.{state_back}
-use Rattle.ic_world_laws.specs.Laws.{inserts, IsWellNamed, AreFew, IsRefusedExactlyIfLinked, HasFewLooks}
+use Rattle.ic_world_laws.specs.Laws.{inserts, IsWellNamed, WithinBoundFor, IsRefusedExactlyIfLinked, KeepsComparisonBound}
 
 -- a refusal is no object, and not none
 not_object : {r : Refusal} (o : Option Place) → refused r ≡ object_or_nothing o → ⊥
@@ -40,33 +36,33 @@ not_object (Some p) e = cc
 module _ {V K : Type 0} (cmp : K → K → Ordering) (key_of : V → K) (objects : Objects V) where
   -- the looks of a descent, as each call tells them
   abbrev Tells : Command V K → Call K → Type 0
-  Tells command call = (s : State) (reply : Reply) (t : State) → Replies cmp key_of objects call s reply t → AreFew s.members command reply
+  Tells command call = (s : State) (reply : Reply) (t : State) → Replies cmp key_of objects call s reply t → WithinBoundFor s.members command reply
 
-  find_few : (c : ℕ) (key : K) → Tells (call.Find c key) (one.Search (Find key))
+  find_few : (c : ℕ) (key : K) → Tells (call.On c (one.Search (Find key))) (one.Search (Find key))
   find_few c key s (found p n) t h = h.1
   find_few c key s _ t h = absurd h
 
-  lower_few : (c : ℕ) (bound : Bound K) → Tells (call.LowerBound c bound) (one.Search (LowerBound bound))
+  lower_few : (c : ℕ) (bound : Bound K) → Tells (call.On c (one.Search (LowerBound bound))) (one.Search (LowerBound bound))
   lower_few c bound s (found p n) t h = h.1
   lower_few c bound s _ t h = absurd h
 
-  upper_few : (c : ℕ) (bound : Bound K) → Tells (call.UpperBound c bound) (one.Search (UpperBound bound))
+  upper_few : (c : ℕ) (bound : Bound K) → Tells (call.On c (one.Search (UpperBound bound))) (one.Search (UpperBound bound))
   upper_few c bound s (found p n) t h = h.1
   upper_few c bound s _ t h = absurd h
 
-  insert_few : (c : ℕ) (p : Place) → Tells (call.Insert c p) (one.Insertion (Insert p))
+  insert_few : (c : ℕ) (p : Place) → Tells (call.On c (one.Insertion (Insert p))) (one.Insertion (Insert p))
   insert_few c p s (looked n) t h = h.1
   insert_few c p s _ t h = absurd h
 
-  cursor_insert_few : (c : ℕ) (p : Place) → Tells (call.CursorInsert c p) (one.Insertion (CursorInsert p))
+  cursor_insert_few : (c : ℕ) (p : Place) → Tells (call.On c (one.Insertion (CursorInsert p))) (one.Insertion (CursorInsert p))
   cursor_insert_few c p s (looked n) t h = h.1
   cursor_insert_few c p s _ t h = absurd h
 
-  entered_few : (c : ℕ) (key : K) (p : Place) → Tells (call.Entry c key p) (one.Enter key p)
-  entered_few c key p s (entry true q n) t h = h.1
-  entered_few c key p s (entry false q n) t h = h.2
-  entered_few c key p s (refused r) t h = tt
-  entered_few c key p s _ t h = absurd h
+  entry_few : (c : ℕ) (key : K) (p : Place) → Tells (call.On c (one.Enter key p)) (one.Enter key p)
+  entry_few c key p s (entry true q n) t h = h.1
+  entry_few c key p s (entry false q n) t h = h.2
+  entry_few c key p s (refused r) t h = tt
+  entry_few c key p s _ t h = absurd h
 
   -- no accepted call is refused, but a vacant entry of a linked object
   replies_stay : (call : Call K) (s : State) (r : Refusal) (t : State) → Replies cmp key_of objects call s (refused r) t → t ≡ s
@@ -95,10 +91,9 @@ module _ {A V K : Type 0} (cmp : K → K → Ordering) (key_of : A → V → K) 
   refused_by None Accepted old new r step stays = stays step
   refused_by (Some x) Accepted old new r step stays = step.1
 
-  on_stays : (o : Option (ℕ × Call K)) (old new : Family A V) (r : Refusal) → MatchOption o ⊥ (λ u. AcceptsOn cmp key_of old u.0 u.1 (refused r) new) → new ≡ old
-  on_stays None old new r h = absurd h
-  on_stays (Some u) old new r h =
-      h.4 ∙ ap (with_state old u.0 h.0.field) (replies_stay cmp (key_of old.adapter) (objects_of old) u.1 (state_in old h.0) r h.1 h.3) ∙ state_back old u.0 h.0 h.2
+  on_stays : (c : ℕ) (one : Call K) (old new : Family A V) (r : Refusal) → AcceptsOn cmp key_of old c one (refused r) new → new ≡ old
+  on_stays c one old new r h =
+      h.4 ∙ ap (with_state old c h.0.field) (replies_stay cmp (key_of old.adapter) (objects_of old) one (state_in old h.0) r h.1 h.3) ∙ state_back old c h.0 h.2
 
   out_stays : (c : ℕ) (part : Part) (old new : Family A V) (r : Refusal) → OpensWith old c part (refused r) new → new ≡ old
   out_stays c part old new OutOfMemory h = h
@@ -129,7 +124,7 @@ module _ {A V K : Type 0} (cmp : K → K → Ordering) (key_of : A → V → K) 
   accepted_stays (call.Range c min max) old new r h = h.3
   accepted_stays (call.IsLinked f p) old new r h = h.1
   accepted_stays (call.ForceUnlink f p) old new r h = absurd (let no = h.0 in cc)
-  accepted_stays other old new r h = on_stays (call_of other) old new r h
+  accepted_stays (call.On c one) old new r h = on_stays c one old new r h
 
   pub refused_stays : (command : Command V K) (old new : Family A V) (reply : Reply) (r : Refusal) → Step cmp key_of old command reply new → reply ≡ refused r → new ≡ old
   refused_stays command old new reply r step is = refused_by _ (Accepts cmp key_of old command) old new r (subst (λ x. Step cmp key_of old command x new) is step) (accepted_stays command old new r)
@@ -154,10 +149,10 @@ module _ {A V K : Type 0} (cmp : K → K → Ordering) (key_of : A → V → K) 
       (ap (λ o. asks_collection o (λ s. asks (list_all (is_placed old) (names call)) NoSuchObject (refusal_of call (state_in old s)))) is ∙ ap (asks (list_all (is_placed old) (names call)) NoSuchObject) (tests (state_in old s)))
       (AcceptsOn cmp key_of old c call) old new reply step (λ h. never old _ _ h.3) well
 
-  put_on : (c : ℕ) (p : Place) (at_gap : Where) (old new : Family A V) (reply : Reply) → StepOn cmp key_of old c (one.Put at_gap p) reply new → IsRefusedExactlyIfLinked old (Some (c, p)) reply
+  put_on : (c : ℕ) (p : Place) (at_gap : Gap) (old new : Family A V) (reply : Reply) → StepOn cmp key_of old c (one.Put at_gap p) reply new → IsRefusedExactlyIfLinked old (Some (c, p)) reply
   put_on c p at_gap = insert_on c p (one.Put at_gap p) (λ s. true) refl (λ s. refl) (λ w s t h. let no = h.0 in cc)
 
-  swap_on : (c : ℕ) (p : Place) (at_gap : Where) (old new : Family A V) (reply : Reply) → StepOn cmp key_of old c (one.Swap at_gap p) reply new → IsRefusedExactlyIfLinked old (Some (c, p)) reply
+  swap_on : (c : ℕ) (p : Place) (at_gap : Gap) (old new : Family A V) (reply : Reply) → StepOn cmp key_of old c (one.Swap at_gap p) reply new → IsRefusedExactlyIfLinked old (Some (c, p)) reply
   swap_on c p at_gap = insert_on c p (one.Swap at_gap p) (λ s. is_some (member_at at_gap s)) refl (λ s. refl) (λ w s t h. let no = h.2.3 in cc)
 
   entry_replies : (w : Family A V) (key : K) (p : Place) (s t : State) (reply : Reply) → Replies cmp (key_of w.adapter) (objects_of w) (one.Enter key p) s reply t → IsWellNamed reply
@@ -181,15 +176,11 @@ module _ {A V K : Type 0} (cmp : K → K → Ordering) (key_of : A → V → K) 
           (entry_replies old key p (state_in old h.0) h.1 reply h.3 well)
 
   pub insert_refused : (command : Command V K) (old new : Family A V) (reply : Reply) → Step cmp key_of old command reply new → IsRefusedExactlyIfLinked old (inserts command) reply
-  insert_refused (call.PushFront c p) = put_on c p at.Front
-  insert_refused (call.PushBack c p) = put_on c p at.Back
-  insert_refused (call.InsertAfter c p) = put_on c p at.After
-  insert_refused (call.InsertBefore c p) = put_on c p at.Before
-  insert_refused (call.ReplaceWith c p) = swap_on c p at.Before
-  insert_refused (call.ReplaceNextWith c p) = swap_on c p at.After
-  insert_refused (call.Insert c p) = insert_on c p (one.Insertion (Insert p)) (λ s. true) refl (λ s. refl) (λ w s t h. h)
-  insert_refused (call.CursorInsert c p) = insert_on c p (one.Insertion (CursorInsert p)) (λ s. true) refl (λ s. refl) (λ w s t h. h)
-  insert_refused (call.Entry c key p) = entry_on c key p
+  insert_refused (call.On c (one.Put at_gap p)) = put_on c p at_gap
+  insert_refused (call.On c (one.Swap at_gap p)) = swap_on c p at_gap
+  insert_refused (call.On c (one.Insertion (Insert p))) = insert_on c p (one.Insertion (Insert p)) (λ s. true) refl (λ s. refl) (λ w s t h. h)
+  insert_refused (call.On c (one.Insertion (CursorInsert p))) = insert_on c p (one.Insertion (CursorInsert p)) (λ s. true) refl (λ s. refl) (λ w s t h. h)
+  insert_refused (call.On c (one.Enter key p)) = entry_on c key p
   insert_refused _ = λ old new reply step. tt
 
   -- WHAT HOLDS OF EACH REPLY of a call of one collection, if it does of a refusal and of what is accepted
@@ -220,24 +211,24 @@ module _ {A V K : Type 0} (cmp : K → K → Ordering) (key_of : A → V → K) 
     by None step = accepted (subst (λ x. RangeReplies cmp key_of old min max x reply) (some_same (sym step.1 ∙ is)) step.2)
 
   -- LOOKS ARE FEW
-  few_on : (command : Command V K) (c : ℕ) (call : Call K) → ((s : List Place) (r : Refusal) → AreFew s command (refused r))
+  few_on : (command : Command V K) (c : ℕ) (call : Call K) → ((s : List Place) (r : Refusal) → WithinBoundFor s command (refused r))
       → ((objects : Objects V) (adapter : A) → Tells cmp (key_of adapter) objects command call) → (old new : Family A V) (reply : Reply)
-      → StepOn cmp key_of old c call reply new → (s : Sequence) → collection old c ≡ Some s → AreFew s.members command reply
+      → StepOn cmp key_of old c call reply new → (s : Sequence) → collection old c ≡ Some s → WithinBoundFor s.members command reply
   few_on command c call none tells old new reply step s is =
-      of_reply c call (AreFew s.members command) old new reply step s is (none s.members) (λ there t replies left. tells (objects_of old) old.adapter (state_in old s) reply t replies)
+      of_reply c call (WithinBoundFor s.members command) old new reply step s is (none s.members) (λ there t replies left. tells (objects_of old) old.adapter (state_in old s) reply t replies)
 
-  range_few : (c : ℕ) (min max : Bound K) (w : Family A V) (s : Sequence) (reply : Reply) → RangeReplies cmp key_of w min max s reply → AreFew {V = V} s.members (call.Range c min max) reply
+  range_few : (c : ℕ) (min max : Bound K) (w : Family A V) (s : Sequence) (reply : Reply) → RangeReplies cmp key_of w min max s reply → WithinBoundFor {V = V} s.members (call.Range c min max) reply
   range_few c min max w s (range places n m) h = (h.1, h.2)
   range_few c min max w s (refused r) h = tt
   range_few c min max w s _ h = absurd h
 
-  pub looks_few : (command : Command V K) (old new : Family A V) (reply : Reply) → Step cmp key_of old command reply new → HasFewLooks old command reply
-  looks_few (call.Find c key) = few_on (call.Find c key) c (one.Search (Find key)) (λ s r. tt) (λ objects a. find_few cmp (key_of a) objects c key)
-  looks_few (call.LowerBound c bound) = few_on (call.LowerBound c bound) c (one.Search (LowerBound bound)) (λ s r. tt) (λ objects a. lower_few cmp (key_of a) objects c bound)
-  looks_few (call.UpperBound c bound) = few_on (call.UpperBound c bound) c (one.Search (UpperBound bound)) (λ s r. tt) (λ objects a. upper_few cmp (key_of a) objects c bound)
-  looks_few (call.Insert c p) = few_on (call.Insert c p) c (one.Insertion (Insert p)) (λ s r. tt) (λ objects a. insert_few cmp (key_of a) objects c p)
-  looks_few (call.CursorInsert c p) = few_on (call.CursorInsert c p) c (one.Insertion (CursorInsert p)) (λ s r. tt) (λ objects a. cursor_insert_few cmp (key_of a) objects c p)
-  looks_few (call.Entry c key p) = few_on (call.Entry c key p) c (one.Enter key p) (λ s r. tt) (λ objects a. entered_few cmp (key_of a) objects c key p)
+  pub looks_few : (command : Command V K) (old new : Family A V) (reply : Reply) → Step cmp key_of old command reply new → KeepsComparisonBound old command reply
+  looks_few (call.On c (one.Search (Find key))) = few_on (call.On c (one.Search (Find key))) c (one.Search (Find key)) (λ s r. tt) (λ objects a. find_few cmp (key_of a) objects c key)
+  looks_few (call.On c (one.Search (LowerBound bound))) = few_on (call.On c (one.Search (LowerBound bound))) c (one.Search (LowerBound bound)) (λ s r. tt) (λ objects a. lower_few cmp (key_of a) objects c bound)
+  looks_few (call.On c (one.Search (UpperBound bound))) = few_on (call.On c (one.Search (UpperBound bound))) c (one.Search (UpperBound bound)) (λ s r. tt) (λ objects a. upper_few cmp (key_of a) objects c bound)
+  looks_few (call.On c (one.Insertion (Insert p))) = few_on (call.On c (one.Insertion (Insert p))) c (one.Insertion (Insert p)) (λ s r. tt) (λ objects a. insert_few cmp (key_of a) objects c p)
+  looks_few (call.On c (one.Insertion (CursorInsert p))) = few_on (call.On c (one.Insertion (CursorInsert p))) c (one.Insertion (CursorInsert p)) (λ s r. tt) (λ objects a. cursor_insert_few cmp (key_of a) objects c p)
+  looks_few (call.On c (one.Enter key p)) = few_on (call.On c (one.Enter key p)) c (one.Enter key p) (λ s r. tt) (λ objects a. entry_few cmp (key_of a) objects c key p)
   looks_few (call.Range c min max) = λ old new reply step s is.
-      of_range c min max (AreFew {V = V} s.members (call.Range c min max)) old new reply step s is (λ r. tt) (range_few c min max old s reply)
+      of_range c min max (WithinBoundFor {V = V} s.members (call.Range c min max)) old new reply step s is (λ r. tt) (range_few c min max old s reply)
   looks_few _ = λ old new reply step. tt

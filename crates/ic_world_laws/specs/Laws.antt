@@ -1,38 +1,33 @@
 -- What users rely on, whatever the calls were.
 use Rattle.std.specs.Prelude.{◌≡◌, ◌↔◌, ℕ, true, List, Option, Some, None, IfSome}
 use Rattle.std.specs.FinSet as set
-use Rattle.ic_unsafe_ref.specs.declared.place.Place.{Place}
-use Rattle.ic_unsafe_ref.specs.Places.{index_of}
-use Rattle.ic_world.specs.Looks.{FewLooks, FewLooksWithin}
+use Rattle.ic_link_ops.specs.Prelude.{Place, index_of}
+use Rattle.ic_world.specs.Looks.{WithinComparisonBound, WithinBound}
 use Rattle.ic_world.specs.declared.call.Refusal.TheVariants.{AlreadyLinked}
 use Rattle.ic_world.specs.declared.call.Command.{Command}
 use Rattle.ic_world.specs.declared.call.Command.TheVariants as call
+use Rattle.ic_world.specs.declared.calls.one_call.Call.TheVariants as one
+use Rattle.ic_world.specs.declared.calls.search.Search.TheVariants.{LowerBound, UpperBound}
+use Rattle.ic_world.specs.declared.calls.insertion.Insertion.TheVariants.{Insert, CursorInsert}
 use Rattle.ic_world.specs.Family.{Family, Sequence, collection, linked_of}
 use Rattle.ic_world.specs.Calls.{Reply, found, looked, range, entry, refused}
 
 module _ {V K : Type 0} where
   -- the collection that a call puts an object into, and the object
   abbrev pub inserts : Command V K → Option (ℕ × Place)
-  inserts (call.PushFront c p) = Some (c, p)
-  inserts (call.PushBack c p) = Some (c, p)
-  inserts (call.InsertAfter c p) = Some (c, p)
-  inserts (call.InsertBefore c p) = Some (c, p)
-  inserts (call.ReplaceWith c p) = Some (c, p)
-  inserts (call.ReplaceNextWith c p) = Some (c, p)
-  inserts (call.Insert c p) = Some (c, p)
-  inserts (call.CursorInsert c p) = Some (c, p)
-  inserts (call.Entry c key p) = Some (c, p)
+  inserts (call.On c (one.Put at p)) = Some (c, p)
+  inserts (call.On c (one.Swap at p)) = Some (c, p)
+  inserts (call.On c (one.Insertion (Insert p))) = Some (c, p)
+  inserts (call.On c (one.Insertion (CursorInsert p))) = Some (c, p)
+  inserts (call.On c (one.Enter key p)) = Some (c, p)
   inserts _ = None
 
   -- the tree that a call descends
   abbrev pub descends : Command V K → Option ℕ
-  descends (call.Find c key) = Some c
-  descends (call.LowerBound c bound) = Some c
-  descends (call.UpperBound c bound) = Some c
+  descends (call.On c (one.Search search)) = Some c
+  descends (call.On c (one.Insertion insertion)) = Some c
+  descends (call.On c (one.Enter key p)) = Some c
   descends (call.Range c min max) = Some c
-  descends (call.Insert c p) = Some c
-  descends (call.CursorInsert c p) = Some c
-  descends (call.Entry c key p) = Some c
   descends _ = None
 
 -- A REPLY IS WELL NAMED if it is no refusal, or the refusal `AlreadyLinked`. The reply of an `entry` that found its key is not
@@ -45,14 +40,14 @@ IsWellNamed _ = Unit
 -- so few looks as the call makes in a tree with the members s: those of one descent, none by `Unbounded`. A range tells those of
 -- its lower bound first
 module _ {V K : Type 0} (s : List Place) where
-  abbrev pub AreFew : Command V K → Reply → Type 0
-  AreFew (call.LowerBound c bound) (found p looks) = FewLooksWithin bound looks s
-  AreFew (call.UpperBound c bound) (found p looks) = FewLooksWithin bound looks s
-  AreFew (call.Range c min max) (range places first_looks second_looks) = FewLooksWithin min first_looks s × FewLooksWithin max second_looks s
-  AreFew _ (found p looks) = FewLooks looks s
-  AreFew _ (looked looks) = FewLooks looks s
-  AreFew _ (entry occupied p looks) = FewLooks looks s
-  AreFew _ _ = Unit
+  abbrev pub WithinBoundFor : Command V K → Reply → Type 0
+  WithinBoundFor (call.On c (one.Search (LowerBound bound))) (found p looks) = WithinBound bound looks s
+  WithinBoundFor (call.On c (one.Search (UpperBound bound))) (found p looks) = WithinBound bound looks s
+  WithinBoundFor (call.Range c min max) (range places first_looks second_looks) = WithinBound min first_looks s × WithinBound max second_looks s
+  WithinBoundFor _ (found p looks) = WithinComparisonBound looks s
+  WithinBoundFor _ (looked looks) = WithinComparisonBound looks s
+  WithinBoundFor _ (entry occupied p looks) = WithinComparisonBound looks s
+  WithinBoundFor _ _ = Unit
 
 module _ {A V : Type 0} where
   -- AN INSERT THAT IS WELL NAMED IS REFUSED EXACTLY IF its object is linked in the field of the collection
@@ -63,5 +58,5 @@ module _ {A V : Type 0} where
 
   -- LOOKS ARE FEW: a descent of a tree that had n members before the call tells v looks, where 2^v is at most (n + 1)^2. A descent for a key
   -- tells one at least if the tree had a member, and one by `Unbounded` none
-  abbrev pub HasFewLooks : {K : Type 0} → Family A V → Command V K → Reply → Type 0
-  HasFewLooks w command reply = IfSome (descends command) (λ c. (s : Sequence) → collection w c ≡ Some s → AreFew s.members command reply)
+  abbrev pub KeepsComparisonBound : {K : Type 0} → Family A V → Command V K → Reply → Type 0
+  KeepsComparisonBound w command reply = IfSome (descends command) (λ c. (s : Sequence) → collection w c ≡ Some s → WithinBoundFor s.members command reply)

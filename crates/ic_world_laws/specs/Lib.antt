@@ -1,4 +1,4 @@
 pub mod Laws
 pub mod Sorted
-pub mod Entered
+pub mod InsertionOrder
 pub mod Runs

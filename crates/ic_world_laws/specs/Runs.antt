@@ -7,9 +7,9 @@ use Rattle.ic_world.specs.Calls.{Reply, refused}
 use Rattle.ic_world.specs.Family.{Family}
 use Rattle.ic_world.specs.Sound.{IsSound}
 use Rattle.ic_world.specs.Step.{Step}
-use Rattle.ic_world_laws.specs.Laws.{inserts, IsRefusedExactlyIfLinked, HasFewLooks}
-use Rattle.ic_world_laws.specs.Sorted.{FindsFirst, FindsEnd, IsWithinBoth, GoesBehind}
-use Rattle.ic_world_laws.specs.Entered.{StaysSorted, KeepsOrder, StartsInOrder}
+use Rattle.ic_world_laws.specs.Laws.{inserts, IsRefusedExactlyIfLinked, KeepsComparisonBound}
+use Rattle.ic_world_laws.specs.Sorted.{FindsFirst, FindsEnd, IsWithinBoth, GoesAfter}
+use Rattle.ic_world_laws.specs.InsertionOrder.{StaysSorted, KeepsOrder, StartsInOrder}
 
 -- `cmp`, `key_of`: the order of the keys, and the key of a value
 module _ {A V K : Type 0} (cmp : K → K → Ordering) (key_of : A → V → K) where
@@ -23,12 +23,12 @@ module _ {A V K : Type 0} (cmp : K → K → Ordering) (key_of : A → V → K) 
     pub refused_changes_nothing : (refusal : Refusal) → reply ≡ refused refusal → new ≡ old
     pub insert_is_refused_if_linked : IsRefusedExactlyIfLinked old (inserts command) reply
     -- a descent over n members looks at v, with 2^v at most (n + 1)^2
-    pub looks_are_few : HasFewLooks old command reply
+    pub looks_are_few : KeepsComparisonBound old command reply
     -- while a tree is sorted, the answers of its keyed calls are filters
     pub key_is_found_first : FindsFirst cmp key_of old command reply
     pub bound_is_found_at_its_end : FindsEnd cmp key_of old command reply
     pub range_is_within_both : IsWithinBoth cmp key_of old command reply
-    pub insert_goes_behind : GoesBehind cmp key_of old command reply new
+    pub insert_goes_after : GoesAfter cmp key_of old command reply new
     -- and it stays so by each call that is orderly for it, with equal keys in the order of their insertion
     pub stays_sorted : StaysSorted cmp key_of old command new
     pub keeps_order : KeepsOrder cmp key_of old command reply new

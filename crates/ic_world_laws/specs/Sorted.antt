@@ -2,14 +2,15 @@
 use Rattle.std.specs.Prelude.{◌≡◌, ℕ, true, false, not, ◌&&◌, Bool, List, ◌∷◌, ◌++◌, map, Some, None}
 use Rattle.std.specs.List.{filter}
 use Rattle.std.specs.declared.cmp.Ordering.{Ordering}
-use Rattle.ic_unsafe_ref.specs.declared.place.Place.{Place}
-use Rattle.ic_link_ops.specs.PlacedObjects.{values_at}
-use Rattle.ic_link_ops.specs.Sequences.{first, last}
+use Rattle.ic_link_ops.specs.Prelude.{Place, first, last, values_at}
 use Rattle.ic_rbtree.specs.declared.keys.key_adapter.Bound.{Bound}
 use Rattle.ic_rbtree.specs.Borders.{IsSorted, equal_at, less_at}
 use Rattle.ic_rbtree.specs.Comparing.{meets_lower, meets_upper}
 use Rattle.ic_world.specs.declared.call.Command.{Command}
 use Rattle.ic_world.specs.declared.call.Command.TheVariants as call
+use Rattle.ic_world.specs.declared.calls.one_call.Call.TheVariants as one
+use Rattle.ic_world.specs.declared.calls.search.Search.TheVariants.{Find, LowerBound, UpperBound}
+use Rattle.ic_world.specs.declared.calls.insertion.Insertion.TheVariants.{Insert, CursorInsert}
 use Rattle.ic_world.specs.Family.{Family, Sequence, collection, objects_of}
 use Rattle.ic_world.specs.Calls.{key_at, bound_at, own_at, Reply, found, looked, range, entry}
 
@@ -44,15 +45,15 @@ module _ {A V K : Type 0} (cmp : K → K → Ordering) (key_of : A → V → K) 
 
   -- A SEARCH FOR A KEY finds the first member that has it, and none has it where an entry is vacant
   abbrev pub FindsFirst : Command V K → Reply → Type 0
-  FindsFirst (call.Find c key) (found p looks) = WhileSorted c (λ s. p ≡ first (filter (has_key key) s))
-  FindsFirst (call.Entry c key object) (entry true p looks) = WhileSorted c (λ s. Some p ≡ first (filter (has_key key) s))
-  FindsFirst (call.Entry c key object) (entry false p looks) = WhileSorted c (λ s. None ≡ first (filter (has_key key) s))
+  FindsFirst (call.On c (one.Search (Find key))) (found p looks) = WhileSorted c (λ s. p ≡ first (filter (has_key key) s))
+  FindsFirst (call.On c (one.Enter key object)) (entry true p looks) = WhileSorted c (λ s. Some p ≡ first (filter (has_key key) s))
+  FindsFirst (call.On c (one.Enter key object)) (entry false p looks) = WhileSorted c (λ s. None ≡ first (filter (has_key key) s))
   FindsFirst _ _ = Unit
 
   -- A LOWER BOUND finds the first member within it, and an upper bound the last
   abbrev pub FindsEnd : Command V K → Reply → Type 0
-  FindsEnd (call.LowerBound c bound) (found p looks) = WhileSorted c (λ s. p ≡ first (filter (is_from bound) s))
-  FindsEnd (call.UpperBound c bound) (found p looks) = WhileSorted c (λ s. p ≡ last (filter (is_until bound) s))
+  FindsEnd (call.On c (one.Search (LowerBound bound))) (found p looks) = WhileSorted c (λ s. p ≡ first (filter (is_from bound) s))
+  FindsEnd (call.On c (one.Search (UpperBound bound))) (found p looks) = WhileSorted c (λ s. p ≡ last (filter (is_until bound) s))
   FindsEnd _ _ = Unit
 
   -- A RANGE is all members within both bounds
@@ -61,16 +62,16 @@ module _ {A V K : Type 0} (cmp : K → K → Ordering) (key_of : A → V → K) 
   IsWithinBoth _ _ = Unit
 
   -- COLLECTION c HAS NOW the members of s that are not greater, then p, then the greater ones
-  abbrev pub PutsBehind : (Place → Bool) → ℕ → Place → Family A V → List Place → Type 0
-  PutsBehind greater c p new s = (t : Sequence) × (collection new c ≡ Some t) × (t.members ≡ filter (λ q. not (greater q)) s ++ p ∷ filter greater s)
+  abbrev pub PutsAfter : (Place → Bool) → ℕ → Place → Family A V → List Place → Type 0
+  PutsAfter greater c p new s = (t : Sequence) × (collection new c ≡ Some t) × (t.members ≡ filter (λ q. not (greater q)) s ++ p ∷ filter greater s)
 
-  -- AN INSERT puts its object behind all members whose keys are not greater than the object's own. An entry that was vacant puts it behind all
+  -- AN INSERT puts its object after all members whose keys are not greater than the object's own. An entry that was vacant puts it after all
   -- whose keys are not greater than the key of the entry
-  abbrev pub GoesBehind : Command V K → Reply → Family A V → Type 0
-  GoesBehind (call.Insert c p) (looked looks) new = WhileSorted c (PutsBehind (is_greater p) c p new)
-  GoesBehind (call.CursorInsert c p) (looked looks) new = WhileSorted c (PutsBehind (is_greater p) c p new)
-  GoesBehind (call.Entry c key p) (entry false q looks) new = WhileSorted c (PutsBehind (has_greater key) c p new)
-  GoesBehind _ _ new = Unit
+  abbrev pub GoesAfter : Command V K → Reply → Family A V → Type 0
+  GoesAfter (call.On c (one.Insertion (Insert p))) (looked looks) new = WhileSorted c (PutsAfter (is_greater p) c p new)
+  GoesAfter (call.On c (one.Insertion (CursorInsert p))) (looked looks) new = WhileSorted c (PutsAfter (is_greater p) c p new)
+  GoesAfter (call.On c (one.Enter key p)) (entry false q looks) new = WhileSorted c (PutsAfter (has_greater key) c p new)
+  GoesAfter _ _ new = Unit
 
 module _ {A V K : Type 0} (cmp : K → K → Ordering) (key_of : A → V → K) where
   -- the members of collection c are sorted after the call

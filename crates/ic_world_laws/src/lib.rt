@@ -9,7 +9,7 @@
 ghost use Rattle.std.specs.Prelude.{◌≡◌, ◌++◌, List, map as map_list, OnOk, OnErr};
 ghost use Rattle.ic_world.specs.Answers.{reply_in};
 ghost use Rattle.ic_world.specs.Sound.{IsSound};
-ghost use Rattle.ic_world_laws.specs.Entered.{RunKeepsOrder};
+ghost use Rattle.ic_world_laws.specs.InsertionOrder.{RunKeepsInsertionOrder};
 ghost use Rattle.ic_world_laws.specs.Runs.{IsLawful, AreLawful};
 
 use ic_rbtree::KeyAdapter;
@@ -25,7 +25,7 @@ use std::alloc::{AllocError, Allocator};
 ///   range tells those of its two searches. A search by `Unbounded` makes none.
 /// - While the tree is sorted, `find` and an occupied `entry` answer the first member of the key, and no member has the key of a vacant
 ///   one; `lower_bound` and `upper_bound` answer the first and the last member within the bound; `range` all members within both.
-/// - An insert in order goes behind all members whose keys are not greater. An object goes into a vacant entry behind all members whose
+/// - An insert in order goes after all members whose keys are not greater. An object goes into a vacant entry after all members whose
 ///   keys are not greater than the key.
 /// - A sorted collection stays sorted, and its equal keys stand in the order of their insertion, but by a call that puts an object into it
 ///   by position or by another key, that turns, joins, splits or gives it up, or that gives a member another key.
@@ -62,7 +62,7 @@ where
     ensures sound { IsSound world.old × IsSound world.new }
     ensures lawful { OnOk result ((given : List (Answer M)) × (answers.new.items ≡ answers.old.items ++ given)
         × AreLawful A.Key.cmp A.key_of world.old commands.now (map_list reply_in given) world.new
-        × RunKeepsOrder A.Key.cmp A.key_of world.old commands.now (map_list reply_in given) world.new) }
+        × RunKeepsInsertionOrder A.Key.cmp A.key_of world.old commands.now (map_list reply_in given) world.new) }
     ensures refused { OnErr result ((world.new ≡ world.old) × (answers.new.items ≡ answers.old.items)) }
 {
     world.family_is_sound();

@@ -2,7 +2,7 @@
 use Rattle.std.specs.Prelude.{◌≡◌, ⊤, Option, Some, None}
 use Rattle.ic_unsafe_ref.specs.declared.place.Place.{Place}
 
--- the member that it is on, and the place behind that one
+-- the member that it is on, and the place after that one
 pub record PlaceAndNext : Type 0 where
   pub place : Place
   pub next : Option Place
@@ -17,7 +17,7 @@ abbrev pub member_of : Option PlaceAndNext → Option Place
 member_of None = None
 member_of (Some at) = Some at.place
 
--- what it keeps is the place behind that member
+-- what it keeps is the place after that member
 abbrev pub CachesNext : Option PlaceAndNext → Option Place → Type 0
 CachesNext None next = ⊤
 CachesNext (Some at) next = at.next ≡ next

@@ -2,12 +2,12 @@
 //! is turned round, and that two turns of it are none.
 //!
 //! ```text
-//! laws::reversed_is_shown(&mut list, &links); // its members in the opposite order
+//! laws::reversed_is_represented(&mut list, &links); // its members in the opposite order
 //! ```
 
 ghost use Rattle.std.specs.Prelude.{◌≡◌, List, reverse};
 ghost use Rattle.ic_unsafe_ref.specs.declared.place.Place.{Place};
-ghost use Rattle.ic_link_ops.specs.XorLinkedList.{Shows};
+ghost use Rattle.ic_link_ops.specs.XorLinkedList.{Represents};
 
 use crate::XorLinkedList;
 pub use ic_chain::laws::{
@@ -15,18 +15,18 @@ pub use ic_chain::laws::{
 };
 use ic_link_ops::xor_linked_list::XorLinkedListOps;
 
-/// Turns a list round: a table that showed a sequence for it shows that sequence turned round.
+/// Turns a list round: a table that showed a sequence for it represents that sequence turned round.
 ///
-/// No entry says which of its neighbors is in front. O(1), and the table is not written.
-pub fn reversed_is_shown<T, L: XorLinkedListOps>(list: &mut XorLinkedList<T>, links: &L)
-    ensures shown { (s : List Place) → Shows L.linked L.Joins (L.table links.now) list.old s
-        → Shows L.linked L.Joins (L.table links.now) list.new (reverse s) }
+/// No entry says which of its neighbors is before. O(1), and the table is not written.
+pub fn reversed_is_represented<T, L: XorLinkedListOps>(list: &mut XorLinkedList<T>, links: &L)
+    ensures shown { (s : List Place) → Represents L.linked L.Joins (L.table links.now) list.old s
+        → Represents L.linked L.Joins (L.table links.now) list.new (reverse s) }
 {
     let _ = links;
     list.reverse();
 }
 
-/// Turns a list round twice, and returns it as it was: what a table showed for it, it shows still.
+/// Turns a list round twice, and returns it as it was: what a table showed for it, it represents still.
 ///
 /// It is handed no table, so no entry is written. O(1).
 pub fn reversed_twice<T>(list: XorLinkedList<T>) -> XorLinkedList<T>

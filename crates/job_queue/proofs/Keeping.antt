@@ -2,13 +2,9 @@
 use Rattle.std.specs.Prelude.{Result, Ok, Err, IfErr, IsErr, IsErrAnd}
 use Rattle.std.proofs.Common.{◌≡◌, ◌^◌, leb, None, Some, List, [], ◌∷◌, drop, refl, sym, ap, subst, ◌∙◌, arith}
 use Rattle.std.proofs.lemmas.Bool.{false_from_ne_true}
-use Rattle.ic_unsafe_ref.specs.declared.place.Place.{Place}
-use Rattle.ic_unsafe_ref.specs.Objects.{Objects, Frees, object_at}
+use Rattle.ic_link_ops.specs.Prelude.{Place, Objects, Frees, object_at, first, Unlinks, values_at}
 use Rattle.ic_link_ops.specs.Chains.{Ends, no_members}
-use Rattle.ic_link_ops.specs.DoublyEntries.{DoublyLinkOps, is_linked, neighbors_of, plain_table, PlainShows}
-use Rattle.ic_link_ops.specs.PlacedObjects.{values_at}
-use Rattle.ic_link_ops.specs.Sequences.{first}
-use Rattle.ic_link_ops.specs.Tables.{Unlinks}
+use Rattle.ic_link_ops.specs.DoublyEntries.{DoublyLinkOps, is_linked, neighbors_of, plain_table, PlainRepresents}
 use Rattle.ic_link_ops.proofs.DoublyLists.{plain_covered, plain_lists, plain_members}
 use Rattle.ic_link_ops.proofs.PlacedValues.{stand_first}
 use Rattle.ic_linked_list.specs.ListedValues.{HasValues}
@@ -44,8 +40,8 @@ has_nothing objects links list vacant none empty = record {
 
 module _ {A : Type 0} (links : DoublyLinkOps A) {objects : Objects Job} {list : Ends} (k : IsKept objects links list) where
   -- THE FIRST JOB IS TAKEN, and the others wait
-  pub takes_next : (after : DoublyLinkOps A) {rest : Ends} {left : Objects Job} {p : Place} {job : Job} → ((s : List Place) → PlainShows links list s → Some p ≡ first s)
-      → ((s : List Place) → PlainShows links list s → PlainShows after rest (drop 1 s)) → Unlinks is_linked (plain_table links) (plain_table after) p
+  pub takes_next : (after : DoublyLinkOps A) {rest : Ends} {left : Objects Job} {p : Place} {job : Job} → ((s : List Place) → PlainRepresents links list s → Some p ≡ first s)
+      → ((s : List Place) → PlainRepresents links list s → PlainRepresents after rest (drop 1 s)) → Unlinks is_linked (plain_table links) (plain_table after) p
       → object_at objects p ≡ Some job → Frees objects left p
       → (jobs_of objects links list ≡ job ∷ drop 1 (jobs_of objects links list)) × Has left after rest (drop 1 (jobs_of objects links list))
   takes_next after {p = p} answer removed released there frees =

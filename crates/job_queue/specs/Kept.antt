@@ -1,9 +1,8 @@
 -- What a queue of jobs is for a clause, and what it keeps of its pool and of its list.
 use Rattle.std.specs.Prelude.{◌^◌, leb, Bool, List}
-use Rattle.ic_unsafe_ref.specs.Objects.{Objects}
+use Rattle.ic_link_ops.specs.Prelude.{Objects, values_at}
 use Rattle.ic_link_ops.specs.Chains.{Ends}
 use Rattle.ic_link_ops.specs.DoublyEntries.{DoublyLinkOps, is_linked, members_of, neighbors_of, plain_table}
-use Rattle.ic_link_ops.specs.PlacedObjects.{values_at}
 use Rattle.ic_linked_list.specs.ListedValues.{HasValues}
 use Rattle.job_queue.specs.declared.queue.Job.{Job}
 
@@ -13,7 +12,7 @@ pub record Jobs : Type 0 where
   pub is_full : Bool
 
 module _ {A : Type 0} (objects : Objects Job) (links : DoublyLinkOps A) (list : Ends) where
-  -- the jobs that wait, as the table shows the list
+  -- the jobs that wait, as the table represents the list
   abbrev pub jobs_of : List Job
   jobs_of = values_at objects (members_of links list)
 

@@ -58,7 +58,7 @@ impl<A: Allocator> JobQueue<A> {
         }
     }
 
-    /// Adds a job, which waits behind all others. O(1), and it takes memory only if the pool grows.
+    /// Adds a job, which waits after all others. O(1), and it takes memory only if the pool grows.
     ///
     /// If it is refused, the job comes back and the queue is as it was: with `NoPlaceLeft` exactly if there is no place left, of
     /// 4,294,967,296, and else with `OutOfMemory`.

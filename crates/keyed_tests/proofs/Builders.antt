@@ -3,7 +3,7 @@ use Rattle.std.proofs.Common.{◌≡◌, [], refl}
 use Rattle.ic_link_ops.specs.Chains.{Ends, no_members}
 use Rattle.ic_link_ops.specs.RedBlackTree.{Node}
 use Rattle.ic_link_ops.specs.Tables.{Table}
-use Rattle.ic_rbtree.specs.Vines.{ShowsVineSome}
+use Rattle.ic_rbtree.specs.Vines.{RepresentsVineSome}
 
-pub nothing_chained : {E : Type 0} (n : E → Node) (t : Table E) {ends : Ends} → ends ≡ no_members → ShowsVineSome n t ends
+pub nothing_chained : {E : Type 0} (n : E → Node) (t : Table E) {ends : Ends} → ends ≡ no_members → RepresentsVineSome n t ends
 nothing_chained n t e = ([], rw e (record { distinct = tt; chain = tt; head = refl; tail = refl }))

@@ -1,11 +1,8 @@
 -- Hash tables after a call of a test: they hold some sequence still.
 use Rattle.std.proofs.Common.{◌≡◌, ◌↔◌, ℕ, IsTrue, Bool, true, false, Option, Some, None, List, [], ◌∷◌, ◌++◌, Result, Ok, Err, IfOk, IfErr, IfSome, IfNone, refl, subst}
 use Rattle.std.specs.Bool.{OnTrue, OnFalse}
-use Rattle.ic_unsafe_ref.specs.declared.place.Place.{Place}
-use Rattle.ic_link_ops.specs.Sequences.{Cut, join, first, IsAfter, IsMember}
+use Rattle.ic_link_ops.specs.Prelude.{Place, Objects, Cut, join, first, IsAfter, IsMember, Table}
 use Rattle.std.specs.Cmp.{IsPartialEquivalence}
-use Rattle.ic_unsafe_ref.specs.Objects.{Objects}
-use Rattle.ic_link_ops.specs.Tables.{Table}
 use Rattle.ic_link_ops.specs.SinglyLinkedList.{Successor}
 use Rattle.ic_link_ops.proofs.SequenceLemmas.{member_split}
 use Rattle.ic_hash_table.specs.declared.table.HashTable.{HashTable}
@@ -33,10 +30,10 @@ pub told_either : {P Q Goal : Type 0} (b : Bool) → OnTrue b P → OnFalse b Q 
 told_either true did not_done does keeps = does did
 told_either false did not_done does keeps = keeps not_done
 
--- the gap behind the first member, or where there is none the one at null
-pub gap_behind_first : (s : List Place) (r : Option Place) → r ≡ first s → (gap : Cut) × (join gap ≡ s) × IsAfter gap r
-gap_behind_first [] r is = (record { front = []; back = [] }, refl, is)
-gap_behind_first (x ∷ s) r is = (record { front = x ∷ []; back = s }, refl, is)
+-- the gap after the first member, or where there is none the one at null
+pub gap_after_first : (s : List Place) (r : Option Place) → r ≡ first s → (gap : Cut) × (join gap ≡ s) × IsAfter gap r
+gap_after_first [] r is = (record { front = []; back = [] }, refl, is)
+gap_after_first (x ∷ s) r is = (record { front = x ∷ []; back = s }, refl, is)
 
 -- A NEW TABLE has no members that could stand apart
 pub new_beside : {E A B V K : Type 0} (successor : E → Successor) (hash : A → V → ℕ) (fronts : B → List (Option Place)) (eq : K → K → Bool) (key_of : A → V → K) (t : Table E)

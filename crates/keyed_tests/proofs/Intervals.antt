@@ -3,24 +3,20 @@ use Rattle.std.proofs.Common.{◌≡◌, ◌+◌, ◌<◌, ℕ, suc, Bool, not, 
 use Rattle.std.proofs.lemmas.List.Filters.{length-filter_both}
 use Rattle.std.specs.List.{filter}
 use Rattle.std.specs.Ordering.{nat_cmp}
-use Rattle.ic_unsafe_ref.specs.declared.place.Place.{Place}
-use Rattle.ic_unsafe_ref.specs.Objects.{Objects}
-use Rattle.ic_link_ops.specs.PlacedObjects.{ArePlaced}
-use Rattle.ic_link_ops.specs.RedBlackTree.{Node, Shows}
-use Rattle.ic_link_ops.specs.Sequences.{first, IsDistinct}
-use Rattle.ic_link_ops.specs.Tables.{Table}
-use Rattle.ic_link_ops.proofs.ShownTrees.{one_sequence}
+use Rattle.ic_link_ops.specs.Prelude.{Place, Objects, first, IsDistinct, Table, ArePlaced}
+use Rattle.ic_link_ops.specs.RedBlackTree.{Node, Represents}
+use Rattle.ic_link_ops.proofs.RepresentedTrees.{one_sequence}
 use Rattle.ic_link_ops.proofs.Walks.{few_places}
 use Rattle.ic_rbtree.specs.Borders.{IsSorted}
-use Rattle.ic_rbtree.specs.SortedObjects.{keys_at, ShowsSorted}
+use Rattle.ic_rbtree.specs.SortedObjects.{keys_at, RepresentsSorted}
 use Rattle.ic_augmented.proofs.AllOverlaps.{FirstFound, first_found, none_passes}
 
 -- a start is its own key
 abbrev pub own : ℕ → ℕ
 own start = start
 
--- the shown members are placed, and in order
-pub in_order_at : {E : Type 0} {n : E → Node} {t : Table E} {root : Option Place} {starts : Objects ℕ} {s : List Place} → Shows n t root s → ShowsSorted own (Shows n t root) starts
+-- the represented members are placed, and in order
+pub in_order_at : {E : Type 0} {n : E → Node} {t : Table E} {root : Option Place} {starts : Objects ℕ} {s : List Place} → Represents n t root s → RepresentsSorted own (Represents n t root) starts
     → ArePlaced starts s × IsSorted nat_cmp (keys_at own starts s)
 in_order_at {starts = starts} shown q =
     let same = one_sequence q.placed.shown shown in

@@ -4,7 +4,7 @@ use Rattle.std.specs.List.{slice_get}
 use Rattle.ic_unsafe_ref.specs.declared.place.Place.{Place}
 use Rattle.ic_link_ops.proofs.SequenceLemmas.{none_not, some_same}
 
--- a member, and as many in front of it as its position tells
+-- a member, and as many before it as its position tells
 pub record AtPosition (s : List Place) (k : ℕ) (p : Place) : Type 0 where
   pub front : List Place
   pub back : List Place

@@ -1,26 +1,22 @@
 -- Two trees of one table that share no member: one gets a member more, and what comes out of calls on both is placed.
 use Rattle.std.proofs.Common.{◌≡◌, Bool, true, Option, None, IsSome, [], ◌∷◌, Result, Ok, Err, OnOk, sym, subst}
 use Rattle.std.specs.declared.cmp.Ordering.{Ordering}
-use Rattle.ic_unsafe_ref.specs.declared.place.Place.{Place}
-use Rattle.ic_unsafe_ref.specs.Objects.{Objects, object_at, is_placed}
-use Rattle.ic_link_ops.specs.PlacedObjects.{ArePlaced}
-use Rattle.ic_link_ops.specs.RedBlackTree.{Node, Shows}
-use Rattle.ic_link_ops.specs.Sequences.{IsDisjoint, join, insert}
-use Rattle.ic_link_ops.specs.Tables.{Table, IsUnlinked}
+use Rattle.ic_link_ops.specs.Prelude.{Place, Objects, object_at, is_placed, IsDisjoint, join, insert, Table, IsUnlinked, ArePlaced}
+use Rattle.ic_link_ops.specs.RedBlackTree.{Node, Represents}
 use Rattle.ic_link_ops.proofs.Each.{all_with}
 use Rattle.ic_link_ops.proofs.SequenceLemmas.{absent_swap, absent_with, disjoint_cons, disjoint_sym}
-use Rattle.ic_link_ops.proofs.ShownTrees.{red_black_trees, shows_frame, shows_nothing}
+use Rattle.ic_link_ops.proofs.RepresentedTrees.{red_black_trees, represents_frame, represents_nothing}
 use Rattle.ic_rbtree.specs.Ordered.{InsertsInOrder}
-use Rattle.ic_tree_merges.specs.TwoTrees.{TwoShown}
+use Rattle.ic_tree_merges.specs.TwoTrees.{TwoRepresented}
 
 module _ {E V : Type 0} {n : E → Node} {objects : Objects V} where
   -- two new trees
-  pub two_new : {t : Table E} {a b : Option Place} → a ≡ None → b ≡ None → TwoShown (Shows n) objects t a b
+  pub two_new : {t : Table E} {a b : Option Place} → a ≡ None → b ≡ None → TwoRepresented (Represents n) objects t a b
   two_new {t} none other_none = record {
     first = [];
     second = [];
-    shown = rw none (shows_nothing t);
-    other = rw other_none (shows_nothing t);
+    shown = rw none (represents_nothing t);
+    other = rw other_none (represents_nothing t);
     apart = tt;
     placed = tt;
     other_placed = tt;
@@ -28,8 +24,8 @@ module _ {E V : Type 0} {n : E → Node} {objects : Objects V} where
 
   -- the first has a member more, which was not linked
   pub one_more : {linked : E → Bool} → ((e : E) → (n e).linked ≡ linked e) → {old new : Table E} {a more b : Option Place} {p : Place} {at : Place → Ordering}
-      → (q : TwoShown (Shows n) objects old a b) → is_placed objects p ≡ true → IsUnlinked linked old p → InsertsInOrder (Shows n) at old new more q.first p
-      → TwoShown (Shows n) objects new more b
+      → (q : TwoRepresented (Represents n) objects old a b) → is_placed objects p ≡ true → IsUnlinked linked old p → InsertsInOrder (Represents n) at old new more q.first p
+      → TwoRepresented (Represents n) objects new more b
   one_more alike {old} {new} {b = b} {p = p} q placed free put =
       let g = put.gap in
       let out = (red_black_trees alike).free old b q.second p q.other free in
@@ -38,7 +34,7 @@ module _ {E V : Type 0} {n : E → Node} {objects : Objects V} where
         first = insert g p;
         second = q.second;
         shown = put.inserted.shows;
-        other = shows_frame q.other beside put.inserted.frame;
+        other = represents_frame q.other beside put.inserted.frame;
         apart = disjoint_sym q.second (insert g p) (absent_swap q.second (p ∷ join g) beside (insert g p) (λ x o. absent_with g.front g.back p x o.0 o.1));
         placed = all_with (λ p. IsSome (object_at objects p)) g.front p g.back placed (subst (ArePlaced objects) (sym put.same) q.placed);
         other_placed = q.other_placed;

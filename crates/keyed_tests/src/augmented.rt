@@ -2,15 +2,12 @@
 
 ghost use Rattle.std.specs.Prelude.{◌≡◌, ◌<◌, ◌≤◌, None, List, filter, length, map, min};
 ghost use Rattle.std.specs.Ordering.{nat_cmp};
-ghost use Rattle.ic_unsafe_ref.specs.declared.place.Place.{Place};
-ghost use Rattle.ic_unsafe_ref.specs.Places.{index_of};
-ghost use Rattle.ic_link_ops.specs.Sequences.{first};
-ghost use Rattle.ic_link_ops.specs.Tables.{IsCovered};
+ghost use Rattle.ic_link_ops.specs.Prelude.{Place, index_of, first, IsCovered};
 ghost use Rattle.ic_link_ops.specs.ThreeWords.{node_of};
 ghost use Rattle.ic_rbtree.specs.Borders.{IsSorted};
 ghost use Rattle.ic_rbtree.specs.KeyedTrees.{keyed_table};
 ghost use Rattle.ic_rbtree.specs.Tree.{root_of};
-ghost use Rattle.ic_augmented.specs.Consistent.{ShowsSummed};
+ghost use Rattle.ic_augmented.specs.Consistent.{RepresentsSummed};
 ghost use Rattle.ic_augmented.specs.Counts.{counts};
 ghost use Rattle.ic_augmented.specs.Greatest.{greatest, number_at, is_greater};
 ghost use Rattle.ic_augmented.specs.Intervals.{start_in, overlaps};
@@ -28,7 +25,7 @@ use ic_augmented::{
 };
 use ic_link_ops::LinkValues;
 use ic_link_ops::rbtree::{LinkOpsWith, RBTreeOps};
-use ic_rbtree::{KeyAdapter, Nodes, RBTree};
+use ic_rbtree::{KeyAdapter, NodeStore, RBTree};
 use ic_test_support::objects::{place_at, reference};
 use ic_unsafe_ref::{Place, UnsafeRef};
 use std::alloc::{Allocator, Global};
@@ -86,13 +83,13 @@ fn put_and_propagate<A: KeyAdapter, L: RBTreeOps + LinkValues<A::Value>, M: Rene
 }
 
 // The position that the member at a position tells, and the length where no member stands there.
-fn position_of_nth<T, N: Nodes, A: Allocator>(
+fn position_of_nth<T, N: NodeStore, A: Allocator>(
     tree: &RBTree<T>,
     summed: &Summed<N, Counts<A>>,
     position: u64,
 ) -> u64
     requires ready { IsReady N.node N.table counts (λ sums q. index_of q < room_of sums) tree.now summed.now }
-    ensures least { (s : List Place) → ShowsSummed N.node (counts (sums_of summed.now)) (N.table (links_of summed.now)) (root_of tree.now) s
+    ensures least { (s : List Place) → RepresentsSummed N.node (counts (sums_of summed.now)) (N.table (links_of summed.now)) (root_of tree.now) s
         → result ≡ min position (length s) }
 {
     match nth(tree, summed, position) {
@@ -130,7 +127,7 @@ fn first_above<T, L: RBTreeOps, A: Allocator>(
     requires ready { IsReady L.node L.table greatest (λ sums q. index_of q < room_of sums) tree.now summed.old }
     ensures ready { IsReady L.node L.table greatest (λ sums q. index_of q < room_of sums) tree.now summed.new }
     ensures number { number_at (sums_of summed.new) place ≡ number }
-    ensures found { (s : List Place) → ShowsSummed L.node (greatest (sums_of summed.new)) (L.table (links_of summed.new)) (root_of tree.now) s
+    ensures found { (s : List Place) → RepresentsSummed L.node (greatest (sums_of summed.new)) (L.table (links_of summed.new)) (root_of tree.now) s
         → result ≡ first (filter (is_greater (number_at (sums_of summed.new)) bound) s) }
     ensures extent { (L.table (links_of summed.new)).extent ≡ (L.table (links_of summed.old)).extent }
 {
@@ -147,7 +144,7 @@ fn first_overlapping<L: RBTreeOps + LinkValues<u64>>(
     to: u64,
 ) -> Option<Place>
     requires ready { IsReady L.node L.table greatest (λ sums q. index_of q < room_of sums) tree.now summed.now }
-    ensures found { (s : List Place) → ShowsSummed L.node (greatest (sums_of summed.now)) (L.table (links_of summed.now)) (root_of tree.now) s
+    ensures found { (s : List Place) → RepresentsSummed L.node (greatest (sums_of summed.now)) (L.table (links_of summed.now)) (root_of tree.now) s
         → IsSorted nat_cmp (map (start_in (L.values (links_of summed.now))) s)
         → result ≡ first (filter (overlaps (start_in (L.values (links_of summed.now))) (number_at (sums_of summed.now)) from to) s) }
 {

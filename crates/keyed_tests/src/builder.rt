@@ -1,15 +1,14 @@
 //! Trees that are built of objects in order, and taken apart again.
 
 ghost use Rattle.std.specs.Prelude.{◌≡◌, ◌<◌, List};
-ghost use Rattle.ic_unsafe_ref.specs.declared.place.Place.{Place};
-ghost use Rattle.ic_link_ops.specs.RedBlackTree.{Shows, ShowsSome};
-ghost use Rattle.ic_link_ops.specs.Tables.{IsCovered};
+ghost use Rattle.ic_link_ops.specs.Prelude.{Place, first, IsCovered};
+ghost use Rattle.ic_link_ops.specs.RedBlackTree.{Represents, RepresentsSome};
 ghost use Rattle.ic_link_ops.specs.ThreeWords.{node_of};
 ghost use Rattle.ic_rbtree.specs.Builder.{ends_of};
 ghost use Rattle.ic_rbtree.specs.Height.{IsLowest};
 ghost use Rattle.ic_rbtree.specs.KeyedTrees.{keyed_table};
 ghost use Rattle.ic_rbtree.specs.Tree.{root_of};
-ghost use Rattle.ic_rbtree.specs.Vines.{ShowsVineSome};
+ghost use Rattle.ic_rbtree.specs.Vines.{RepresentsVine, RepresentsVineSome};
 
 use crate::asserts::{assert_same, assert_true};
 use crate::keyed::{OwnKey, keyed_links};
@@ -20,31 +19,42 @@ use ic_test_support::objects::{place_at, reference};
 use ic_unsafe_ref::{Place, UnsafeRef};
 use std::process::Abort;
 
-// Puts the object behind the members of the builder, unless it is linked, and returns the last member then.
+// Puts the object after the members of the builder, unless it is linked, and returns the last member then.
 fn push<A: KeyAdapter, L: RBTreeOps>(
     builder: &mut RBTreeBuilder<A>,
     links: &mut L,
     object: UnsafeRef<A::Value>,
 ) -> Option<Place>
     requires covered { IsCovered (L.table links.old) object }
-    requires shown { ShowsVineSome L.node (L.table links.old) (ends_of builder.old) }
-    ensures shown { ShowsVineSome L.node (L.table links.new) (ends_of builder.new) }
+    requires shown { RepresentsVineSome L.node (L.table links.old) (ends_of builder.old) }
+    ensures shown { RepresentsVineSome L.node (L.table links.new) (ends_of builder.new) }
     ensures extent { (L.table links.new).extent ≡ (L.table links.old).extent }
 {
     let _ = builder.push_back(links, object);
     builder.last()
 }
 
-// Takes the tree apart, puts the object behind its members, and builds it anew. It returns the first member, too.
+// Takes the first member off the builder, if it has members, and returns which one that was.
+fn pop<A: KeyAdapter, L: RBTreeOps>(builder: &mut RBTreeBuilder<A>, links: &mut L) -> Option<Place>
+    requires shown { RepresentsVineSome L.node (L.table links.old) (ends_of builder.old) }
+    ensures first { (s : List Place) → RepresentsVine L.node (L.table links.old) (ends_of builder.old) s → result ≡ first s }
+    ensures shown { RepresentsVineSome L.node (L.table links.new) (ends_of builder.new) }
+    ensures extent { (L.table links.new).extent ≡ (L.table links.old).extent }
+{
+    let object = builder.pop_front(links)?;
+    Some(object.place())
+}
+
+// Takes the tree apart, puts the object after its members, and builds it anew. It returns the first member, too.
 fn built_anew<A: KeyAdapter, L: RBTreeOps>(
     tree: RBTree<A>,
     links: &mut L,
     object: UnsafeRef<A::Value>,
 ) -> (Option<Place>, RBTree<A>)
     requires covered { IsCovered (L.table links.old) object }
-    requires shown { ShowsSome L.node (L.table links.old) (root_of tree) }
-    ensures shown { ShowsSome L.node (L.table links.new) (root_of result.1) }
-    ensures lowest { (s : List Place) (h : Shows L.node (L.table links.new) (root_of result.1) s) → IsLowest h.tree }
+    requires shown { RepresentsSome L.node (L.table links.old) (root_of tree) }
+    ensures shown { RepresentsSome L.node (L.table links.new) (root_of result.1) }
+    ensures lowest { (s : List Place) (h : Represents L.node (L.table links.new) (root_of result.1) s) → IsLowest h.tree }
 {
     let mut builder = tree.into_builder(links);
     let _ = push(&mut builder, links, object);
@@ -54,12 +64,13 @@ fn built_anew<A: KeyAdapter, L: RBTreeOps>(
 
 // Whether the members of the tree have these keys, in this order.
 fn has_keys<L: RBTreeOps + LinkValues<u64>>(tree: &RBTree<OwnKey>, links: &L, keys: &[u64]) -> bool
-    requires shown { ShowsSome L.node (L.table links.now) (root_of tree.now) }
+    requires shown { RepresentsSome L.node (L.table links.now) (root_of tree.now) }
 {
     tree.iter(links, links).eq(keys)
 }
 
-// Three objects are pushed and built, taken apart, and built with a fourth. The keys 10 to 40 stand beside the links.
+// Three objects are pushed, the first is taken off, and the others are built, taken apart, and built with a fourth. The keys 10 to 40 stand beside the
+// links.
 fn play<L: RBTreeOps + LinkValues<u64>>(rt: &impl Abort, links: &mut L)
     requires covers { (L.table links.old).extent.places ≡ 4 }
 {
@@ -70,10 +81,12 @@ fn play<L: RBTreeOps + LinkValues<u64>>(rt: &impl Abort, links: &mut L)
     }
     let last = push(&mut builder, links, reference(0));
     assert_same(rt, last, Some(place_at(2)));
+    let front = pop(&mut builder, links);
+    assert_same(rt, front, Some(place_at(0)));
     let tree = builder.build(links);
     let (first, tree) = built_anew(tree, links, reference(3));
-    assert_same(rt, first, Some(place_at(0)));
-    assert_true(rt, has_keys(&tree, &*links, &[10, 20, 30, 40]));
+    assert_same(rt, first, Some(place_at(1)));
+    assert_true(rt, has_keys(&tree, &*links, &[20, 30, 40]));
 }
 
 #[test]

@@ -2,13 +2,10 @@
 
 ghost use Rattle.std.specs.Prelude.{◌≡◌, ◌<◌, None, length, true};
 ghost use Rattle.std.specs.List.{AllByRecursion};
-ghost use Rattle.ic_unsafe_ref.specs.declared.place.Place.{Place};
-ghost use Rattle.ic_unsafe_ref.specs.Objects.{is_placed};
-ghost use Rattle.ic_unsafe_ref.specs.Places.{index_of};
+ghost use Rattle.ic_link_ops.specs.Prelude.{Place, index_of, is_placed, IsCovered};
 ghost use Rattle.ic_link_ops.specs.OneWord.{no_word};
 ghost use Rattle.ic_link_ops.specs.PlainTables.{table};
 ghost use Rattle.ic_link_ops.specs.Widths.{wide};
-ghost use Rattle.ic_link_ops.specs.Tables.{IsCovered};
 ghost use Rattle.ic_hash_table.specs.HashTable.{adapter_of, slots_of, number, HoldsSome, IsNew, KeepsBuckets};
 
 mod equals;
@@ -348,7 +345,7 @@ fn write_members<A: HashAdapter<Value = u64>, L: SinglyLinkedListOps, B: Buckets
     }
 }
 
-// Notes the first member of all, the one behind it, and the first of a chain.
+// Notes the first member of all, the one after it, and the first of a chain.
 fn write_steps<A: HashAdapter<Value = u64>, L: SinglyLinkedListOps, B: BucketsFor<L>>(
     notes: &mut Text,
     table: &HashTable<A, B>,

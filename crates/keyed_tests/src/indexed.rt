@@ -21,4 +21,6 @@ fn pages_at_both_ends(rt: HostRuntime) {
     };
     assert_same(&rt, pages.first(), Some(front.place()));
     assert_same(&rt, pages.last(), Some(back.place()));
+    assert_same(&rt, pages.place_of(1), Some(back.place()));
+    assert_same(&rt, pages.place_of(3), None);
 }

@@ -1,13 +1,10 @@
 //! Trees that are merged, and parted by one another: one of 10, 20, 30 and 40, and one of 20, 30, 50 and 60.
 
 ghost use Rattle.std.specs.Prelude.{◌≡◌, ◌<◌, true};
-ghost use Rattle.ic_unsafe_ref.specs.declared.place.Place.{Place};
-ghost use Rattle.ic_unsafe_ref.specs.Objects.{is_placed};
-ghost use Rattle.ic_unsafe_ref.specs.Places.{index_of};
-ghost use Rattle.ic_link_ops.specs.PlacedObjects.{ShowsPlaced};
-ghost use Rattle.ic_link_ops.specs.RedBlackTree.{Shows};
+ghost use Rattle.ic_link_ops.specs.Prelude.{Place, index_of, is_placed, RepresentsPlaced};
+ghost use Rattle.ic_link_ops.specs.RedBlackTree.{Represents};
 ghost use Rattle.ic_rbtree.specs.Tree.{root_of};
-ghost use Rattle.ic_tree_merges.specs.TwoTrees.{TwoShown};
+ghost use Rattle.ic_tree_merges.specs.TwoTrees.{TwoRepresented};
 
 use crate::asserts::assert_true;
 use crate::keyed::OwnKey;
@@ -31,9 +28,9 @@ fn put<L: RBTreeOps>(
     requires few { index < 8 }
     requires covers { (L.table links.old).extent.places ≡ 8 }
     requires placed { (q : Place) → index_of q < 8 → is_placed objects.now q ≡ true }
-    requires two { TwoShown (Shows L.node) objects.now (L.table links.old) (root_of tree.old) (root_of other.now) }
+    requires two { TwoRepresented (Represents L.node) objects.now (L.table links.old) (root_of tree.old) (root_of other.now) }
     ensures covers { (L.table links.new).extent.places ≡ 8 }
-    ensures two { TwoShown (Shows L.node) objects.now (L.table links.new) (root_of tree.new) (root_of other.now) }
+    ensures two { TwoRepresented (Represents L.node) objects.now (L.table links.new) (root_of tree.new) (root_of other.now) }
 {
     let _ = other;
     let _ = tree.insert(links, objects, reference(index));
@@ -46,7 +43,7 @@ fn two_trees<L: RBTreeOps>(
 ) -> (RBTree<OwnKey>, RBTree<OwnKey>)
     requires covers { (L.table links.old).extent.places ≡ 8 }
     requires placed { (q : Place) → index_of q < 8 → is_placed objects.now q ≡ true }
-    ensures two { TwoShown (Shows L.node) objects.now (L.table links.new) (root_of result.0) (root_of result.1) }
+    ensures two { TwoRepresented (Represents L.node) objects.now (L.table links.new) (root_of result.0) (root_of result.1) }
 {
     let mut tree = RBTree::new(OwnKey);
     let mut other = RBTree::new(OwnKey);
@@ -66,8 +63,8 @@ fn merged<L: RBTreeOps>(
     objects: &Objects<u64>,
     other: RBTree<OwnKey>,
 ) -> u64
-    requires two { TwoShown (Shows L.node) objects.now (L.table links.old) (root_of tree.old) (root_of other) }
-    ensures shown { ShowsPlaced (Shows L.node (L.table links.new) (root_of tree.new)) objects.now }
+    requires two { TwoRepresented (Represents L.node) objects.now (L.table links.old) (root_of tree.old) (root_of other) }
+    ensures shown { RepresentsPlaced (Represents L.node (L.table links.new) (root_of tree.new)) objects.now }
 {
     let mut order = ByKeys::new(OwnKey);
     merge(tree, links, objects, &mut order, other);
@@ -81,9 +78,9 @@ fn kept_common<L: RBTreeOps>(
     objects: &Objects<u64>,
     other: &RBTree<OwnKey>,
 ) -> RBTree<OwnKey>
-    requires two { TwoShown (Shows L.node) objects.now (L.table links.old) (root_of tree.old) (root_of other.now) }
-    ensures kept { ShowsPlaced (Shows L.node (L.table links.new) (root_of tree.new)) objects.now }
-    ensures rest { ShowsPlaced (Shows L.node (L.table links.new) (root_of result)) objects.now }
+    requires two { TwoRepresented (Represents L.node) objects.now (L.table links.old) (root_of tree.old) (root_of other.now) }
+    ensures kept { RepresentsPlaced (Represents L.node (L.table links.new) (root_of tree.new)) objects.now }
+    ensures rest { RepresentsPlaced (Represents L.node (L.table links.new) (root_of result)) objects.now }
 {
     intersection(tree, links, objects, &mut ByKeys::new(OwnKey), other)
 }
@@ -95,9 +92,9 @@ fn kept_rest<L: RBTreeOps>(
     objects: &Objects<u64>,
     other: &RBTree<OwnKey>,
 ) -> RBTree<OwnKey>
-    requires two { TwoShown (Shows L.node) objects.now (L.table links.old) (root_of tree.old) (root_of other.now) }
-    ensures kept { ShowsPlaced (Shows L.node (L.table links.new) (root_of tree.new)) objects.now }
-    ensures common { ShowsPlaced (Shows L.node (L.table links.new) (root_of result)) objects.now }
+    requires two { TwoRepresented (Represents L.node) objects.now (L.table links.old) (root_of tree.old) (root_of other.now) }
+    ensures kept { RepresentsPlaced (Represents L.node (L.table links.new) (root_of tree.new)) objects.now }
+    ensures common { RepresentsPlaced (Represents L.node (L.table links.new) (root_of result)) objects.now }
 {
     difference(tree, links, objects, &mut ByKeys::new(OwnKey), other)
 }
@@ -109,9 +106,9 @@ fn united<L: RBTreeOps>(
     objects: &Objects<u64>,
     other: RBTree<OwnKey>,
 ) -> RBTree<OwnKey>
-    requires two { TwoShown (Shows L.node) objects.now (L.table links.old) (root_of tree.old) (root_of other) }
-    ensures united { ShowsPlaced (Shows L.node (L.table links.new) (root_of tree.new)) objects.now }
-    ensures doubles { ShowsPlaced (Shows L.node (L.table links.new) (root_of result)) objects.now }
+    requires two { TwoRepresented (Represents L.node) objects.now (L.table links.old) (root_of tree.old) (root_of other) }
+    ensures united { RepresentsPlaced (Represents L.node (L.table links.new) (root_of tree.new)) objects.now }
+    ensures doubles { RepresentsPlaced (Represents L.node (L.table links.new) (root_of result)) objects.now }
 {
     union(tree, links, objects, &mut ByKeys::new(OwnKey), other)
 }
@@ -123,7 +120,7 @@ fn write_members<L: RBTreeOps>(
     links: &L,
     objects: &Objects<u64>,
 )
-    requires placed { ShowsPlaced (Shows L.node (L.table links.now) (root_of tree.now)) objects.now }
+    requires placed { RepresentsPlaced (Represents L.node (L.table links.now) (root_of tree.now)) objects.now }
 {
     for number in tree.iter(links, objects) {
         notes.add(Answer::Number(*number), " ");

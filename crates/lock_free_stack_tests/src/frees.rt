@@ -1,12 +1,13 @@
 //! A thread that gives places out, and threads that free them.
 
 ghost use Rattle.std.specs.Prelude.{◌≡◌, ◌<◌, ◌≤◌, ◌+◌, All, List, vec_len};
-ghost use Rattle.ic_lock_free_stack.specs.Holders.{stacks_of, spent_by, IsOf, IsNew};
+ghost use Rattle.ic_unsafe_ref.specs.declared.place.Place.{Place};
+ghost use Rattle.ic_lock_free_stack.specs.Holders.{stacks_of, spent_by, IsOf, IsNew, HasChain};
 
 use crate::places::take;
-use ic_lock_free_stack::{Holder, Stacks};
+use ic_lock_free_stack::{Chain, Holder, Stacks};
 use ic_unsafe_ref::Place;
-use stack_uses::remote_frees::{Owner, free_all};
+use stack_uses::remote_frees::{Owner, free, free_all};
 use std::alloc::{AllocError, Global};
 use std::process::Abort;
 use std::thread;
@@ -56,7 +57,24 @@ fn give_out(stacks: &Stacks, holder: Holder) -> usize
     left
 }
 
-// Frees what is lent to it, all of it at once.
+// Frees the first place of a chain by itself, and then all others at once.
+fn free_both_ways(stacks: &Stacks, holder: &mut Holder, lent: Chain)
+    requires some { 0 < stacks_of stacks.now }
+    requires made { IsOf stacks.now holder.old }
+    requires shown { (s : List Place) × HasChain stacks.now holder.old lent s }
+    requires room { spent_by holder.old < 1000000000 }
+    ensures made { IsOf stacks.now holder.new }
+    ensures spent { spent_by holder.new ≤ spent_by holder.old + 2 }
+{
+    let mut rest = lent;
+    let Some(first) = stacks.next(holder, &mut rest) else {
+        return;
+    };
+    free(stacks, holder, 0, first);
+    free_all(stacks, holder, 0, rest);
+}
+
+// Frees what is lent to it, as it comes.
 fn free_lent(stacks: &Stacks, mut holder: Holder, number: usize)
     requires made { IsOf stacks.now holder }
     requires two { 1 < stacks_of stacks.now }
@@ -65,7 +83,7 @@ fn free_lent(stacks: &Stacks, mut holder: Holder, number: usize)
 {
     for _ in 0..TURNS {
         let lent = stacks.take_all(&mut holder, number);
-        free_all(stacks, &mut holder, 0, lent);
+        free_both_ways(stacks, &mut holder, lent);
     }
 }
 

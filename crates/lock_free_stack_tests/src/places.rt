@@ -35,7 +35,7 @@ pub fn put(stacks: &Stacks, holder: &mut Holder, stack: usize, index: usize) -> 
     }
 }
 
-/// Claims two places and pushes both at once, one in front of the other, and says whether it did.
+/// Claims two places and pushes both at once, one before the other, and says whether it did.
 pub fn put_pair(
     stacks: &Stacks,
     holder: &mut Holder,

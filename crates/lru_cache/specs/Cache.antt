@@ -1,4 +1,4 @@
--- Caches: entries, the one touched last in front, and how many there may be.
+-- Caches: entries, the one touched last first, and how many there may be.
 use Rattle.std.specs.Prelude.{ℕ, ◌≤◌, Option, List, ◌∷◌, length, take, slice_get}
 use Rattle.std.specs.Option.{option_map, option_or}
 use Rattle.ic_keyed.specs.Keyed as keyed
@@ -30,14 +30,14 @@ module _ {V : Type 0} where
   abbrev pub value_with : ℕ → List (Entry V) → Option V
   value_with key entries = option_map (λ (entry : Entry V). entry.value) (entry_with key entries)
 
-  -- the entries without that of the key, and those of which it stands in front
+  -- the entries without that of the key, and those of which it stands before
   abbrev pub without : ℕ → List (Entry V) → List (Entry V)
   without key entries = keyed.without key_of key entries
 
   abbrev pub touched : ℕ → List (Entry V) → List (Entry V)
   touched key entries = keyed.touched key_of key entries
 
-  -- INSERTED: the entry stands in front, in place of the one with its key; of more than there may be the last ones are gone
+  -- INSERTED: the entry stands first, in place of the one with its key; of more than there may be the last ones are gone
   abbrev pub inserted : Entry V → Cache V → List (Entry V)
   inserted entry cache = take cache.capacity (entry ∷ without entry.key cache.entries)
 

@@ -60,7 +60,8 @@ impl<V, A: Allocator> LruCache<V, RBTree<ByKey<Entry<V>>>, A> {
         LruCache::by_tree(alloc, capacity)
     }
 
-    /// A cache of no entries whose capacity is 18,446,744,073,709,551,615: none leaves unless it is taken out, since there are fewer places. It takes no memory.
+    /// A cache of no entries whose capacity is 18,446,744,073,709,551,615: none leaves unless it is taken out, since there are fewer places. It takes
+    /// no memory.
     pub fn unbounded(alloc: A) -> TreeLruCache<V, A>
     where
         A: Copy,
@@ -160,7 +161,7 @@ impl<V, I: Index<Entry<V>, A>, A: Allocator> LruCache<V, I, A> {
         Some(&self.entries.peek(key)?.value)
     }
 
-    /// The value of the key, if there is one. The entry is touched: it goes in front of all others, which keep their
+    /// The value of the key, if there is one. The entry is touched: it goes before all others, which keep their
     /// order. It costs what `find` does, and takes no memory.
     pub fn get(&mut self, key: u64) -> Option<&V>
         ensures* touches { sem 𝓛 (EndsAs V.row I.row A.row I.Links.row I.Order.row I.Index I.Links.Tables I.Order.unlinked I.Order.is_linked I.Order.width I.Order.next_word I.Order.KeepsOthers I.Order.prev A.Allocator self.entry (touched key self.old.entries)) }
@@ -201,7 +202,7 @@ impl<V, I: Index<Entry<V>, A>, A: Allocator> LruCache<V, I, A> {
         Some((oldest.key, oldest.value))
     }
 
-    /// Puts an entry in front of all others. It returns the one that leaves, if one does: the one of the same key, or
+    /// Puts an entry before all others. It returns the one that leaves, if one does: the one of the same key, or
     /// else the oldest, where the cache is full. Of a cache of capacity 0 the entry itself leaves.
     ///
     /// Where one leaves its object is used again: no memory is taken, and nothing can fail. Else it takes memory for

@@ -10,7 +10,7 @@ use std::alloc::{AllocError, Allocator};
 /// How many of the places came as the next of their sender, of `places` places for each: the sender of that number sends those from
 /// `number * places` on.
 ///
-/// A place that comes a second time is not the next one, and neither is one behind a lost one.
+/// A place that comes a second time is not the next one, and neither is one after a lost one.
 pub fn in_order<A: Allocator>(
     alloc: A,
     senders: usize,

@@ -1,8 +1,7 @@
 -- A phone book: entries by their places.
 use Rattle.std.specs.Prelude.{◌≡◌, ◌^◌, ℕ, leb, None, Some, refl}
 use Rattle.std.specs.Coded.{Coded, code_by, coded×, coded_ℕ}
-use Rattle.ic_unsafe_ref.specs.declared.place.Place.{Place}
-use Rattle.ic_unsafe_ref.specs.Objects.{Objects, Places, Frees, object_at}
+use Rattle.ic_link_ops.specs.Prelude.{Place, Objects, Places, Frees, object_at}
 use Rattle.ic_pool.specs.Refusals.{lacks_place, value_of}
 use Rattle.ic_container.specs.Trees.{IsFoundObject}
 use Rattle.phone_book.specs.declared.entry.Entry.{Entry}

@@ -1,7 +1,6 @@
 -- What a phone book keeps of its pool and of its trees.
 use Rattle.std.specs.Prelude.{Option}
-use Rattle.ic_unsafe_ref.specs.declared.place.Place.{Place}
-use Rattle.ic_unsafe_ref.specs.Objects.{Objects}
+use Rattle.ic_link_ops.specs.Prelude.{Place, Objects}
 use Rattle.ic_rbtree.specs.PlainTrees.{TreeLinkOps}
 use Rattle.ic_container.specs.Trees.{HasAll, IsUnique}
 use Rattle.phone_book.specs.declared.entry.Entry.{Entry}

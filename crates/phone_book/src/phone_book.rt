@@ -7,8 +7,7 @@
 
 ghost use Rattle.std.specs.Prelude.{◌≡◌, None, IfOk, IfErr, IfSome, IfNone};
 ghost use Rattle.std.specs.Option.{option_copied};
-ghost use Rattle.ic_unsafe_ref.specs.declared.place.Place.{Place};
-ghost use Rattle.ic_unsafe_ref.specs.Objects.{object_at};
+ghost use Rattle.ic_link_ops.specs.Prelude.{Place, object_at};
 ghost use Rattle.ic_container.specs.Trees.{IsFoundObject};
 ghost use Rattle.phone_book.specs.Book.{number_of, person_of, Adds, Removes, IsRefused};
 

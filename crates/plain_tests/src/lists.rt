@@ -1,8 +1,8 @@
 //! The lists: each plain call once.
 
 ghost use Rattle.std.specs.Prelude.{[]};
-ghost use Rattle.ic_link_ops.specs.DoublyEntries.{DoublyLink, ShowsList, neighbors_of};
-ghost use Rattle.ic_link_ops.specs.LinkedList.{ShowsSome};
+ghost use Rattle.ic_link_ops.specs.DoublyEntries.{DoublyLink, RepresentsList, PlainRepresentsSome, neighbors_of};
+ghost use Rattle.ic_link_ops.specs.LinkedList.{RepresentsSome};
 ghost use Rattle.ic_link_ops.specs.Tables.{Table, IsCovered, IsUnlinked};
 ghost use Rattle.ic_plain.specs.SinglyEntries as singly;
 ghost use Rattle.ic_plain.specs.XorEntries as xor;
@@ -11,7 +11,7 @@ use crate::fixtures::{check, covering, index, index_of, unlinked};
 use ic_link_ops::AcceptsUnlinked;
 use ic_link_ops::linked_list::NarrowLinkOps;
 use ic_linked_list::{LinkOps, LinkedList, LinkedListOps};
-use ic_plain::example::slide;
+use ic_plain::example::{add, requeue, reuse, slide};
 use ic_plain::{linked_list, singly_linked_list, xor_linked_list};
 use ic_singly_linked_list::SinglyLinkedList;
 use ic_unsafe_ref::UnsafeRef;
@@ -19,27 +19,27 @@ use ic_xor_linked_list::XorLinkedList;
 
 // New lists, in the words of the plain tables of 8-byte words.
 fn new_doubly() -> LinkedList<u64>
-    ensures empty { (t : Table DoublyLink) → ShowsList t result [] }
-    ensures shows { (t : Table DoublyLink) → ShowsSome neighbors_of t result }
+    ensures empty { (t : Table DoublyLink) → RepresentsList t result [] }
+    ensures shows { (t : Table DoublyLink) → RepresentsSome neighbors_of t result }
 {
     linked_list::new()
 }
 
 fn new_singly() -> SinglyLinkedList<u64>
-    ensures empty { (t : Table singly.SinglyLink) → singly.ShowsList t result [] }
-    ensures shows { (t : Table singly.SinglyLink) → singly.ShowsSomeList t result }
+    ensures empty { (t : Table singly.SinglyLink) → singly.RepresentsList t result [] }
+    ensures shows { (t : Table singly.SinglyLink) → singly.RepresentsSomeList t result }
 {
     singly_linked_list::new()
 }
 
 fn new_xor() -> XorLinkedList<u64>
-    ensures empty { (t : Table xor.XorLink) → xor.ShowsList t result [] }
-    ensures shows { (t : Table xor.XorLink) → xor.ShowsSomeList t result }
+    ensures empty { (t : Table xor.XorLink) → xor.RepresentsList t result [] }
+    ensures shows { (t : Table xor.XorLink) → xor.RepresentsSomeList t result }
 {
     xor_linked_list::new()
 }
 
-// Puts the object behind all others, and then in front of them.
+// Puts the object after all others, and then before them.
 fn push_to_front<L: LinkedListOps + AcceptsUnlinked>(
     list: &mut LinkedList<u64>,
     links: &mut L,
@@ -47,14 +47,14 @@ fn push_to_front<L: LinkedListOps + AcceptsUnlinked>(
 )
     requires covered { IsCovered (L.table links.old) object }
     requires unlinked { IsUnlinked L.linked (L.table links.old) object }
-    requires shown { ShowsSome L.neighbors (L.table links.old) list.old }
-    ensures shown { ShowsSome L.neighbors (L.table links.new) list.new }
+    requires shown { RepresentsSome L.neighbors (L.table links.old) list.old }
+    ensures shown { RepresentsSome L.neighbors (L.table links.new) list.new }
 {
     linked_list::push_back(list, links, UnsafeRef::new(object.place()));
     linked_list::move_to_front(list, links, &object);
 }
 
-// Puts the object behind all others, and once more.
+// Puts the object after all others, and once more.
 fn push_to_back<L: LinkedListOps + AcceptsUnlinked>(
     list: &mut LinkedList<u64>,
     links: &mut L,
@@ -62,14 +62,14 @@ fn push_to_back<L: LinkedListOps + AcceptsUnlinked>(
 )
     requires covered { IsCovered (L.table links.old) object }
     requires unlinked { IsUnlinked L.linked (L.table links.old) object }
-    requires shown { ShowsSome L.neighbors (L.table links.old) list.old }
-    ensures shown { ShowsSome L.neighbors (L.table links.new) list.new }
+    requires shown { RepresentsSome L.neighbors (L.table links.old) list.old }
+    ensures shown { RepresentsSome L.neighbors (L.table links.new) list.new }
 {
     linked_list::push_back(list, links, UnsafeRef::new(object.place()));
     linked_list::move_to_back(list, links, &object);
 }
 
-// Puts the object behind all others, and takes it off.
+// Puts the object after all others, and takes it off.
 fn push_and_remove<L: LinkedListOps + AcceptsUnlinked>(
     list: &mut LinkedList<u64>,
     links: &mut L,
@@ -77,11 +77,31 @@ fn push_and_remove<L: LinkedListOps + AcceptsUnlinked>(
 )
     requires covered { IsCovered (L.table links.old) object }
     requires unlinked { IsUnlinked L.linked (L.table links.old) object }
-    requires shown { ShowsSome L.neighbors (L.table links.old) list.old }
-    ensures shown { ShowsSome L.neighbors (L.table links.new) list.new }
+    requires shown { RepresentsSome L.neighbors (L.table links.old) list.old }
+    ensures shown { RepresentsSome L.neighbors (L.table links.new) list.new }
 {
     linked_list::push_back(list, links, UnsafeRef::new(object.place()));
     linked_list::remove(list, links, &object);
+}
+
+// Uses the last member, which is the first one then.
+fn use_last(list: &mut LinkedList<u64>, links: &mut LinkOps)
+    requires shown { PlainRepresentsSome links.old list.old }
+    ensures shown { PlainRepresentsSome links.new list.new }
+{
+    if let Some(last) = linked_list::last(list, links) {
+        reuse(list, links, &UnsafeRef::new(last));
+    }
+}
+
+// Puts the first member after all others.
+fn requeue_first(list: &mut LinkedList<u64>, links: &mut LinkOps)
+    requires shown { PlainRepresentsSome links.old list.old }
+    ensures shown { PlainRepresentsSome links.new list.new }
+{
+    if let Some(first) = linked_list::first(list, links) {
+        requeue(list, links, &UnsafeRef::new(first));
+    }
 }
 
 #[test]
@@ -92,13 +112,17 @@ fn doubly_linked(rt: HostRuntime) {
     let object = unlinked(&rt, &links, 1);
     linked_list::push_back(&mut list, &mut links, object);
     let object = unlinked(&rt, &links, 0);
-    linked_list::push_front(&mut list, &mut links, object);
+    add(&mut list, &mut links, object);
     let object = unlinked(&rt, &links, 3);
     push_and_remove(&mut list, &mut links, object);
     let object = unlinked(&rt, &links, 2);
     push_to_back(&mut list, &mut links, object);
     let object = unlinked(&rt, &links, 3);
     push_to_front(&mut list, &mut links, object);
+    // they stand as 3, 0, 1, 2
+    use_last(&mut list, &mut links);
+    requeue_first(&mut list, &mut links);
+    requeue_first(&mut list, &mut links);
     let ends = [
         index(linked_list::first(&list, &links)),
         index(linked_list::last(&list, &links)),
@@ -108,7 +132,7 @@ fn doubly_linked(rt: HostRuntime) {
         index_of(linked_list::pop_front(&mut list, &mut links)),
         index_of(linked_list::pop_front(&mut list, &mut links)),
     ];
-    check(&rt, ends == [3, 2] && left == [2, 3, 0]);
+    check(&rt, ends == [0, 3] && left == [3, 0, 1]);
 }
 
 #[test]

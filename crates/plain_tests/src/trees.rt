@@ -2,10 +2,10 @@
 
 ghost use Rattle.std.specs.Ordering.{nat_cmp};
 ghost use Rattle.ic_link_ops.specs.PlainTables.{table};
-ghost use Rattle.ic_link_ops.specs.RedBlackTree.{ShowsSome};
+ghost use Rattle.ic_link_ops.specs.RedBlackTree.{RepresentsSome};
 ghost use Rattle.ic_link_ops.specs.Tables.{IsCovered};
 ghost use Rattle.ic_link_ops.specs.ThreeWords.{node_of};
-ghost use Rattle.ic_rbtree.specs.PlainTrees.{node_by, plain_table, PlainShowsSome};
+ghost use Rattle.ic_rbtree.specs.PlainTrees.{node_by, plain_table, PlainRepresentsSome};
 ghost use Rattle.ic_rbtree.specs.Tree.{root_of};
 ghost use Rattle.ic_plain.specs.SortedTrees.{IsInOrder};
 
@@ -43,9 +43,9 @@ fn add<W: NodeWords>(
     index: usize,
 )
     requires sorted { IsInOrder nat_cmp ⟦<ByDeadline as KeyAdapter>⟧.key_of (node_by W.node) (table W.width W.unlinked links.old) tree.old objects.now }
-    requires shown { ShowsSome (node_by W.node) (table W.width W.unlinked links.old) (root_of tree.old) }
+    requires shown { RepresentsSome (node_by W.node) (table W.width W.unlinked links.old) (root_of tree.old) }
     ensures sorted { IsInOrder nat_cmp ⟦<ByDeadline as KeyAdapter>⟧.key_of (node_by W.node) (table W.width W.unlinked links.new) tree.new objects.now }
-    ensures shown { ShowsSome (node_by W.node) (table W.width W.unlinked links.new) (root_of tree.new) }
+    ensures shown { RepresentsSome (node_by W.node) (table W.width W.unlinked links.new) (root_of tree.new) }
 {
     let timer = unlinked(rt, &*links, index);
     assert!(rt; objects.is_placed(timer.place()));
@@ -62,14 +62,14 @@ fn schedule_at(
 )
     requires sorted { IsInOrder nat_cmp ⟦<ByDeadline as KeyAdapter>⟧.key_of node_of (plain_table links.old) tree.old objects.now }
     ensures sorted { IsInOrder nat_cmp ⟦<ByDeadline as KeyAdapter>⟧.key_of node_of (plain_table links.new) tree.new objects.now }
-    ensures shown { PlainShowsSome links.new (root_of tree.new) }
+    ensures shown { PlainRepresentsSome links.new (root_of tree.new) }
 {
     let timer = unlinked(rt, &*links, index);
     assert!(rt; objects.is_placed(timer.place()));
     schedule(tree, links, objects, timer);
 }
 
-// Puts the member at the place of this index behind those with its deadline, as a caller of timers does.
+// Puts the member at the place of this index after those with its deadline, as a caller of timers does.
 fn reschedule_at(
     rt: &impl Abort,
     tree: &mut RBTree<ByDeadline>,
@@ -77,10 +77,10 @@ fn reschedule_at(
     objects: &Objects<Timer>,
     index: usize,
 )
-    requires shown { PlainShowsSome links.old (root_of tree.old) }
+    requires shown { PlainRepresentsSome links.old (root_of tree.old) }
     requires sorted { IsInOrder nat_cmp ⟦<ByDeadline as KeyAdapter>⟧.key_of node_of (plain_table links.old) tree.old objects.now }
     ensures sorted { IsInOrder nat_cmp ⟦<ByDeadline as KeyAdapter>⟧.key_of node_of (plain_table links.new) tree.new objects.now }
-    ensures shown { PlainShowsSome links.new (root_of tree.new) }
+    ensures shown { PlainRepresentsSome links.new (root_of tree.new) }
 {
     let place = Place::new(index).expect(rt, "the index of a place");
     assert!(rt; place.index() < links.covers());
@@ -89,10 +89,10 @@ fn reschedule_at(
     reschedule(tree, links, objects, &UnsafeRef::new(place));
 }
 
-// The indices of the places in front of a member's and behind it.
+// The indices of the places before a member's and after it.
 fn beside(rt: &impl Abort, tree: &RBTree<ByDeadline>, links: &LinkOps, place: Place) -> [usize; 2]
     requires covered { IsCovered (plain_table links.now) place }
-    requires shown { PlainShowsSome links.now (root_of tree.now) }
+    requires shown { PlainRepresentsSome links.now (root_of tree.now) }
 {
     assert!(rt; tree.contains(links, place));
     [

@@ -5,9 +5,7 @@ use Rattle.std.proofs.lemmas.Bool.{cases_eq, eqb-false, le-leb}
 use Rattle.std.proofs.lemmas.Bool.Decides.{nat_tests}
 use Rattle.std.specs.FinMap as map
 use Rattle.std.specs.List.{AllByRecursion}
-use Rattle.ic_unsafe_ref.specs.declared.place.Place.{Place}
-use Rattle.ic_unsafe_ref.specs.Places.{index_of}
-use Rattle.ic_unsafe_ref.specs.Objects.{Objects, Places, object_at, with_object}
+use Rattle.ic_link_ops.specs.Prelude.{Place, index_of, Objects, Places, object_at, with_object, first, IsAbsent, IsDistinct, IsMember, IsCovered, IsUnlinked, Unlinks, ChangesOnlyIn}
 use Rattle.ic_unsafe_ref.proofs.PlaceLemmas.{same_index, same_or_not}
 use Rattle.ic_unsafe_ref.proofs.Placing.{Puts, put_there, put_beside, put_others, placed_there, still_placed, placed_puts, exchanged_puts}
 use Rattle.ic_link_ops.specs.declared.one_word.OneWord.{OneWord}
@@ -16,12 +14,10 @@ use Rattle.ic_link_ops.specs.EntryLaws.{linked_in_range}
 use Rattle.ic_link_ops.specs.Links.{link_of}
 use Rattle.ic_link_ops.specs.OneWord.{no_word, has_word}
 use Rattle.ic_link_ops.specs.PlainTables.{entries}
-use Rattle.ic_link_ops.specs.Sequences.{first, IsAbsent, IsDistinct, IsMember}
-use Rattle.ic_link_ops.specs.SinglyLinkedList.{Front, list_from, Shows}
+use Rattle.ic_link_ops.specs.SinglyLinkedList.{Front, list_from, Represents}
 use Rattle.ic_link_ops.specs.Widths.{wide}
-use Rattle.ic_link_ops.specs.Tables.{IsCovered, IsUnlinked, Unlinks, KeepsBeside}
 use Rattle.ic_link_ops.proofs.SequenceLemmas.{distinct_remove, first_is, member_split, none_not}
-use Rattle.ic_link_ops.proofs.SinglyLists.{members_shown, singly_lists}
+use Rattle.ic_link_ops.proofs.SinglyLists.{members_represented, singly_lists}
 use Rattle.ic_link_ops.proofs.Walks.{few_places}
 use Rattle.ic_pool.specs.Pooled.{Grows}
 use Rattle.ic_pool.proofs.Pooling.{pooled_first, pooled_grown, pooled_placed, pooled_linked, pooled_unlinked, pooled_changed}
@@ -89,10 +85,10 @@ module _ {T : Type 0} where
     }
 
 -- how slots read their table
-pub slot_reading : {K A : Type 0} → Reading {L = PlainTable (OneWord K) A ⊤} (Shows successor) is_linked (list_from None) plain_table members_of
+pub slot_reading : {K A : Type 0} → Reading {L = PlainTable (OneWord K) A ⊤} (Represents successor) is_linked (list_from None) plain_table members_of
 slot_reading = record {
   kind = singly_lists (λ e. refl);
-  members_are = λ links list s shown. members_shown (plain_table links) (λ q linked. linked_in_range is_linked (link_of no_word) refl (entries links) (index_of q) linked) list s shown;
+  members_are = λ links list s shown. members_represented (plain_table links) (λ q linked. linked_in_range is_linked (link_of no_word) refl (entries links) (index_of q) linked) list s shown;
 }
 
 module _ {T : Type 0} where
@@ -172,7 +168,7 @@ module _ {T K A : Type 0} {objects : Objects (Slot T)} {links : PlainTable (OneW
   abbrev pub members : List Place
   members = members_of links vacant
 
-  pub shown : Shows successor (plain_table links) vacant (members_of links vacant)
+  pub shown : Represents successor (plain_table links) vacant (members_of links vacant)
   shown = k.holds.shown 0
 
   -- WHERE A SLOT IS VACANT the list has a first one
@@ -196,9 +192,9 @@ module _ {T K A : Type 0} {objects : Objects (Slot T)} {links : PlainTable (OneW
   }
 
   -- THE FIRST VACANT SLOT is taken off the list and filled
-  module _ (after : PlainTable (OneWord K) A ⊤) (front : Front) (value : T) {new : Objects (Slot T)} {p : Place} {g : ℕ} (answer : (s : List Place) → Shows successor (plain_table links) vacant s → Some p ≡ first s)
-      (popped : (s : List Place) → Shows successor (plain_table links) vacant s → Shows successor (plain_table after) front (drop 1 s)) (off : Unlinks is_linked (plain_table links) (plain_table after) p)
-      (frame : (s : List Place) → Shows successor (plain_table links) vacant s → KeepsBeside (plain_table links) (plain_table after) s)
+  module _ (after : PlainTable (OneWord K) A ⊤) (front : Front) (value : T) {new : Objects (Slot T)} {p : Place} {g : ℕ} (answer : (s : List Place) → Represents successor (plain_table links) vacant s → Some p ≡ first s)
+      (popped : (s : List Place) → Represents successor (plain_table links) vacant s → Represents successor (plain_table after) front (drop 1 s)) (off : Unlinks is_linked (plain_table links) (plain_table after) p)
+      (frame : (s : List Place) → Represents successor (plain_table links) vacant s → ChangesOnlyIn (plain_table links) (plain_table after) s)
       (fills : (s : Slot T) → object_at objects p ≡ Some s → (g ≡ s.generation) × (new ≡ with_object objects p (record s { value = Some value }))) where
     -- its slot, before
     first_vacant : (was : Slot T) × (object_at objects p ≡ Some was) × IsUsable (Some was)
@@ -261,7 +257,7 @@ module _ {T K A : Type 0} {objects : Objects (Slot T)} {links : PlainTable (OneW
     }
 
     pub kept_vacated : h.generation + 1 ≢ 18446744073709551615 → {more : PlainTable (OneWord K) A ⊤} {front : Front} {s : List Place}
-        → HasJoined (Shows successor) is_linked (plain_table links) (plain_table more) vacant front [] h.place s → IsKept new more front (len - 1)
+        → HasJoined (Represents successor) is_linked (plain_table links) (plain_table more) vacant front [] h.place s → IsKept new more front (len - 1)
     kept_vacated last {more} {front} e = record {
       holds = holds_joined slot_reading k.holds 0 more (alone_others (list_from None) vacant front) e (usable_home (object_at new h.place) (emptied_usable last)) (λ q n. ap (home_or vacant_home) (put_others puts q n));
       pooled = pooled_linked (pooled_changed k.pooled (still_placed puts (ap is_some own.1))) (ap is_some (put_there puts)) e.also e.frame.extent;

@@ -5,11 +5,8 @@ use Rattle.std.proofs.lemmas.List.{map_push}
 use Rattle.std.proofs.lemmas.List.Elements.{filter_map-append}
 use Rattle.std.specs.List.{AllByRecursion, cons_option}
 use Rattle.std.specs.Ordering.{nat_cmp}
-use Rattle.ic_unsafe_ref.specs.declared.place.Place.{Place}
-use Rattle.ic_unsafe_ref.specs.Objects.{Objects, Places, Frees, object_at, is_placed}
+use Rattle.ic_link_ops.specs.Prelude.{Place, Objects, Places, Frees, object_at, is_placed, first, IsAbsent, IsDistinct, values_at}
 use Rattle.ic_unsafe_ref.proofs.Placing.{placed_there, others_placed, others_left}
-use Rattle.ic_link_ops.specs.PlacedObjects.{values_at}
-use Rattle.ic_link_ops.specs.Sequences.{first, IsAbsent, IsDistinct}
 use Rattle.ic_link_ops.proofs.Each.{all_both}
 use Rattle.ic_link_ops.proofs.PlacedValues.{vacant_absent}
 use Rattle.ic_link_ops.proofs.SequenceLemmas.{distinct_middle, first_is}

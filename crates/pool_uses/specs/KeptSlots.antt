@@ -1,7 +1,6 @@
 -- What slots keep of their pool and of the list of vacant ones.
 use Rattle.std.specs.Prelude.{◌≡◌, ◌<◌, ◌^◌, cond, leb, ℕ, Bool, Option, Some, None, IsSome, List, [], length, ⊤}
-use Rattle.ic_unsafe_ref.specs.declared.place.Place.{Place}
-use Rattle.ic_unsafe_ref.specs.Objects.{Objects, object_at}
+use Rattle.ic_link_ops.specs.Prelude.{Place, Objects, object_at, IsDistinct, Table}
 use Rattle.ic_link_ops.specs.declared.link.Link.{Link}
 use Rattle.ic_link_ops.specs.declared.one_word.OneWord.{OneWord}
 use Rattle.ic_link_ops.specs.declared.table.PlainTable.{PlainTable}
@@ -9,12 +8,10 @@ use Rattle.ic_link_ops.specs.OneWord.{no_word, has_word, next_word_of}
 use Rattle.ic_link_ops.specs.PlainTables.{linked_by, table}
 use Rattle.ic_link_ops.specs.Widths.{wide}
 use Rattle.ic_link_ops.specs.Readings.{successor_of}
-use Rattle.ic_link_ops.specs.Sequences.{IsDistinct}
-use Rattle.ic_link_ops.specs.SinglyLinkedList.{Front, Successor, Shows, list_from, members}
-use Rattle.ic_link_ops.specs.Tables.{Table}
+use Rattle.ic_link_ops.specs.SinglyLinkedList.{Front, Successor, Represents, list_from, members}
 use Rattle.ic_pool.specs.Pooled.{IsPooled}
 use Rattle.ic_container.specs.Holds.{Holds}
-use Rattle.ic_container.specs.Rows.{IsHoused, alone, home_of}
+use Rattle.ic_container.specs.Rows.{EachInItsList, alone, home_of}
 use Rattle.pool_uses.specs.declared.slots.Slot.{Slot}
 use Rattle.pool_uses.specs.Slots.{Naming}
 
@@ -68,12 +65,12 @@ pub record IsCounted {T : Type 0} (objects : Objects (Slot T)) (len : ℕ) : Typ
   pub below : (p : Place) → IsSome (value_in (object_at objects p)) → IsTaken (object_at objects p)
   pub taken : List Place
   pub once : IsDistinct taken
-  pub housed : IsHoused (home_of taken_home objects) (alone [] taken)
+  pub housed : EachInItsList (home_of taken_home objects) (alone [] taken)
   pub count : len ≡ length taken
 
 -- WHAT SLOTS KEEP: exactly the slots that are vacant and not used up are in the list, each has room for its link, and those with a
 -- value are counted
 pub record IsKept {T K A : Type 0} (objects : Objects (Slot T)) (links : PlainTable (OneWord K) A ⊤) (vacant : Front) (len : ℕ) : Type 0 where
-  pub holds : Holds (Shows successor) is_linked plain_table members_of links (alone (list_from None) vacant) (home_of vacant_home objects)
+  pub holds : Holds (Represents successor) is_linked plain_table members_of links (alone (list_from None) vacant) (home_of vacant_home objects)
   pub pooled : IsPooled is_linked objects (plain_table links)
   pub counted : IsCounted objects len

@@ -1,8 +1,7 @@
 -- What timers are for a clause: all that is placed waits, in the order in which the tree has it.
 use Rattle.std.specs.Prelude.{ℕ, ◌^◌, leb, Option, Some, None, List}
 use Rattle.std.specs.List.{filter_map}
-use Rattle.ic_unsafe_ref.specs.declared.place.Place.{Place}
-use Rattle.ic_unsafe_ref.specs.Objects.{Objects, object_at}
+use Rattle.ic_link_ops.specs.Prelude.{Place, Objects, object_at}
 use Rattle.ic_rbtree.specs.PlainTrees.{TreeLinkOps, members_of}
 use Rattle.pool_uses.specs.declared.timers.Timer.{Timer}
 use Rattle.pool_uses.specs.Timers.{Waiting, Timetable, timer_of}
@@ -21,7 +20,7 @@ module _ {V : Type 0} where
   waiting_at objects s = filter_map (λ p. waiting_of p (object_at objects p)) s
 
 module _ {V A : Type 0} (objects : Objects (Timer V)) (links : TreeLinkOps A) (root : Option Place) where
-  -- those that wait, as the table shows the tree
+  -- those that wait, as the table represents the tree
   abbrev pub waiting_in : List (Waiting V)
   waiting_in = waiting_at objects (members_of links root)
 

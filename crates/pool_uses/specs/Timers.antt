@@ -3,8 +3,7 @@ use Rattle.std.specs.Prelude.{◌≡◌, ◌≢◌, ◌<◌, ◌≤◌, ℕ, Boo
 use Rattle.std.specs.Coded.{Coded, code_by, coded×, coded_ℕ, coded_bool, coded_list}
 use Rattle.std.specs.List.{AllByRecursion}
 use Rattle.std.specs.Ordering.{nat_cmp}
-use Rattle.ic_unsafe_ref.specs.declared.place.Place.{Place}
-use Rattle.ic_unsafe_ref.specs.Places.{place_code}
+use Rattle.ic_link_ops.specs.Prelude.{Place, place_code}
 use Rattle.ic_rbtree.specs.Borders.{IsSorted}
 
 -- a value that waits, its deadline, and the reference by which it is called off
@@ -45,7 +44,7 @@ module _ {V : Type 0} where
   abbrev pub NamesNone : Place → List (Waiting V) → Type 0
   NamesNone reference waiting = AllByRecursion (λ (w : Waiting V). reference ≢ w.reference) waiting
 
-  -- ONE MORE WAITS, behind all with its deadline or an earlier one. None had its reference, and the deadlines never fall
+  -- ONE MORE WAITS, after all with its deadline or an earlier one. None had its reference, and the deadlines never fall
   pub record Adds (timer : Waiting V) (old new : List (Waiting V)) : Type 0 where
     pub front : List (Waiting V)
     pub back : List (Waiting V)
@@ -68,7 +67,7 @@ module _ {V : Type 0} where
     pub first : old ≡ timer_of reference deadline value ∷ new
     pub due : deadline ≤ now
 
-  -- THOSE IN FRONT ARE TAKEN, and each is due. They stand in their order behind what the caller had, and the others wait in theirs
+  -- THOSE IN FRONT ARE TAKEN, and each is due. They stand in their order after what the caller had, and the others wait in theirs
   pub record TakesAll (now : ℕ) (had has : List (ℕ × V)) (old new : List (Waiting V)) : Type 0 where
     pub taken : List (Waiting V)
     pub were : old ≡ taken ++ new

@@ -176,7 +176,8 @@ impl<T: Drop, A: Allocator> Slots<T, A> {
     /// Takes out the value that the handle names, and the handle names nothing from then on: `None` for an old handle.
     /// O(1), and it takes no memory.
     ///
-    /// The slot is vacant then. After it has had 2^64 - 1 values its generations are used up, and the call does not put it back into the list of vacant slots.
+    /// The slot is vacant then. After it has had 2^64 - 1 values its generations are used up, and the call does not put it back into the list of
+    /// vacant slots.
     pub fn remove(&mut self, handle: Handle) -> Option<T>
         ensures value { result ≡ named self.old handle }
         ensures removed { IfSome result (λ value. Removes handle self.old self.new) }

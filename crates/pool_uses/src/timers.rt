@@ -39,7 +39,7 @@ impl<V> HasDeadline for Timer<V> {
 
 /// Values that wait for their deadlines.
 ///
-/// A clause sees those that wait as a list, by deadline, and of equal ones the one that was added first in front. Each
+/// A clause sees those that wait as a list, by deadline, and of equal ones the one first that was added first. Each
 /// has the reference by which it is called off, its deadline and its value.
 #[derive(Drop)]
 pub struct Timers<V, A: Allocator = Global> {
@@ -131,7 +131,7 @@ impl<V, A: Allocator> Timers<V, A> {
         Some((timer.deadline, timer.value))
     }
 
-    /// Takes all timers out that are due at `now`, the earliest first, and puts each with its deadline behind those in
+    /// Takes all timers out that are due at `now`, the earliest first, and puts each with its deadline after those in
     /// `due`. O(k log n) for k of them.
     ///
     /// It takes memory for `due` alone, and none where that has room. Where it has none left and can't grow, the one

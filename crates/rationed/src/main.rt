@@ -1,7 +1,7 @@
 //! The program over memory of which one request is refused: `rationed N` refuses the request number N, counted from 0, and
 //! `rationed none` none. It tells on standard error how many requests there were.
 //!
-//! With `list` behind that, all calls are run as one list of commands, and lines that are no calls are passed over. With `count` each call is
+//! With `list` after that, all calls are run as one list of commands, and lines that are no calls are passed over. With `count` each call is
 //! made by its method, and what is written of it is how many requests it made, and for how many bytes in all.
 #![tactic(auto)]
 

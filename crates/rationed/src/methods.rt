@@ -2,57 +2,65 @@
 
 use ic_program::OwnKey;
 use ic_test_support::rationed::Rationed;
-use ic_world::{Command, World};
+use ic_world::{Call, Command, Direction, Gap, Insertion, Search, Seek, Whole, World};
 
-// Makes a call of a list by its method, and any other as a command.
-fn call_list(world: &mut World<OwnKey, &Rationed>, command: Command<u64, u64>) {
-    match command {
-        Command::Clear(collection) => _ = world.clear(collection),
-        Command::FastClear(collection) => _ = world.fast_clear(collection),
-        Command::PushFront(collection, object) => _ = world.push_front(collection, object),
-        Command::PushBack(collection, object) => _ = world.push_back(collection, object),
-        Command::PopFront(collection) => _ = world.pop_front(collection),
-        Command::PopBack(collection) => _ = world.pop_back(collection),
-        Command::InsertAfter(collection, object) => _ = world.insert_after(collection, object),
-        Command::InsertBefore(collection, object) => _ = world.insert_before(collection, object),
-        Command::Remove(collection) => _ = world.remove(collection),
-        Command::RemoveNext(collection) => _ = world.remove_next(collection),
-        Command::ReplaceWith(collection, object) => _ = world.replace_with(collection, object),
-        Command::ReplaceNextWith(collection, object) => _ = world.replace_next_with(
-            collection, object,
-        ),
-        Command::Reverse(collection) => _ = world.reverse(collection),
-        other => drop(world.answer(other)),
+// Makes a call at a gap, or of all members, by its method, and any other as a command.
+fn call_list(world: &mut World<OwnKey, &Rationed>, collection: usize, call: Call<u64>) {
+    match call {
+        Call::Put(Gap::Front, object) => _ = world.push_front(collection, object),
+        Call::Put(Gap::Back, object) => _ = world.push_back(collection, object),
+        Call::Put(Gap::After, object) => _ = world.insert_after(collection, object),
+        Call::Put(Gap::Before, object) => _ = world.insert_before(collection, object),
+        Call::Take(Gap::Front) => _ = world.pop_front(collection),
+        Call::Take(Gap::Back) => _ = world.pop_back(collection),
+        Call::Take(Gap::Before) => _ = world.remove(collection),
+        Call::Take(Gap::After) => _ = world.remove_next(collection),
+        Call::Swap(Gap::Before, object) => _ = world.replace_with(collection, object),
+        Call::Swap(Gap::After, object) => _ = world.replace_next_with(collection, object),
+        Call::Whole(Whole::Clear) => _ = world.clear(collection),
+        Call::Whole(Whole::Reverse) => _ = world.reverse(collection),
+        other => drop(world.answer(Command::On(collection, other))),
     }
 }
 
 // Makes a call that moves a cursor by its method, and any other as one of a list.
-fn call_cursor(world: &mut World<OwnKey, &Rationed>, command: Command<u64, u64>) {
-    match command {
-        Command::MoveNext(collection) => _ = world.move_next(collection),
-        Command::MovePrev(collection) => _ = world.move_prev(collection),
-        Command::GoNull(collection) => _ = world.go_null(collection),
-        Command::Current(collection) => _ = world.current(collection),
-        Command::Seek(collection, object) => _ = world.seek(collection, object),
-        Command::SeekWithPrev(collection, object, prev) => _ = world.seek_with_prev(
+fn call_cursor(world: &mut World<OwnKey, &Rationed>, collection: usize, call: Call<u64>) {
+    match call {
+        Call::Move(Direction::Next) => _ = world.move_next(collection),
+        Call::Move(Direction::Prev) => _ = world.move_prev(collection),
+        Call::Seek(Seek::Null) => _ = world.go_null(collection),
+        Call::Seek(Seek::On(object)) => _ = world.seek(collection, object),
+        Call::Seek(Seek::With(Direction::Prev, object, prev)) => _ = world.seek_with_prev(
             collection, object, prev,
         ),
-        Command::SeekWithNext(collection, object, next) => _ = world.seek_with_next(
+        Call::Seek(Seek::With(Direction::Next, object, next)) => _ = world.seek_with_next(
             collection, object, next,
         ),
-        other => call_list(world, other),
+        other => call_list(world, collection, other),
     }
 }
 
-/// Makes the call by its method.
+// Makes a call by keys by its method, and any other as one that moves a cursor.
+fn call_on(world: &mut World<OwnKey, &Rationed>, collection: usize, call: Call<u64>) {
+    match call {
+        Call::Search(Search::Find(key)) => _ = world.find(collection, key),
+        Call::Search(Search::LowerBound(bound)) => _ = world.lower_bound(collection, bound),
+        Call::Search(Search::UpperBound(bound)) => _ = world.upper_bound(collection, bound),
+        Call::Insertion(Insertion::Insert(object)) => _ = world.insert(collection, object),
+        Call::Insertion(Insertion::CursorInsert(object)) => _ = world.cursor_insert(
+            collection, object,
+        ),
+        Call::Enter(key, object) => _ = world.entry(collection, key, object),
+        other => call_cursor(world, collection, other),
+    }
+}
+
+/// Makes the call by its method, and any other as a command.
 pub(crate) fn call(world: &mut World<OwnKey, &Rationed>, command: Command<u64, u64>) {
     match command {
-        Command::Find(collection, key) => _ = world.find(collection, key),
-        Command::LowerBound(collection, bound) => _ = world.lower_bound(collection, bound),
-        Command::UpperBound(collection, bound) => _ = world.upper_bound(collection, bound),
-        Command::Insert(collection, object) => _ = world.insert(collection, object),
-        Command::CursorInsert(collection, object) => _ = world.cursor_insert(collection, object),
-        Command::Entry(collection, key, object) => _ = world.entry(collection, key, object),
-        other => call_cursor(world, other),
+        Command::On(collection, call) => call_on(world, collection, call),
+        Command::FastClear(collection) => _ = world.fast_clear(collection),
+        Command::Current(collection) => _ = world.current(collection),
+        other => drop(world.answer(other)),
     }
 }

@@ -8,7 +8,7 @@ use Rattle.ic_rbtree.proofs.SortedKeys.{is_up}
 use Rattle.region_allocator.specs.declared.region.Region.{Region}
 use Rattle.region_allocator.specs.Changes.{FitsFor}
 use Rattle.region_allocator.specs.Kept.{start_of}
-use Rattle.region_allocator.specs.Regions.{end_of, Has, IsFree, IsRegion, AreApart, StandApart, AreShorter, FitsAt}
+use Rattle.region_allocator.specs.Regions.{end_of, Has, IsFree, IsRegion, AreApart, AreRegionsApart, AreShorter, FitsAt}
 
 -- of three facts of each follows another one
 pub all_three : {P Q R S : Region → Type 0} → ((x : Region) → P x → Q x → R x → S x) → (s : List Region) → AllByRecursion P s → AllByRecursion Q s → AllByRecursion R s → AllByRecursion S s
@@ -16,32 +16,32 @@ all_three f [] p q r = tt
 all_three f (x ∷ s) p q r = (f x p.0 q.0 r.0, all_three f s p.1 q.1 r.1)
 
 -- each of them is a region
-pub all_regions : (s : List Region) → StandApart s → AllByRecursion IsRegion s
+pub all_regions : (s : List Region) → AreRegionsApart s → AllByRecursion IsRegion s
 all_regions [] h = tt
 all_regions (r ∷ s) h = (h.0, all_regions s h.2)
 
 -- they rise by their starts
-pub starts_rise : (s : List Region) → StandApart s → IsSorted nat_cmp (map start_of s)
+pub starts_rise : (s : List Region) → AreRegionsApart s → IsSorted nat_cmp (map start_of s)
 starts_rise [] h = tt
 starts_rise (r ∷ []) h = tt
 starts_rise (r ∷ x ∷ s) h = (is_up r.start x.start (omega (arith, h.1.0)), starts_rise (x ∷ s) h.2)
 
 -- CUT IN TWO
-pub parts_apart : (front back : List Region) → StandApart (front ++ back) → StandApart front × StandApart back
+pub parts_apart : (front back : List Region) → AreRegionsApart (front ++ back) → AreRegionsApart front × AreRegionsApart back
 parts_apart [] back h = (tt, h)
 parts_apart (x ∷ front) back h =
     let rest = parts_apart front back h.2 in ((h.0, all_front (λ later. end_of x < later.start) front back h.1, rest.0), rest.1)
 
--- CUT AT A REGION: those in front end before it, and those behind start behind it
-pub cut_apart : (front : List Region) (r : Region) (back : List Region) → StandApart (front ++ r ∷ back)
-    → AllByRecursion (λ x. end_of x < r.start) front × IsRegion r × AllByRecursion (λ x. end_of r < x.start) back × StandApart (front ++ back)
+-- CUT AT A REGION: those before end before it, and those after start after it
+pub cut_apart : (front : List Region) (r : Region) (back : List Region) → AreRegionsApart (front ++ r ∷ back)
+    → AllByRecursion (λ x. end_of x < r.start) front × IsRegion r × AllByRecursion (λ x. end_of r < x.start) back × AreRegionsApart (front ++ back)
 cut_apart [] r back h = (tt, h.0, h.1, h.2)
 cut_apart (x ∷ front) r back h =
     let rest = cut_apart front r back h.2 in
     (((all_back (λ later. end_of x < later.start) front (r ∷ back) h.1).0, rest.0), rest.1, rest.2, (h.0, all_without (λ later. end_of x < later.start) front r back h.1, rest.3))
 
 -- the others are apart from it
-pub others_away : (front : List Region) (r : Region) (back : List Region) → StandApart (front ++ r ∷ back) → AllByRecursion (AreApart r) (front ++ back)
+pub others_away : (front : List Region) (r : Region) (back : List Region) → AreRegionsApart (front ++ r ∷ back) → AllByRecursion (AreApart r) (front ++ back)
 others_away [] r back h = all_map (λ x high. inl high) back h.1
 others_away (x ∷ front) r back h = (inr (all_back (λ later. end_of x < later.start) front (r ∷ back) h.1).0, others_away front r back h.2)
 
@@ -49,19 +49,19 @@ others_away (x ∷ front) r back h = (inr (all_back (λ later. end_of x < later.
 abbrev pub IsOrApart : Region → Region → Type 0
 IsOrApart out x = (x ≡ out) ⊎ AreApart out x
 
-pub apart_from : (front : List Region) (r : Region) (back : List Region) → StandApart (front ++ r ∷ back) → AllByRecursion (IsOrApart r) (front ++ r ∷ back)
+pub apart_from : (front : List Region) (r : Region) (back : List Region) → AreRegionsApart (front ++ r ∷ back) → AllByRecursion (IsOrApart r) (front ++ r ∷ back)
 apart_from front r back h = all_with (IsOrApart r) front r back (inl refl) (all_map (λ x away. inr away) (front ++ back) (others_away front r back h))
 
 -- WITH ONE MORE that is apart from each, in the order of the addresses
-pub added_apart : (front back : List Region) (r : Region) → IsRegion r → StandApart (front ++ back) → AllByRecursion (AreApart r) (front ++ back)
-    → AllByRecursion (λ x. x.start < end_of r) front → AllByRecursion (λ x. r.start < end_of x) back → StandApart (front ++ r ∷ back)
+pub added_apart : (front back : List Region) (r : Region) → IsRegion r → AreRegionsApart (front ++ back) → AllByRecursion (AreApart r) (front ++ back)
+    → AllByRecursion (λ x. x.start < end_of r) front → AllByRecursion (λ x. r.start < end_of x) back → AreRegionsApart (front ++ r ∷ back)
 added_apart [] back r is h apart below above =
     let behind : AllByRecursion (λ x. end_of r < x.start) back = all_three (λ x away high again. grind arith) back apart above above in (is, behind, h)
 added_apart (x ∷ front) back r is h apart below above =
     (h.0, all_with (λ later. end_of x < later.start) front r back (grind arith) h.1, added_apart front back r is h.2 apart.1 below.1 above)
 
 -- WITH ANOTHER ONE in the place of one that it fits for
-pub changed_apart : (front : List Region) (out : Region) (back : List Region) {r : Region} → StandApart (front ++ out ∷ back) → FitsFor out r (front ++ out ∷ back) → StandApart (front ++ r ∷ back)
+pub changed_apart : (front : List Region) (out : Region) (back : List Region) {r : Region} → AreRegionsApart (front ++ out ∷ back) → FitsFor out r (front ++ out ∷ back) → AreRegionsApart (front ++ r ∷ back)
 changed_apart front out back {r} h fits =
     let cut = cut_apart front out back h in
     let each = all_without (λ x. (x ≡ out) ⊎ AreApart r x) front out back fits.apart in
@@ -78,27 +78,27 @@ pub free_with : (front : List Region) (r : Region) (back : List Region) (a : ℕ
 free_with front r back a =
     let with = free_parts front (r ∷ back) a in let less = free_parts front back a in (λ free. grind (arith, with, less), λ either. grind (arith, with, less))
 
--- what is free lies behind an address where all start behind it,
+-- what is free lies after an address where all start after it,
 pub free_above : (s : List Region) (n a : ℕ) → AllByRecursion (λ x. n < x.start) s → IsFree s a → n < a
 free_above [] n a above free = absurd free
 free_above (x ∷ s) n a above (inl has) = omega (arith, above.0, has.0)
 free_above (x ∷ s) n a above (inr free) = free_above s n a above.1 free
 
--- and in front of one where all end there
+-- and before one where all end there
 pub free_below : (s : List Region) (n a : ℕ) → AllByRecursion (λ x. end_of x ≤ n) s → IsFree s a → a < n
 free_below [] n a below free = absurd free
 free_below (x ∷ s) n a below (inl has) = omega (arith, below.0, has.1)
 free_below (x ∷ s) n a below (inr free) = free_below s n a below.1 free
 
 -- an address of one is none of the others'
-pub others_not : (front : List Region) (r : Region) (back : List Region) → StandApart (front ++ r ∷ back) → (a : ℕ) → IsFree (front ++ back) a → Has r a → ⊥
+pub others_not : (front : List Region) (r : Region) (back : List Region) → AreRegionsApart (front ++ r ∷ back) → (a : ℕ) → IsFree (front ++ back) a → Has r a → ⊥
 others_not front r back h a free own =
     let cut = cut_apart front r back h in
     let left : IsFree front a → a < r.start = free_below front r.start a (all_map (λ x low. omega (arith, low)) front cut.0) in
     grind (arith, (free_parts front back a).0 free, left, free_above back (end_of r) a cut.2)
 
 -- NOTHING FITS IN FRONT of the first region that is long enough: what is free from an address on is in one region
-pub lowest_fits : (length start : ℕ) (front : List Region) (whole : Region) (back : List Region) → StandApart (front ++ whole ∷ back) → AreShorter front length → 0 < length
+pub lowest_fits : (length start : ℕ) (front : List Region) (whole : Region) (back : List Region) → AreRegionsApart (front ++ whole ∷ back) → AreShorter front length → 0 < length
     → FitsAt (front ++ whole ∷ back) length start → whole.start ≤ start
 lowest_fits length start [] whole back apart short some fits =
     grind (arith, fits start (omega arith, omega (arith, some)), free_above back (end_of whole) start apart.1)

@@ -1,8 +1,7 @@
 -- Which regions touch one that is to be freed, what it is joined with, and what is left of one that is cut.
 use Rattle.std.proofs.Common.{◌≡◌, ◌≢◌, ℕ, ◌+◌, ◌-◌, ◌^◌, ◌<◌, ◌≤◌, ◌⊎◌, ◌↔◌, inl, inr, Bool, Option, Some, None, Ok, Err, List, [], ◌∷◌, ◌++◌, refl, sym, ap, ◌∙◌, subst, arith}
 use Rattle.std.specs.List.{AllByRecursion}
-use Rattle.ic_unsafe_ref.specs.declared.place.Place.{Place}
-use Rattle.ic_unsafe_ref.specs.Objects.{Objects, object_at}
+use Rattle.ic_link_ops.specs.Prelude.{Place, Objects, object_at}
 use Rattle.ic_link_ops.proofs.Each.{all_back, all_both, all_map, all_without}
 use Rattle.ic_rbtree.specs.PlainTrees.{TreeLinkOps}
 use Rattle.ic_augmented.specs.declared.sum_table.SumTable.{SumTable}
@@ -10,12 +9,12 @@ use Rattle.region_allocator.specs.declared.free_error.FreeError.{FreeError}
 use Rattle.region_allocator.specs.declared.neighbors.Found.{Found}
 use Rattle.region_allocator.specs.declared.region.Region.{Region}
 use Rattle.region_allocator.specs.Changes.{Adds, Changes, FitsFor}
-use Rattle.region_allocator.specs.Kept.{Keeps, shown_regions}
+use Rattle.region_allocator.specs.Kept.{Keeps, represented_regions}
 use Rattle.region_allocator.specs.Neighbors.{IsFound, IsLast, IsFirst, AreNeighbors, IsEnding, IsStarting, Touches, EndsBy, StartsFrom}
 use Rattle.region_allocator.specs.Refusals.{IsRefused}
-use Rattle.region_allocator.specs.Regions.{space_of, region_of, end_of, Has, IsFree, IsRegion, AreApart, StandApart, FreesRegion, AllocatesRegion}
+use Rattle.region_allocator.specs.Regions.{space_of, region_of, end_of, Has, IsFree, IsRegion, AreApart, AreRegionsApart, FreesRegion, AllocatesRegion}
 use Rattle.region_allocator.proofs.Apart.{IsOrApart, all_three, cut_apart, free_above, free_below, free_parts, free_with, others_away, others_not, parts_apart}
-use Rattle.region_allocator.proofs.Keeping.{shown_apart, others_apart, at_region}
+use Rattle.region_allocator.proofs.Keeping.{represented_apart, others_apart, at_region}
 
 -- a region shares no address with this one, and may touch it
 abbrev pub IsBeside : Region → Region → Type 0
@@ -47,7 +46,7 @@ covers_fits own from to fits apart = let some = own.some in
 
 module _ {A B : Type 0} {objects : Objects Region} {w : TreeLinkOps A} {root : Option Place} {z : SumTable ℕ ℕ B} (k : Keeps objects w root z) {region : Region} (is : IsRegion region) where
   abbrev shown : List Region
-  shown = shown_regions objects w root
+  shown = represented_regions objects w root
 
   -- with no other: all are apart from it
   pub none_touches : Touches objects shown region None None → AllByRecursion (AreApart region) shown
@@ -61,7 +60,7 @@ module _ {A B : Type 0} {objects : Objects Region} {w : TreeLinkOps A} {root : O
   pub adds_frees : {new : List Region} → Touches objects shown region None None → Adds region shown new → FreesRegion region shown new
   adds_frees t adds = frees is t.each (adds_free adds)
 
-  -- with the one in front,
+  -- with the one before,
   module _ {front : Found} (t : Touches objects shown region (Some front) None) where
     pub front_fits : {out : Region} → object_at objects front.object ≡ Some out → FitsFor out (region_of front.region.start (front.region.length + region.length)) shown
     front_fits {out} there =
@@ -75,7 +74,7 @@ module _ {A B : Type 0} {objects : Objects Region} {w : TreeLinkOps A} {root : O
     front_frees resized = frees is t.each (λ a.
         let c = changes_free (resized front.region t.front_is.0.there) a in (λ free. grind (arith, c, t.front_is.1), λ either. grind (arith, c, t.front_is.1)))
 
-  -- with the one behind,
+  -- with the one after,
   module _ {back : Found} (t : Touches objects shown region None (Some back)) where
     pub back_fits : {out : Region} → object_at objects back.object ≡ Some out → FitsFor out (region_of region.start (region.length + back.region.length)) shown
     back_fits {out} there =
@@ -89,7 +88,7 @@ module _ {A B : Type 0} {objects : Objects Region} {w : TreeLinkOps A} {root : O
     back_frees resized = frees is t.each (λ a.
         let c = changes_free (resized back.region t.back_is.0.there) a in (λ free. grind (arith, c, t.back_is.1), λ either. grind (arith, c, t.back_is.1)))
 
-  -- and with both, where the one behind is taken out first
+  -- and with both, where the one after is taken out first
   module _ {front back : Found} (t : Touches objects shown region (Some front) (Some back)) (less : Objects Region) {mid : List Region}
       (taken : (out : Region) → object_at objects back.object ≡ Some out → Adds out mid shown) (others : (p : Place) → p ≢ back.object → object_at less p ≡ object_at objects p) where
     front_there : object_at less front.object ≡ Some front.region
@@ -104,7 +103,7 @@ module _ {A B : Type 0} {objects : Objects Region} {w : TreeLinkOps A} {root : O
     left P all = subst (AllByRecursion P) (sym adds.was) (all_without P adds.front back.region adds.back (subst (AllByRecursion P) adds.is all))
 
     away : AllByRecursion (AreApart back.region) mid
-    away = subst (AllByRecursion (AreApart back.region)) (sym adds.was) (others_away adds.front back.region adds.back (subst StandApart adds.is (shown_apart k)))
+    away = subst (AllByRecursion (AreApart back.region)) (sym adds.was) (others_away adds.front back.region adds.back (subst AreRegionsApart adds.is (represented_apart k)))
 
     pub both_fit : {out : Region} → object_at less front.object ≡ Some out → FitsFor out (region_of front.region.start (front.region.length + region.length + back.region.length)) mid
     both_fit {out} there =
@@ -126,41 +125,41 @@ module _ {A B : Type 0} {objects : Objects Region} {w : TreeLinkOps A} {root : O
   abbrev rest : Region
   rest = region_of (found.region.start + length) (found.region.length - length)
 
-  cut_frees : {new : List Region} (front back : List Region) → shown_regions objects w root ≡ front ++ found.region ∷ back → ((a : ℕ) → IsFree new a ↔ (IsFree (front ++ back) a ⊎ Has rest a))
-      → AllocatesRegion (region_of found.region.start length) (shown_regions objects w root) new
+  cut_frees : {new : List Region} (front back : List Region) → represented_regions objects w root ≡ front ++ found.region ∷ back → ((a : ℕ) → IsFree new a ↔ (IsFree (front ++ back) a ⊎ Has rest a))
+      → AllocatesRegion (region_of found.region.start length) (represented_regions objects w root) new
   cut_frees front back was left = rw was (record {
     was_free = λ a has. (free_with front found.region back a).1 (inr (has.0, omega (arith, has.1, enough)));
-    free = λ a. let with = free_with front found.region back a in let not = others_not front found.region back (subst StandApart was (shown_apart k)) a in
+    free = λ a. let with = free_with front found.region back a in let not = others_not front found.region back (subst AreRegionsApart was (represented_apart k)) a in
         (λ free. grind (arith, with, left a, not, enough), λ both. grind (arith, with, left a, enough));
   })
 
-  pub cut_whole : {new : List Region} → found.region.length - length ≡ 0 → ((out : Region) → object_at objects found.object ≡ Some out → Adds out new (shown_regions objects w root))
-      → AllocatesRegion (region_of found.region.start length) (shown_regions objects w root) new
+  pub cut_whole : {new : List Region} → found.region.length - length ≡ 0 → ((out : Region) → object_at objects found.object ≡ Some out → Adds out new (represented_regions objects w root))
+      → AllocatesRegion (region_of found.region.start length) (represented_regions objects w root) new
   cut_whole none taken = let less = taken found.region is.there in cut_frees less.front less.back less.is (λ a. rw less.was (λ free. inl free, λ either. grind (arith, none)))
 
-  pub cut_part : {new : List Region} → ((out : Region) → object_at objects found.object ≡ Some out → Changes out rest (shown_regions objects w root) new)
-      → AllocatesRegion (region_of found.region.start length) (shown_regions objects w root) new
+  pub cut_part : {new : List Region} → ((out : Region) → object_at objects found.object ≡ Some out → Changes out rest (represented_regions objects w root) new)
+      → AllocatesRegion (region_of found.region.start length) (represented_regions objects w root) new
   cut_part resized = let changes = resized found.region is.there in cut_frees changes.front changes.back changes.was (λ a. (changes_free changes a).1)
 
-  pub cut_fits : found.region.length - length ≢ 0 → {out : Region} → object_at objects found.object ≡ Some out → FitsFor out rest (shown_regions objects w root)
+  pub cut_fits : found.region.length - length ≢ 0 → {out : Region} → object_at objects found.object ≡ Some out → FitsFor out rest (represented_regions objects w root)
   cut_fits some {out} there =
       let same : out ≡ found.region = cc (is.there) in
-      let apart : AllByRecursion (λ x. (x ≡ found.region) ⊎ AreApart rest x) (shown_regions objects w root) = all_map (λ x other. grind (arith, enough)) (shown_regions objects w root) (others_apart k found.object is.there) in
+      let apart : AllByRecursion (λ x. (x ≡ found.region) ⊎ AreApart rest x) (represented_regions objects w root) = all_map (λ x other. grind (arith, enough)) (represented_regions objects w root) (others_apart k found.object is.there) in
       let left : IsRegion rest = record { some = omega (arith, some); fits = omega (arith, is.is_region.fits, enough) } in
       rw same (record { is_region = left; low = omega (arith, some, enough); high = omega (arith, some); apart = apart })
 
--- the last of regions ends behind all, and the first starts in front of all
-last_ends : (front rest : List Region) (r : Region) → front ≡ rest ++ r ∷ [] → StandApart front → AllByRecursion (λ x. end_of x ≤ end_of r) front
+-- the last of regions ends after all, and the first starts before all
+last_ends : (front rest : List Region) (r : Region) → front ≡ rest ++ r ∷ [] → AreRegionsApart front → AllByRecursion (λ x. end_of x ≤ end_of r) front
 last_ends front rest r is apart =
-    let cut = cut_apart rest r [] (subst StandApart is apart) in rw is (all_both (λ x. end_of x ≤ end_of r) rest (r ∷ []) (all_map (λ x low. omega (arith, low)) rest cut.0) (omega arith, tt))
+    let cut = cut_apart rest r [] (subst AreRegionsApart is apart) in rw is (all_both (λ x. end_of x ≤ end_of r) rest (r ∷ []) (all_map (λ x low. omega (arith, low)) rest cut.0) (omega arith, tt))
 
-first_starts : (back rest : List Region) (r : Region) → back ≡ r ∷ rest → StandApart back → AllByRecursion (λ x. r.start ≤ x.start) back
-first_starts back rest r is apart = rw is (omega arith, all_map (λ x high. omega (arith, high)) rest (subst StandApart is apart).1)
+first_starts : (back rest : List Region) (r : Region) → back ≡ r ∷ rest → AreRegionsApart back → AllByRecursion (λ x. r.start ≤ x.start) back
+first_starts back rest r is apart = rw is (omega arith, all_map (λ x high. omega (arith, high)) rest (subst AreRegionsApart is apart).1)
 
 module _ {objects : Objects Region} {regions : List Region} where
-  module _ {region : Region} (is : IsRegion region) (apart : StandApart regions) {low high : Option Found} (beside : AreNeighbors objects regions region.start low high) where
-    stand : StandApart beside.front × StandApart beside.back
-    stand = parts_apart beside.front beside.back (subst StandApart beside.cut apart)
+  module _ {region : Region} (is : IsRegion region) (apart : AreRegionsApart regions) {low high : Option Found} (beside : AreNeighbors objects regions region.start low high) where
+    stand : AreRegionsApart beside.front × AreRegionsApart beside.back
+    stand = parts_apart beside.front beside.back (subst AreRegionsApart beside.cut apart)
 
     none_ends : AllByRecursion (λ x. end_of x ≢ region.start) beside.front → AllByRecursion (λ x. end_of x ≢ region.start) regions
     none_ends front = rw beside.cut (all_both (λ x. end_of x ≢ region.start) beside.front beside.back front (all_map (λ x above same. omega (arith, above, same)) beside.back beside.starts_above))
@@ -179,7 +178,7 @@ module _ {objects : Objects Region} {regions : List Region} where
         let last = subst (IsLast objects beside.front) ends.0 last in
         (all_map (λ x low. omega (arith, low, ends.1)) beside.front (last_ends beside.front last.1.0 found.region last.1.1 stand.0), (last.0, ends.1))
 
-    -- and none behind starts before it
+    -- and none after starts before it
     back_clear : (above result : Option Found) → IsFirst objects beside.back above → StartsFrom above (end_of region) (Ok result)
         → AllByRecursion (λ x. end_of region ≤ x.start) beside.back × IsStarting objects regions (end_of region) result
     back_clear None None first starts = (rw first tt, none_starts (rw first tt))
@@ -198,14 +197,14 @@ module _ {objects : Objects Region} {regions : List Region} where
         let each = all_both (IsBeside region) beside.front beside.back (all_map (λ x low. grind arith) beside.front f.0) (all_map (λ x high. grind arith) beside.back b.0) in
         record { each = subst (AllByRecursion (IsBeside region)) (sym beside.cut) each; front_is = f.1; back_is = b.1 }
 
-  -- the neighbor below an address has it if it ends behind it
+  -- the neighbor below an address has it if it ends after it
   last_free : {a : ℕ} {found : Found} {above : Option Found} → AreNeighbors objects regions a (Some found) above → a < end_of found.region → IsFree regions a
   last_free {a} {found} beside less =
       let rest = beside.below_is.1 in
       let low = (all_back (λ x. x.start ≤ a) rest.0 (found.region ∷ []) (subst (AllByRecursion (λ x. x.start ≤ a)) rest.1 beside.starts_below)).0 in
       rw beside.cut ((free_parts beside.front beside.back a).1 (inl (rw rest.1 ((free_with rest.0 found.region [] a).1 (inr (low, less))))))
 
-  -- THE ONE IN FRONT has an address of it, or the one behind
+  -- THE ONE IN FRONT has an address of it, or the one after
   pub overlaps_front : {region : Region} {below above : Option Found} → AreNeighbors objects regions region.start below above → IsRegion region → (full : Bool) (error : FreeError)
       → EndsBy below region.start (Err error) → IsRefused region (space_of regions full) error
   overlaps_front {below = None} beside is full error ends = absurd ends
@@ -222,10 +221,10 @@ module _ {objects : Objects Region} {regions : List Region} where
 
   -- WHETHER AN ADDRESS IS FREE, the neighbor below it tells
   module _ (a : ℕ) {above : Option Found} where
-    pub free_there : StandApart regions → {found : Found} → AreNeighbors objects regions a (Some found) above → IsFree regions a ↔ (a < end_of found.region)
+    pub free_there : AreRegionsApart regions → {found : Found} → AreNeighbors objects regions a (Some found) above → IsFree regions a ↔ (a < end_of found.region)
     free_there apart {found} beside =
         let rest = beside.below_is.1 in
-        let ends = last_ends beside.front rest.0 found.region rest.1 (parts_apart beside.front beside.back (subst StandApart beside.cut apart)).0 in
+        let ends = last_ends beside.front rest.0 found.region rest.1 (parts_apart beside.front beside.back (subst AreRegionsApart beside.cut apart)).0 in
         (λ free. grind (arith, (free_parts beside.front beside.back a).0 (rw beside.cut at free), free_below beside.front (end_of found.region) a ends, free_above beside.back a a beside.starts_above), last_free beside)
 
     pub none_below : AreNeighbors objects regions a None above → IsFree regions a → ⊥

@@ -5,22 +5,16 @@ use Rattle.std.proofs.lemmas.Bool.Decides.{nat_tests}
 use Rattle.std.proofs.lemmas.List.Elements.{filter_map-append}
 use Rattle.std.specs.List.{AllByRecursion, cons_option, filter}
 use Rattle.std.specs.Ordering.{nat_cmp, is_ge}
-use Rattle.ic_unsafe_ref.specs.declared.place.Place.{Place}
-use Rattle.ic_unsafe_ref.specs.Objects.{Objects, Places, Frees, object_at, with_object}
-use Rattle.ic_unsafe_ref.specs.Places.{index_of}
+use Rattle.ic_link_ops.specs.Prelude.{Place, index_of, Objects, Places, Frees, object_at, with_object, Cut, join, first, last, but_last, LinksAlso, Unlinks, HasMember, ArePlaced, values_at}
 use Rattle.ic_unsafe_ref.proofs.Placing.{placed_there, others_placed, gone_there, others_left, put_there, put_others, puts_other}
 use Rattle.ic_link_ops.specs.EntryLaws.{linked_in_range}
-use Rattle.ic_link_ops.specs.PlacedObjects.{ArePlaced, values_at}
-use Rattle.ic_link_ops.specs.Positions.{HasMember}
 use Rattle.ic_link_ops.specs.Widths.{wide}
-use Rattle.ic_link_ops.specs.Tables.{LinksAlso, Unlinks}
 use Rattle.ic_link_ops.specs.ThreeWords.{no_words, has_link, node_of}
 use Rattle.ic_link_ops.specs.Times.{times_in}
-use Rattle.ic_link_ops.specs.Sequences.{Cut, join, first, last, but_last}
-use Rattle.ic_link_ops.proofs.CollectionLaws.{kept_shown}
+use Rattle.ic_link_ops.proofs.CollectionLaws.{kept_represented}
 use Rattle.ic_link_ops.proofs.Each.{all_map, all_both, all_front, all_back}
 use Rattle.ic_link_ops.proofs.LinkedSets.{everywhere}
-use Rattle.ic_link_ops.proofs.ShownTrees.{no_root, no_members, one_sequence}
+use Rattle.ic_link_ops.proofs.RepresentedTrees.{no_root, no_members, one_sequence}
 use Rattle.ic_link_ops.proofs.SequenceLemmas.{nothing_last, split_last}
 use Rattle.ic_link_ops.proofs.PlacedEnds.{first_placed, last_placed}
 use Rattle.ic_pool.specs.Pooled.{Grows}
@@ -30,22 +24,22 @@ use Rattle.ic_rbtree.specs.Closed.{IsNode}
 use Rattle.ic_rbtree.specs.Comparing.{compared, own_order, answer_at, order_of, is_beyond}
 use Rattle.ic_rbtree.specs.EachObject.{HasEach}
 use Rattle.ic_rbtree.specs.Ordered.{InsertsInOrder}
-use Rattle.ic_rbtree.specs.PlainTrees.{TreeLinkOps, PlainShows, is_linked, plain_table}
+use Rattle.ic_rbtree.specs.PlainTrees.{TreeLinkOps, PlainRepresents, is_linked, plain_table}
 use Rattle.ic_rbtree.specs.declared.keys.key_adapter.Bound.TheVariants.{Included}
 use Rattle.ic_rbtree.proofs.EachObject.{each_none, each_covered, each_new, each_member, each_value, at_each, each_taken, each_changed}
 use Rattle.ic_rbtree.proofs.PlainTrees.{plain_members, plain_trees}
 use Rattle.ic_rbtree.proofs.SortedKeys.{front_is_least}
-use Rattle.ic_augmented.specs.Consistent.{IsConsistent, ShowsConsistent}
+use Rattle.ic_augmented.specs.Consistent.{IsConsistent, RepresentsConsistent}
 use Rattle.ic_augmented.specs.Greatest.{greatest, greatest_of, number_at, is_greater}
 use Rattle.ic_augmented.specs.Pooled.{GrowsSummed}
 use Rattle.ic_augmented.specs.SumTables.{blank, room_of}
 use Rattle.ic_augmented.specs.declared.sum_table.Cell.{Cell}
 use Rattle.ic_augmented.specs.declared.sum_table.SumTable.{SumTable}
-use Rattle.ic_augmented.proofs.PooledTrees.{grown_consistent, inserts_shown, consistent_in, numbers_stay}
+use Rattle.ic_augmented.proofs.PooledTrees.{grown_consistent, inserts_represented, consistent_in, numbers_stay}
 use Rattle.region_allocator.specs.declared.region.Region.{Region}
 use Rattle.region_allocator.specs.Changes.{Adds, Changes, FitsFor}
-use Rattle.region_allocator.specs.Kept.{start_of, Keeps, shown_regions}
-use Rattle.region_allocator.specs.Regions.{IsRegion, AreApart, StandApart, AreShorter}
+use Rattle.region_allocator.specs.Kept.{start_of, Keeps, represented_regions}
+use Rattle.region_allocator.specs.Regions.{IsRegion, AreApart, AreRegionsApart, AreShorter}
 use Rattle.region_allocator.specs.Neighbors.{found_at, IsFound, FitsFirst, IsLast, IsFirst, AreNeighbors}
 use Rattle.region_allocator.proofs.Apart.{IsOrApart, all_regions, added_apart, changed_apart, cut_apart, apart_from, starts_rise, lowest_fits, parts_apart}
 
@@ -73,7 +67,7 @@ beside_put : {B : Type 0} (new : Objects Region) (z : SumTable ℕ ℕ B) {r : R
 beside_put new z {r} p is told others q = everywhere (IsBeside new z) p q (λ t there. let same : r ≡ t = cc (is, there) in told ∙ ap (λ (x : Region). x.length) same) (others q)
 
 -- the regions are those that the tree has
-pub each_are : {A : Type 0} {objects : Objects Region} {w : TreeLinkOps A} {root : Option Place} {values : List Region} → HasEach start_of w root objects values → shown_regions objects w root ≡ values
+pub each_are : {A : Type 0} {objects : Objects Region} {w : TreeLinkOps A} {root : Option Place} {values : List Region} → HasEach start_of w root objects values → represented_regions objects w root ≡ values
 each_are {objects = objects} {w} each = ap (values_at objects) (plain_members w each.sorted.shown) ∙ each.sorted.stand.are
 
 module _ {A B : Type 0} where
@@ -84,41 +78,41 @@ module _ {A B : Type 0} where
     starts = [];
     by_start = each_none (λ p. (pooled_first wide has_link no_words refl w {objects = objects} no_starts vacant).vacant p (vacant p)) none vacant;
     beside = λ p r there. absurd (cc (vacant p, there));
-    consistent = λ s shown q member but x fresh. absurd (omega (arith, member, ap (times_in q) (no_root (subst (λ (top : Option Place). PlainShows w top s) none shown))));
+    consistent = λ s shown q member but x fresh. absurd (omega (arith, member, ap (times_in q) (no_root (subst (λ (top : Option Place). PlainRepresents w top s) none shown))));
     apart = tt;
   }
 
   module _ {objects : Objects Region} {w : TreeLinkOps A} {root : Option Place} {z : SumTable ℕ ℕ B} (k : Keeps objects w root z) where
-    pub shown_apart : StandApart (shown_regions objects w root)
-    shown_apart = subst StandApart (sym (each_are k.by_start)) k.apart
+    pub represented_apart : AreRegionsApart (represented_regions objects w root)
+    represented_apart = subst AreRegionsApart (sym (each_are k.by_start)) k.apart
 
     -- there is none exactly where the tree has no root
-    pub has_no_root : (root ≡ None) ↔ (shown_regions objects w root ≡ [])
+    pub has_no_root : (root ≡ None) ↔ (represented_regions objects w root ≡ [])
     has_no_root =
         let e = k.by_start.sorted in
-        let none : root ≡ None → e.members ≡ [] = λ none. no_root (subst (λ (top : Option Place). PlainShows w top e.members) none e.shown) in
-        let empty : shown_regions objects w root ≡ [] → e.members ≡ [] = λ empty. nobody objects e.members e.stand.placed (e.stand.are ∙ sym (each_are k.by_start) ∙ empty) in
-        (λ h. each_are k.by_start ∙ sym e.stand.are ∙ ap (values_at objects) (none h), λ h. no_members (subst (PlainShows w root) (empty h) e.shown))
+        let none : root ≡ None → e.members ≡ [] = λ none. no_root (subst (λ (top : Option Place). PlainRepresents w top e.members) none e.shown) in
+        let empty : represented_regions objects w root ≡ [] → e.members ≡ [] = λ empty. nobody objects e.members e.stand.placed (e.stand.are ∙ sym (each_are k.by_start) ∙ empty) in
+        (λ h. each_are k.by_start ∙ sym e.stand.are ∙ ap (values_at objects) (none h), λ h. no_members (subst (PlainRepresents w root) (empty h) e.shown))
 
     -- each greatest length of its members is right or stale
-    pub members_consistent : ShowsConsistent node_of (greatest z) (plain_table w) root k.by_start.sorted.members
+    pub members_consistent : RepresentsConsistent node_of (greatest z) (plain_table w) root k.by_start.sorted.members
     members_consistent = (k.by_start.sorted.shown, k.consistent k.by_start.sorted.members k.by_start.sorted.shown)
 
     module _ (p : Place) {out : Region} (there : object_at objects p ≡ Some out) where
-      pub start_member : HasMember (PlainShows w root) p
-      start_member = let m = each_member k.by_start p there in record { front = m.0; back = m.1; shown = subst (PlainShows w root) m.2 k.by_start.sorted.shown }
+      pub start_member : HasMember (PlainRepresents w root) p
+      start_member = let m = each_member k.by_start p there in record { front = m.0; back = m.1; shown = subst (PlainRepresents w root) m.2 k.by_start.sorted.shown }
 
       -- what holds of each region holds of the one there
-      pub at_region : (P : Region → Type 0) → AllByRecursion P (shown_regions objects w root) → P out
+      pub at_region : (P : Region → Type 0) → AllByRecursion P (represented_regions objects w root) → P out
       at_region P all = at_each k.by_start p there P (subst (AllByRecursion P) (each_are k.by_start) all)
 
       pub is_region : IsRegion out
-      is_region = at_region IsRegion (all_regions (shown_regions objects w root) shown_apart)
+      is_region = at_region IsRegion (all_regions (represented_regions objects w root) represented_apart)
 
       -- each other one is apart from it
-      pub others_apart : AllByRecursion (IsOrApart out) (shown_regions objects w root)
+      pub others_apart : AllByRecursion (IsOrApart out) (represented_regions objects w root)
       others_apart = let m = each_member k.by_start p there in let is = each_are k.by_start ∙ each_value k.by_start p there m.0 m.1 m.2 in
-          subst (AllByRecursion (IsOrApart out)) (sym is) (apart_from (values_at objects m.0) out (values_at objects m.1) (subst StandApart is shown_apart))
+          subst (AllByRecursion (IsOrApart out)) (sym is) (apart_from (values_at objects m.0) out (values_at objects m.1) (subst AreRegionsApart is represented_apart))
 
       -- there is room for its length
       pub has_room : index_of p < room_of z
@@ -129,16 +123,16 @@ module _ {A B : Type 0} where
 
     -- WHERE THE LINKS STAY, the regions do, and it is kept with the same numbers
     module _ (w' : TreeLinkOps A) (stays : (q : Place) → (plain_table w').entry q ≡ (plain_table w).entry q) where
-      pub same_regions : shown_regions objects w' root ≡ shown_regions objects w root
+      pub same_regions : represented_regions objects w' root ≡ represented_regions objects w root
       same_regions = each_are (each_covered k.by_start w' stays) ∙ sym (each_are k.by_start)
 
       kept_same : (z' : SumTable ℕ ℕ B) → ((q : Place) (r : Region) → object_at objects q ≡ Some r → number_at z' q ≡ number_at z q)
-          → ((s : List Place) → ShowsConsistent node_of (greatest z) (plain_table w) root s → IsConsistent node_of (plain_table w') (greatest z') s) → Keeps objects w' root z'
+          → ((s : List Place) → RepresentsConsistent node_of (greatest z) (plain_table w) root s → IsConsistent node_of (plain_table w') (greatest z') s) → Keeps objects w' root z'
       kept_same z' numbers still = record {
         starts = k.starts;
         by_start = each_covered k.by_start w' stays;
         beside = λ q r there. numbers q r there ∙ k.beside q r there;
-        consistent = λ s shown. let before = kept_shown plain_trees (λ q. sym (stays q)) shown in still s (before, k.consistent s before);
+        consistent = λ s shown. let before = kept_represented plain_trees (λ q. sym (stays q)) shown in still s (before, k.consistent s before);
         apart = k.apart;
       }
 
@@ -159,37 +153,37 @@ module _ {A B : Type 0} where
 
     -- AFTER `refresh`
     pub kept_fresh : (w' : TreeLinkOps A) → w' ≡ w → (z' : SumTable ℕ ℕ B) → (greatest z').join ≡ (greatest z).join
-        → ((s : List Place) → ShowsConsistent node_of (greatest z) (plain_table w) root s → ShowsConsistent node_of (greatest z') (plain_table w') root s) → Keeps objects w' root z'
+        → ((s : List Place) → RepresentsConsistent node_of (greatest z) (plain_table w) root s → RepresentsConsistent node_of (greatest z') (plain_table w') root s) → Keeps objects w' root z'
     kept_fresh w' same z' joins still = kept_same w' (same_entries w' same) z' (λ q r there. numbers_stay z z' joins q) (λ s h. (still s h).1)
 
     -- ONE REGION MORE, whose length stands beside its place already
     pub put_in : {more : Objects Region} {p : Place} {r : Region} {before : List Region} (w' : TreeLinkOps A) (root' : Option Place) (z' : SumTable ℕ ℕ B) → Places objects more p r → number_at z p ≡ r.length
         → (greatest z').join ≡ (greatest z).join
-        → ((s : List Place) → ShowsConsistent node_of (greatest z) (plain_table w) root s
-        → InsertsInOrder (ShowsConsistent node_of (greatest z')) (compared (own_order nat_cmp start_of more p) more) (plain_table w) (plain_table w') root' s p)
-        → LinksAlso is_linked (plain_table w) (plain_table w') p → IsRegion r → shown_regions objects w root ≡ before → AllByRecursion (AreApart r) before
-        → Keeps more w' root' z' × Adds r before (shown_regions more w' root')
+        → ((s : List Place) → RepresentsConsistent node_of (greatest z) (plain_table w) root s
+        → InsertsInOrder (RepresentsConsistent node_of (greatest z')) (compared (own_order nat_cmp start_of more p) more) (plain_table w) (plain_table w') root' s p)
+        → LinksAlso is_linked (plain_table w) (plain_table w') p → IsRegion r → represented_regions objects w root ≡ before → AllByRecursion (AreApart r) before
+        → Keeps more w' root' z' × Adds r before (represented_regions more w' root')
     put_in {more} {p} {r} w' root' z' places told same put also is seen apart =
-        let a = each_new k.by_start {v = w'} {top = root'} places (λ s shown. inserts_shown node_of (put s (shown, k.consistent s shown))) also in
+        let a = each_new k.by_start {v = w'} {top = root'} places (λ s shown. inserts_represented node_of (put s (shown, k.consistent s shown))) also in
         let was = sym seen ∙ each_are k.by_start ∙ a.1.was in
         let low = front_is_least start_of a.1.front r a.1.back (subst (λ (l : List Region). IsSorted nat_cmp (map start_of l)) a.1.is a.1.sorted) in
-        let stand = added_apart a.1.front a.1.back r is (subst StandApart a.1.was k.apart) (subst (AllByRecursion (AreApart r)) was apart)
+        let stand = added_apart a.1.front a.1.back r is (subst AreRegionsApart a.1.was k.apart) (subst (AllByRecursion (AreApart r)) was apart)
         (all_map (λ x low. omega (arith, low, is.some)) a.1.front low) (all_map (λ x less. let behind : r.start < x.start = grind (arith, nat_tests, less) in omega (arith, behind)) a.1.back a.1.greater) in (
           record {
             starts = a.0;
             by_start = a.2;
             beside = beside_put more z' p (placed_there places) (numbers_stay z z' same p ∙ told) (λ q n t there. numbers_stay z z' same q ∙ k.beside q t (sym (others_placed places q n) ∙ there));
             consistent = λ s shown. consistent_in node_of s (put k.by_start.sorted.members members_consistent).inserted.shows shown;
-            apart = subst StandApart (sym a.1.is) stand;
+            apart = subst AreRegionsApart (sym a.1.is) stand;
           },
           record { front = a.1.front; back = a.1.back; was = was; is = each_are a.2 ∙ a.1.is },
         )
 
     -- ONE REGION LESS, off the tree
     pub take_out : {new : Objects Region} (p : Place) (w' : TreeLinkOps A) (root' : Option Place) (z' : SumTable ℕ ℕ B) → (greatest z').join ≡ (greatest z).join
-        → ((front back : List Place) → ShowsConsistent node_of (greatest z) (plain_table w) root (front ++ p ∷ back) → ShowsConsistent node_of (greatest z') (plain_table w') root' (front ++ back))
+        → ((front back : List Place) → RepresentsConsistent node_of (greatest z) (plain_table w) root (front ++ p ∷ back) → RepresentsConsistent node_of (greatest z') (plain_table w') root' (front ++ back))
         → Unlinks is_linked (plain_table w) (plain_table w') p → Frees objects new p → (out : Region) → object_at objects p ≡ Some out
-        → Keeps new w' root' z' × Adds out (shown_regions new w' root') (shown_regions objects w root)
+        → Keeps new w' root' z' × Adds out (represented_regions new w' root') (represented_regions objects w root)
     take_out {new} p w' root' z' same removed off frees out there =
         let m = each_member k.by_start p there in
         let a = each_taken k.by_start p there {v = w'} {top = root'} (λ front back shown. (removed front back (shown, k.consistent (front ++ p ∷ back) shown)).0) off frees in (
@@ -197,8 +191,8 @@ module _ {A B : Type 0} where
             starts = a.0 ++ a.1;
             by_start = a.3;
             beside = λ q t at. numbers_stay z z' same q ∙ k.beside q t (sym (others_left frees q (λ e. absurd (cc (gone_there frees, ap (object_at new) e, at)))) ∙ at);
-            consistent = λ s shown. consistent_in node_of s (removed m.0 m.1 (subst (ShowsConsistent node_of (greatest z) (plain_table w) root) m.2 members_consistent)) shown;
-            apart = (cut_apart a.0 out a.1 (subst StandApart a.2 k.apart)).3;
+            consistent = λ s shown. consistent_in node_of s (removed m.0 m.1 (subst (RepresentsConsistent node_of (greatest z) (plain_table w) root) m.2 members_consistent)) shown;
+            apart = (cut_apart a.0 out a.1 (subst AreRegionsApart a.2 k.apart)).3;
           },
           record { front = a.0; back = a.1; was = each_are a.3; is = each_are k.by_start ∙ a.2 },
         )
@@ -206,20 +200,20 @@ module _ {A B : Type 0} where
     -- ANOTHER REGION in its place, and its length beside that: it stays where it is by its start
     pub resize : {r : Region} (p : Place) (w' : TreeLinkOps A) → w' ≡ w → (z' : SumTable ℕ ℕ B) → number_at z' p ≡ r.length → ((q : Place) → q ≢ p → number_at z' q ≡ number_at z q)
         → ((s : List Place) → IsConsistent node_of (plain_table w) (greatest z) s → IsConsistent node_of (plain_table w') (greatest z') s)
-        → ((out : Region) → object_at objects p ≡ Some out → FitsFor out r (shown_regions objects w root)) → (out : Region) → object_at objects p ≡ Some out
-        → Keeps (with_object objects p r) w' root z' × Changes out r (shown_regions objects w root) (shown_regions (with_object objects p r) w' root)
+        → ((out : Region) → object_at objects p ≡ Some out → FitsFor out r (represented_regions objects w root)) → (out : Region) → object_at objects p ≡ Some out
+        → Keeps (with_object objects p r) w' root z' × Changes out r (represented_regions objects w root) (represented_regions (with_object objects p r) w' root)
     resize {r} p w' links z' told others still fits out there =
         let puts = puts_other objects p r in
         let stays = same_entries w' links in
         let a = each_changed (each_covered k.by_start w' stays) p there (put_there puts) (put_others puts) in
         let same = each_are k.by_start ∙ a.2 in
-        let apart = changed_apart a.0 out a.1 (subst StandApart a.2 k.apart) (subst (FitsFor out r) same (fits out there)) in
+        let apart = changed_apart a.0 out a.1 (subst AreRegionsApart a.2 k.apart) (subst (FitsFor out r) same (fits out there)) in
         let each = a.3 (starts_rise (a.0 ++ r ∷ a.1) apart) in (
           record {
             starts = a.0 ++ r ∷ a.1;
             by_start = each;
             beside = beside_put (with_object objects p r) z' p (put_there puts) told (λ q n t at. others q n ∙ k.beside q t (sym (put_others puts q n) ∙ at));
-            consistent = λ s shown. still s (k.consistent s (kept_shown plain_trees (λ q. sym (stays q)) shown));
+            consistent = λ s shown. still s (k.consistent s (kept_represented plain_trees (λ q. sym (stays q)) shown));
             apart = apart;
           },
           record { front = a.0; back = a.1; was = same; is = each_are each },
@@ -258,18 +252,18 @@ module _ {A B : Type 0} {objects : Objects Region} {w : TreeLinkOps A} {root : O
       by false [] fails all = subst (λ (l : List Region). AreShorter l n) (sym is) (short fails, all)
       by false (p ∷ l) fails c = (here.0 ∷ c.0, c.1, c.2, is ∙ ap (λ (l : List Region). here.0 ∷ l) c.3, (short fails, c.4), c.5, c.6)
 
-    pub first_found : {o : Option Place} {s : List Place} → PlainShows w root s → o ≡ first (filter test s) → FitsFirst objects (shown_regions objects w root) n (found_at objects o)
+    pub first_found : {o : Option Place} {s : List Place} → PlainRepresents w root s → o ≡ first (filter test s) → FitsFirst objects (represented_regions objects w root) n (found_at objects o)
     first_found {o} {s} shown e =
         let is = e ∙ ap (λ (l : List Place). first (filter test l)) (one_sequence shown k.by_start.sorted.shown) in
         by o (subst (IsCutAt k.by_start.sorted.members) (sym is) (cut_first k.by_start.sorted.members k.by_start.sorted.stand.placed))
       where
-        members_are : shown_regions objects w root ≡ values_at objects k.by_start.sorted.members
+        members_are : represented_regions objects w root ≡ values_at objects k.by_start.sorted.members
         members_are = each_are k.by_start ∙ sym k.by_start.sorted.stand.are
 
-        by : (o : Option Place) → IsCutAt k.by_start.sorted.members o → FitsFirst objects (shown_regions objects w root) n (found_at objects o)
+        by : (o : Option Place) → IsCutAt k.by_start.sorted.members o → FitsFirst objects (represented_regions objects w root) n (found_at objects o)
         by None all = rw members_are all
         by (Some p) c =
-            let apart = subst StandApart (members_are ∙ c.3) (shown_apart k) in
+            let apart = subst AreRegionsApart (members_are ∙ c.3) (represented_apart k) in
             rw (c.5, members_are ∙ c.3) (
               found_is p c.5,
               c.6,
@@ -281,11 +275,11 @@ module _ {A B : Type 0} {objects : Objects Region} {w : TreeLinkOps A} {root : O
     placed : ArePlaced objects (gap.front ++ gap.back)
     placed = subst (ArePlaced objects) (sym same) k.by_start.sorted.stand.placed
 
-    cut_is : shown_regions objects w root ≡ values_at objects gap.front ++ values_at objects gap.back
+    cut_is : represented_regions objects w root ≡ values_at objects gap.front ++ values_at objects gap.back
     cut_is = each_are k.by_start ∙ sym k.by_start.sorted.stand.are ∙ ap (values_at objects) (sym same) ∙ filter_map-append (object_at objects) gap.front gap.back
 
-    apart : StandApart (values_at objects gap.front) × StandApart (values_at objects gap.back)
-    apart = parts_apart (values_at objects gap.front) (values_at objects gap.back) (subst StandApart cut_is (shown_apart k))
+    apart : AreRegionsApart (values_at objects gap.front) × AreRegionsApart (values_at objects gap.back)
+    apart = parts_apart (values_at objects gap.front) (values_at objects gap.back) (subst AreRegionsApart cut_is (represented_apart k))
 
     front_parts : (o : Option Place) → last gap.front ≡ o → IsLast objects (values_at objects gap.front) (found_at objects o) × AllByRecursion (λ (x : Region). x.start ≤ n) (values_at objects gap.front)
     front_parts None at = rw (ap (values_at objects) (nothing_last gap.front (sym at))) (refl, tt)
@@ -296,7 +290,7 @@ module _ {A B : Type 0} {objects : Objects Region} {w : TreeLinkOps A} {root : O
         ∙ ap (λ (o : Option Region). rest ++ cons_option o []) here.1 in
         let fails = sym (ap (λ (o : Option Region). is_ge (answer_at (order_of nat_cmp start_of n) o)) here.1) ∙ not-false _ (border.fails p at) in
         let first : here.0.start ≤ n = grind (arith, nat_tests, fails) in
-        let below = all_map (λ x below. omega (arith, below, first)) rest (cut_apart rest here.0 [] (subst StandApart is apart.0)).0 in
+        let below = all_map (λ x below. omega (arith, below, first)) rest (cut_apart rest here.0 [] (subst AreRegionsApart is apart.0)).0 in
         rw (here.1, is) ((found_is p here.1, (rest, refl)), all_both (λ (x : Region). x.start ≤ n) rest (here.0 ∷ []) below (first, tt))
 
     back_parts : (s : List Place) → gap.back ≡ s → IsFirst objects (values_at objects gap.back) (found_at objects (first s)) × AllByRecursion (λ (x : Region). n < x.start) (values_at objects gap.back)
@@ -306,9 +300,9 @@ module _ {A B : Type 0} {objects : Objects Region} {w : TreeLinkOps A} {root : O
         let is : values_at objects gap.back ≡ here.0 ∷ values_at objects s = ap (values_at objects) at ∙ ap (λ (o : Option Region). cons_option o (values_at objects s)) here.1 in
         let passes = sym (ap (λ (o : Option Region). is_ge (answer_at (order_of nat_cmp start_of n) o)) here.1) ∙ not-true _ (border.passes p (ap first at)) in
         let first : n < here.0.start = grind (arith, nat_tests, passes) in
-        rw (here.1, is) ((found_is p here.1, (values_at objects s, refl)), (first, all_map (λ x above. omega (arith, above, first)) (values_at objects s) (subst StandApart is apart.1).1))
+        rw (here.1, is) ((found_is p here.1, (values_at objects s, refl)), (first, all_map (λ x above. omega (arith, above, first)) (values_at objects s) (subst AreRegionsApart is apart.1).1))
 
-    pub neighbors_are : {below above : Option Place} → below ≡ last gap.front → above ≡ first gap.back → AreNeighbors objects (shown_regions objects w root) n (found_at objects below) (found_at objects above)
+    pub neighbors_are : {below above : Option Place} → below ≡ last gap.front → above ≡ first gap.back → AreNeighbors objects (represented_regions objects w root) n (found_at objects below) (found_at objects above)
     neighbors_are under over =
         let f = front_parts (last gap.front) refl in
         let b = back_parts gap.back refl in

@@ -1,10 +1,8 @@
 -- What an allocator keeps of its objects, their links, the lengths beside these and its tree.
 use Rattle.std.specs.Prelude.{◌≡◌, ℕ, ◌^◌, leb, Option, Some, List}
-use Rattle.ic_unsafe_ref.specs.declared.place.Place.{Place}
-use Rattle.ic_unsafe_ref.specs.Objects.{Objects, object_at}
-use Rattle.ic_link_ops.specs.PlacedObjects.{values_at}
+use Rattle.ic_link_ops.specs.Prelude.{Place, Objects, object_at, values_at}
 use Rattle.ic_link_ops.specs.ThreeWords.{node_of}
-use Rattle.ic_rbtree.specs.PlainTrees.{TreeLinkOps, PlainShows, plain_table, members_of}
+use Rattle.ic_rbtree.specs.PlainTrees.{TreeLinkOps, PlainRepresents, plain_table, members_of}
 use Rattle.ic_rbtree.specs.Tree.{root_of}
 use Rattle.ic_rbtree.specs.EachObject.{HasEach}
 use Rattle.ic_augmented.specs.Consistent.{IsConsistent}
@@ -13,7 +11,7 @@ use Rattle.ic_augmented.specs.Summed.{links_of, sums_of}
 use Rattle.ic_augmented.specs.declared.sum_table.SumTable.{SumTable}
 use Rattle.region_allocator.specs.declared.region.Region.{Region}
 use Rattle.region_allocator.specs.declared.free_regions.FreeRegions.{FreeRegions}
-use Rattle.region_allocator.specs.Regions.{Space, space_of, StandApart}
+use Rattle.region_allocator.specs.Regions.{Space, space_of, AreRegionsApart}
 
 -- where a region starts
 abbrev pub start_of : Region → ℕ
@@ -25,12 +23,12 @@ pub record Keeps {A B : Type 0} (objects : Objects Region) (links : TreeLinkOps 
   pub starts : List Region
   pub by_start : HasEach start_of links root objects starts
   pub beside : (p : Place) (region : Region) → object_at objects p ≡ Some region → number_at lengths p ≡ region.length
-  pub consistent : (s : List Place) → PlainShows links root s → IsConsistent node_of (plain_table links) (greatest lengths) s
-  pub apart : StandApart starts
+  pub consistent : (s : List Place) → PlainRepresents links root s → IsConsistent node_of (plain_table links) (greatest lengths) s
+  pub apart : AreRegionsApart starts
 
 -- the regions in the order of their addresses, as the tree has them
-abbrev pub shown_regions : {A : Type 0} → Objects Region → TreeLinkOps A → Option Place → List Region
-shown_regions objects links root = values_at objects (members_of links root)
+abbrev pub represented_regions : {A : Type 0} → Objects Region → TreeLinkOps A → Option Place → List Region
+represented_regions objects links root = values_at objects (members_of links root)
 
 module _ {A : Type 0} (regions : FreeRegions A) where
   -- the same of the free regions
@@ -38,7 +36,7 @@ module _ {A : Type 0} (regions : FreeRegions A) where
   IsKept = Keeps regions.pool.objects (links_of regions.pool.links) (root_of regions.by_start) (sums_of regions.pool.links)
 
   abbrev pub regions_of : List Region
-  regions_of = shown_regions regions.pool.objects (links_of regions.pool.links) (root_of regions.by_start)
+  regions_of = represented_regions regions.pool.objects (links_of regions.pool.links) (root_of regions.by_start)
 
-  abbrev pub shown_space : Space
-  shown_space = space_of regions_of (leb (2 ^ 32) regions.pool.objects.next)
+  abbrev pub represented_space : Space
+  represented_space = space_of regions_of (leb (2 ^ 32) regions.pool.objects.next)

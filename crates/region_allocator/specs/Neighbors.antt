@@ -1,8 +1,7 @@
 -- The free regions that are found by a descent.
 use Rattle.std.specs.Prelude.{◌≡◌, ◌≢◌, ℕ, ◌<◌, ◌≤◌, ◌⊎◌, Option, None, Some, Result, Ok, Err, List, [], ◌∷◌, ◌++◌}
 use Rattle.std.specs.List.{AllByRecursion}
-use Rattle.ic_unsafe_ref.specs.declared.place.Place.{Place}
-use Rattle.ic_unsafe_ref.specs.Objects.{Objects, object_at}
+use Rattle.ic_link_ops.specs.Prelude.{Place, Objects, object_at}
 use Rattle.region_allocator.specs.declared.region.Region.{Region}
 use Rattle.region_allocator.specs.declared.neighbors.Found.{Found}
 use Rattle.region_allocator.specs.declared.free_error.FreeError.{FreeError}
@@ -63,7 +62,7 @@ module _ (objects : Objects Region) where
     pub front_is : IsEnding regions region.start front
     pub back_is : IsStarting regions (end_of region) back
 
--- what is in front of an address, as far as that goes: it ends there, or before, or it is refused
+-- what is before an address, as far as that goes: it ends there, or before, or it is refused
 abbrev pub EndsBy : Option Found → ℕ → Result (Option Found) FreeError → Type 0
 EndsBy below start (Ok (Some found)) = (below ≡ Some found) × (end_of found.region ≡ start)
 EndsBy None start (Ok None) = Unit {0}
@@ -71,7 +70,7 @@ EndsBy (Some found) start (Ok None) = end_of found.region < start
 EndsBy None start (Err error) = ⊥
 EndsBy (Some found) start (Err error) = (error ≡ Overlaps) × start < end_of found.region
 
--- and what is behind
+-- and what is after
 abbrev pub StartsFrom : Option Found → ℕ → Result (Option Found) FreeError → Type 0
 StartsFrom above end (Ok (Some found)) = (above ≡ Some found) × (found.region.start ≡ end)
 StartsFrom None end (Ok None) = Unit {0}

@@ -10,7 +10,7 @@ use Rattle.region_allocator.specs.Regions.{Space, end_of, Has, IsFree, IsRegion,
 abbrev pub IsNew : Region → Space → Type 0
 IsNew region space = IsRegion region × AllByRecursion (AreApart region) space.regions
 
--- EACH REFUSAL HAS ITS OWN REASON, and no two reasons hold at once: the region has no address; it ends behind `u64::MAX`; an address
+-- EACH REFUSAL HAS ITS OWN REASON, and no two reasons hold at once: the region has no address; it ends after `u64::MAX`; an address
 -- of it is free; it is a new one, and no place is left; it is a new one, and a place is left
 abbrev pub IsRefused : Region → Space → FreeError → Type 0
 IsRefused region space Empty = region.length ≡ 0

@@ -7,7 +7,7 @@ use Rattle.region_allocator.specs.declared.region.Region.{Region}
 abbrev pub region_of : ℕ → ℕ → Region
 region_of start length = record { start = start; length = length }
 
--- the first address behind a region
+-- the first address after a region
 abbrev pub end_of : Region → ℕ
 end_of region = region.start + region.length
 
@@ -30,9 +30,9 @@ abbrev pub AreApart : Region → Region → Type 0
 AreApart region other = (end_of region < other.start) ⊎ (end_of other < region.start)
 
 -- REGIONS STAND APART: they are regions, and rise by their addresses, with one between two that is not free
-abbrev pub StandApart : List Region → Type 0
-StandApart [] = Unit {0}
-StandApart (region ∷ regions) = IsRegion region × AllByRecursion (λ later. end_of region < later.start) regions × StandApart regions
+abbrev pub AreRegionsApart : List Region → Type 0
+AreRegionsApart [] = Unit {0}
+AreRegionsApart (region ∷ regions) = IsRegion region × AllByRecursion (λ later. end_of region < later.start) regions × AreRegionsApart regions
 
 -- WHAT A CLAUSE SEES of an allocator: its free regions, in the order of their addresses, and whether no place is left for another one
 pub record Space : Type 0 where
@@ -61,7 +61,7 @@ AreShorter regions length = AllByRecursion (λ region. region.length < length) r
 abbrev pub FitsAt : List Region → ℕ → ℕ → Type 0
 FitsAt regions length address = (a : ℕ) → Has (region_of address length) a → IsFree regions a
 
--- THE FIRST FIT: the region is the start of one that was free, and all in front of that were shorter. So nothing fits at a lower address
+-- THE FIRST FIT: the region is the start of one that was free, and all before that were shorter. So nothing fits at a lower address
 pub record IsFirstFit (region : Region) (old : List Region) : Type 0 where
   pub front : List Region
   pub whole : Region

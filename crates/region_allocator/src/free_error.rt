@@ -9,7 +9,7 @@
 pub enum FreeError {
     /// There is no address to be freed.
     Empty,
-    /// They end behind the address `u64::MAX`.
+    /// They end after the address `u64::MAX`.
     TooLong,
     /// One of them is free.
     Overlaps,

@@ -2,13 +2,12 @@
 
 ghost use Rattle.std.specs.Prelude.{◌≡◌, ◌≢◌, ◌≤◌, ◌+◌, ℕ, true, Option, Some, OnOk, IfOk, IsErr, IfErr};
 ghost use Rattle.std.specs.List.{AllByRecursion};
-ghost use Rattle.ic_unsafe_ref.specs.declared.place.Place.{Place};
-ghost use Rattle.ic_unsafe_ref.specs.Objects.{object_at, is_placed};
+ghost use Rattle.ic_link_ops.specs.Prelude.{Place, object_at, is_placed};
 ghost use Rattle.region_allocator.specs.declared.neighbors.Found.{Found};
 ghost use Rattle.region_allocator.specs.declared.region.Region.{Region};
 ghost use Rattle.region_allocator.specs.Regions.{region_of, IsRegion, AreApart, FreesRegion, AllocatesRegion};
 ghost use Rattle.region_allocator.specs.Refusals.{IsNew, IsRefused};
-ghost use Rattle.region_allocator.specs.Kept.{regions_of, shown_space, IsKept};
+ghost use Rattle.region_allocator.specs.Kept.{regions_of, represented_space, IsKept};
 ghost use Rattle.region_allocator.specs.Changes.{Adds, Changes, FitsFor};
 ghost use Rattle.region_allocator.specs.Neighbors.{IsFound, FitsFirst, AreNeighbors, Touches};
 
@@ -60,7 +59,7 @@ impl<A: Allocator> FreeRegions<A> {
         )
     }
 
-    // The regions that touch this one, in front and behind. It is refused where one has an address of it.
+    // The regions that touch this one, before and after. It is refused where one has an address of it.
     pub(crate) fn touching(
         &self,
         region: Region,
@@ -68,7 +67,7 @@ impl<A: Allocator> FreeRegions<A> {
         requires kept { IsKept self.now }
         requires region { IsRegion region }
         ensures touched { IfOk result (λ found. Touches self.now.pool.objects (regions_of self.now) region found.0 found.1) }
-        ensures refused { IfErr result (IsRefused region (shown_space self.now)) }
+        ensures refused { IfErr result (IsRefused region (represented_space self.now)) }
     {
         let (below, above) = self.neighbors(region.start);
         let front = match ending_at(below, region.start) {
@@ -85,7 +84,7 @@ impl<A: Allocator> FreeRegions<A> {
     pub(crate) fn first_fit(&mut self, length: u64) -> Option<Found>
         requires kept { IsKept self.old }
         ensures kept { IsKept self.new }
-        ensures same { shown_space self.new ≡ shown_space self.old }
+        ensures same { represented_space self.new ≡ represented_space self.old }
         ensures first { FitsFirst self.new.pool.objects (regions_of self.new) length result }
     {
         refresh(&self.by_start, &mut self.pool.links);
@@ -102,9 +101,9 @@ impl<A: Allocator> FreeRegions<A> {
         requires apart { AllByRecursion (AreApart region) (regions_of self.old) }
         ensures kept { IsKept self.new }
         ensures put { OnOk result (Adds region (regions_of self.old) (regions_of self.new)) }
-        ensures full { (shown_space self.old).is_full ≡ true → IsErr result }
-        ensures refused { IfErr result (λ error. (shown_space self.new ≡ shown_space self.old)
-            × IsRefused region (shown_space self.old) error) }
+        ensures full { (represented_space self.old).is_full ≡ true → IsErr result }
+        ensures refused { IfErr result (λ error. (represented_space self.new ≡ represented_space self.old)
+            × IsRefused region (represented_space self.old) error) }
     {
         let object = match self.pool.place(region) {
             Ok(object) => object,
@@ -150,9 +149,9 @@ impl<A: Allocator> FreeRegions<A> {
         requires region { IsRegion region }
         ensures kept { IsKept self.new }
         ensures freed { OnOk result (FreesRegion region (regions_of self.old) (regions_of self.new)) }
-        ensures full { (shown_space self.old).is_full ≡ true → IsNew region (shown_space self.old) → IsErr result }
-        ensures refused { IfErr result (λ error. (shown_space self.new ≡ shown_space self.old)
-            × IsRefused region (shown_space self.old) error) }
+        ensures full { (represented_space self.old).is_full ≡ true → IsNew region (represented_space self.old) → IsErr result }
+        ensures refused { IfErr result (λ error. (represented_space self.new ≡ represented_space self.old)
+            × IsRefused region (represented_space self.old) error) }
     {
         let (front, back) = match self.touching(region) {
             Ok(found) => found,

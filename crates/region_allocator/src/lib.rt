@@ -4,7 +4,7 @@
 //! let mut space = RegionAllocator::new(rt.alloc());
 //! space.free(0, 100)?; // the addresses 0 to 99 are free
 //! let block = space.allocate(30); // Some(0): the addresses 0 to 29
-//! space.free(0, 30)?; // free again, and one region with those behind
+//! space.free(0, 30)?; // free again, and one region with those after
 //! ```
 //!
 //! Each free region is one object with a link in one tree, by its start. There its neighbors are found, and, since the tree keeps the

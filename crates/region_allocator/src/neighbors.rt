@@ -28,7 +28,7 @@ pub(crate) fn look_up<A: Allocator>(
     Some(Found { object, region })
 }
 
-// The region in front of an address, if it ends there. It is refused where it ends behind it.
+// The region before an address, if it ends there. It is refused where it ends after it.
 pub(crate) fn ending_at(below: Option<Found>, start: u64) -> Result<Option<Found>, FreeError>
     requires fits { IfSome below (λ found. end_of found.region < 2 ^ 64) }
     ensures { EndsBy below start result }
@@ -46,7 +46,7 @@ pub(crate) fn ending_at(below: Option<Found>, start: u64) -> Result<Option<Found
     Ok(Some(found))
 }
 
-// The region behind an address, if it starts there. It is refused where it starts in front of it.
+// The region after an address, if it starts there. It is refused where it starts before it.
 pub(crate) fn starting_at(above: Option<Found>, end: u64) -> Result<Option<Found>, FreeError>
     ensures { StartsFrom above end result }
 {

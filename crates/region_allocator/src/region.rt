@@ -13,7 +13,7 @@ pub struct Region {
 }
 
 impl Region {
-    // The first address behind it.
+    // The first address after it.
     #[inline]
     pub(crate) fn end(&self) -> u64
         requires fits { end_of self.now < 2 ^ 64 }

@@ -30,17 +30,17 @@ pub struct RegionAllocator<A: Allocator = Global> {
 
 impl<A: Allocator> Model for RegionAllocator<A> {
     ghost use Rattle.region_allocator.specs.Regions.{Space};
-    ghost use Rattle.region_allocator.specs.Kept.{shown_space, IsKept};
+    ghost use Rattle.region_allocator.specs.Kept.{represented_space, IsKept};
 
     ghost Value = { Space };
 
-    ghost view = { λ s. shown_space s.regions };
+    ghost view = { λ s. represented_space s.regions };
 
     ghost invariant = { λ s. IsKept s.regions };
 }
 
 impl<A: Allocator> RegionAllocator<A> {
-    ghost use Rattle.region_allocator.specs.Regions.{region_of, IsFree, StandApart, FreesRegion, AllocatesRegion, IsFirstFit, AreShorter};
+    ghost use Rattle.region_allocator.specs.Regions.{region_of, IsFree, AreRegionsApart, FreesRegion, AllocatesRegion, IsFirstFit, AreShorter};
     ghost use Rattle.region_allocator.specs.Refusals.{IsNew, IsRefused};
 
     /// An allocator with no free address. It takes no memory.
@@ -65,14 +65,14 @@ impl<A: Allocator> RegionAllocator<A> {
     /// Frees `length` addresses from `start` on. They are one region then with the free ones that touch them. O(log n).
     ///
     /// Where it is refused, nothing has changed: with `Empty` exactly if there is no address, else with `TooLong` exactly if they end
-    /// behind `u64::MAX`, and else with `Overlaps` exactly if one of them is free. Only a region that no free one touches needs a place
+    /// after `u64::MAX`, and else with `Overlaps` exactly if one of them is free. Only a region that no free one touches needs a place
     /// and memory, in at most three requests: it is refused with `TooManyRegions` exactly if no place is left, of 4,294,967,296, and
     /// else with `OutOfMemory`.
     pub fn free(&mut self, start: u64, length: u64) -> Result<(), FreeError>
         ensures freed { OnOk result (FreesRegion (region_of start length) self.old.regions self.new.regions) }
         ensures refused { IfErr result (λ error. (self.new ≡ self.old) × IsRefused (region_of start length) self.old error) }
         ensures full { self.old.is_full ≡ true → IsNew (region_of start length) self.old → IsErr result }
-        ensures apart { OnOk result (StandApart self.new.regions) }
+        ensures apart { OnOk result (AreRegionsApart self.new.regions) }
     {
         if length == 0 {
             return Err(FreeError::Empty);
@@ -83,7 +83,7 @@ impl<A: Allocator> RegionAllocator<A> {
         self.regions.add(Region { start, length })
     }
 
-    /// Allocates `length` addresses in a row, and returns the first one. No lower address has as many free ones behind it: it is the start of
+    /// Allocates `length` addresses in a row, and returns the first one. No lower address has as many free ones after it: it is the start of
     /// the first free region that is long enough. It takes no memory.
     ///
     /// `None` says that all regions are shorter, and no address has changed then. Of no length, it takes nothing: the answer is where the first
@@ -92,7 +92,7 @@ impl<A: Allocator> RegionAllocator<A> {
         ensures allocated { IfSome result (λ start. AllocatesRegion (region_of start length) self.old.regions self.new.regions) }
         ensures first_fit { IfSome result (λ start. IsFirstFit (region_of start length) self.old.regions) }
         ensures none { IfNone result ((self.new ≡ self.old) × AreShorter self.old.regions length) }
-        ensures apart { OnSome result (StandApart self.new.regions) }
+        ensures apart { OnSome result (AreRegionsApart self.new.regions) }
     {
         let found = self.regions.first_fit(length)?;
         let start = found.region.start;

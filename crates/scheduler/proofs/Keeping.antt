@@ -6,17 +6,13 @@ use Rattle.std.proofs.lemmas.Bool.Decides.{nat_tests}
 use Rattle.std.proofs.lemmas.Cmp.{nat_cmp_total}
 use Rattle.std.specs.List.{AllByRecursion}
 use Rattle.std.specs.Ordering.{nat_cmp}
-use Rattle.ic_unsafe_ref.specs.declared.place.Place.{Place}
-use Rattle.ic_unsafe_ref.specs.Objects.{Objects, Places, Frees, object_at, is_placed}
+use Rattle.ic_link_ops.specs.Prelude.{Place, Objects, Places, Frees, object_at, is_placed, at_front, first, IsAbsent, IsMember, IsDisjoint, IsLinked, IsUnlinked, ChangesOnlyIn, LinksAlso, Unlinks, values_at}
 use Rattle.ic_unsafe_ref.proofs.Placing.{others_placed, gone_there, others_left}
 use Rattle.ic_link_ops.specs.Chains.{Ends, no_members}
 use Rattle.ic_link_ops.specs.NumberedCollections.{with_at}
-use Rattle.ic_link_ops.specs.PlacedObjects.{values_at}
-use Rattle.ic_link_ops.specs.Sequences.{at_front, first, IsAbsent, IsMember, IsDisjoint}
 use Rattle.ic_link_ops.specs.Edits.{Removes}
-use Rattle.ic_link_ops.specs.Tables.{IsLinked, IsUnlinked, KeepsBeside, LinksAlso, Unlinks}
 use Rattle.ic_link_ops.proofs.Calling.{accepted}
-use Rattle.ic_link_ops.proofs.CollectionLaws.{new_shows_nothing, kept_shown}
+use Rattle.ic_link_ops.proofs.CollectionLaws.{new_represents_nothing, kept_represented}
 use Rattle.ic_link_ops.proofs.Covering.{still_covered}
 use Rattle.ic_link_ops.proofs.LinkedSets.{everywhere}
 use Rattle.ic_link_ops.proofs.NumberedCollections.{at_number, at_others, numbered_none, numbered_covered, numbered_beside, numbered_pushed, numbered_first, numbered_own, numbered_taken, numbered_apart, numbered_free}
@@ -28,7 +24,7 @@ use Rattle.ic_container.proofs.HoldsLemmas.{list_off}
 use Rattle.ic_container.proofs.TreeLemmas.{tree_off}
 use Rattle.ic_rbtree.specs.Borders.{IsSorted, if_passes}
 use Rattle.ic_rbtree.specs.Ordered.{InsertsInOrder}
-use Rattle.ic_rbtree.specs.SortedObjects.{against, key_at, ShowsSorted}
+use Rattle.ic_rbtree.specs.SortedObjects.{against, key_at, RepresentsSorted}
 use Rattle.ic_rbtree.specs.SortedValues.{HasSorted}
 use Rattle.ic_rbtree.proofs.Passing.{passed}
 use Rattle.ic_rbtree.proofs.PlainTrees.{plain_members, plain_trees}
@@ -51,7 +47,7 @@ some_left next full = grind (arith, full.1)
 
 -- TASKS IN ORDER are as a call of the tree asks
 pub sorted_values : {V A : Type 0} {objects : Objects (Task V)} (w : trees.TreeLinkOps A) {root : Option Place} {tasks : List (Task V)}
-    → HasSorted nat_cmp deadline_of trees.ShowsTree trees.is_linked (trees.plain_table w) root objects tasks → ShowsSorted deadline_of (trees.PlainShows w root) objects
+    → HasSorted nat_cmp deadline_of trees.RepresentsTree trees.is_linked (trees.plain_table w) root objects tasks → RepresentsSorted deadline_of (trees.PlainRepresents w root) objects
 sorted_values {objects = objects} w has =
     let sorted = keys_are deadline_of objects has.members has.stand.placed ∙ ap (map deadline_of) has.stand.are in
     record { placed = record { members = has.members; shown = has.shown; placed = has.stand.placed }; sorted = subst (IsSorted nat_cmp) (sym sorted) has.sorted }
@@ -64,7 +60,7 @@ module _ {V A B : Type 0} where
 
     listed_is : {X : Type 0} (of : List Place → List X) → of [] ≡ [] → (i : ℕ) → slice_index_or (map (λ list. of (lists.members_of q list)) ends) i [] ≡ of (k.numbered.members i)
     listed_is of none i =
-        let nothing = ap of (doubly.plain_members q (new_shows_nothing doubly.plain_lists (lists.plain_table q))) ∙ none in
+        let nothing = ap of (doubly.plain_members q (new_represents_nothing doubly.plain_lists (lists.plain_table q))) ∙ none in
         ap (λ d. slice_index_or (map (λ list. of (lists.members_of q list)) ends) i d) (sym nothing) ∙ get_or-map (λ list. of (lists.members_of q list)) ends i no_members
         ∙ ap of (doubly.plain_members q (k.numbered.each i).shown)
 
@@ -104,11 +100,11 @@ module _ {V A B : Type 0} where
     queue_empty i none = queue_is k i ∙ sym (k.numbered.each i).stand.are ∙ ap (values_at objects) (nothing_first (k.numbered.members i) none)
 
     -- the first of the tree, where it is due
-    pub first_due : (now : ℕ) {p : Place} → ((s : List Place) → trees.PlainShows w root s → Some p ≡ if_passes (timers.is_due deadline_of objects now) (first s)) → (Some p ≡ first k.sorted.members) × (timers.is_due deadline_of objects now p ≡ true)
+    pub first_due : (now : ℕ) {p : Place} → ((s : List Place) → trees.PlainRepresents w root s → Some p ≡ if_passes (timers.is_due deadline_of objects now) (first s)) → (Some p ≡ first k.sorted.members) × (timers.is_due deadline_of objects now p ≡ true)
     first_due now {p} due = passed (timers.is_due deadline_of objects now) (first k.sorted.members) p (due k.sorted.members k.sorted.shown)
 
     -- where it is not, none is
-    pub nothing_due : (now : ℕ) → ((s : List Place) → trees.PlainShows w root s → AllByRecursion (λ p. now < key_at deadline_of objects p) s)
+    pub nothing_due : (now : ℕ) → ((s : List Place) → trees.PlainRepresents w root s → AllByRecursion (λ p. now < key_at deadline_of objects p) s)
         → AllByRecursion (λ (x : Task V). is_due now x ≡ false) (schedule_of objects w root q ends).waiting
     nothing_due now wait =
         subst (AllByRecursion (λ (x : Task V). is_due now x ≡ false)) (k.sorted.stand.are ∙ sym (waiting_is k)) (values_wait deadline_of objects now k.sorted.members (wait _ k.sorted.shown))
@@ -131,9 +127,9 @@ module _ {V A B : Type 0} where
         waiting = waiting_is kept_grown ∙ sym (waiting_is k);
         queues = λ i. queue_is kept_grown i ∙ sym (queue_is k i);
         is_full = refl;
-        waiting_at = plain_members v (kept_shown plain_trees grows_w.entries k.sorted.shown) ∙ sym (waiting_at_is k);
+        waiting_at = plain_members v (kept_represented plain_trees grows_w.entries k.sorted.shown) ∙ sym (waiting_at_is k);
         queued_at = λ i. places_are kept_grown i ∙ sym (doubly.plain_members r (kept_grown.numbered.each i).shown)
-            ∙ doubly.plain_members r (kept_shown doubly.plain_lists grows_q.entries (k.numbered.each i).shown) ∙ sym (places_are k i);
+            ∙ doubly.plain_members r (kept_represented doubly.plain_lists grows_q.entries (k.numbered.each i).shown) ∙ sym (places_are k i);
       }
 
       -- AND OF A NEW TASK
@@ -142,14 +138,14 @@ module _ {V A B : Type 0} where
         pub new_unlinked : IsUnlinked trees.is_linked (trees.plain_table v) p
         new_unlinked = (unlinked_vacant kept_grown.once p places.vacant).0
 
-        pub ready : ShowsSorted deadline_of (trees.PlainShows v root) new
+        pub ready : RepresentsSorted deadline_of (trees.PlainRepresents v root) new
         ready = sorted_values v (has_beside plain_trees nat_cmp_total kept_grown.sorted {new = new} new_unlinked (others_placed places))
 
         -- THE TASK WAITS, once it is scheduled
         module _ (u : trees.TreeLinkOps A) (top : Option Place) (room : HasRoom r p) {X : Type 0} (answer : Result Unit X)
-            (scheduled : (s : List Place) → trees.PlainShows v root s → OnOk answer (InsertsInOrder trees.ShowsTree (against deadline_of new p) (trees.plain_table v) (trees.plain_table u) top s p))
+            (scheduled : (s : List Place) → trees.PlainRepresents v root s → OnOk answer (InsertsInOrder trees.RepresentsTree (against deadline_of new p) (trees.plain_table v) (trees.plain_table u) top s p))
             (acquired : OnOk answer (LinksAlso trees.is_linked (trees.plain_table v) (trees.plain_table u) p)) (refused : OnErr answer (IsLinked trees.is_linked (trees.plain_table v) p × (u ≡ v))) where
-          put : (s : List Place) → trees.PlainShows v root s → InsertsInOrder trees.ShowsTree (against deadline_of new p) (trees.plain_table v) (trees.plain_table u) top s p
+          put : (s : List Place) → trees.PlainRepresents v root s → InsertsInOrder trees.RepresentsTree (against deadline_of new p) (trees.plain_table v) (trees.plain_table u) top s p
           put s shown = accepted _ answer new_unlinked refused (scheduled s shown)
 
           also : LinksAlso trees.is_linked (trees.plain_table v) (trees.plain_table u) p
@@ -176,9 +172,9 @@ module _ {V A B : Type 0} where
 
     -- THE FIRST OF THE TREE goes to the back of its queue
     module _ {p : Place} {task : Task V} (is : Some p ≡ first k.sorted.members) (there : object_at objects p ≡ Some task) (v : trees.TreeLinkOps A) (top : Option Place) (r : lists.DoublyLinkOps B) (after : List Ends)
-        (off : Removes trees.ShowsTree (trees.plain_table w) (trees.plain_table v) top (at_front k.sorted.members)) (gone : Unlinks trees.is_linked (trees.plain_table w) (trees.plain_table v) p)
-        (pushed : (s : List Place) → lists.PlainShows q (list_at ends task.queue) s → lists.PlainShows r (list_at after task.queue) (s ++ p ∷ [])) (others : (i : ℕ) → i ≢ task.queue → list_at after i ≡ list_at ends i)
-        (also : LinksAlso lists.is_linked (lists.plain_table q) (lists.plain_table r) p) (frame : (s : List Place) → lists.PlainShows q (list_at ends task.queue) s → KeepsBeside (lists.plain_table q) (lists.plain_table r) (p ∷ s)) where
+        (off : Removes trees.RepresentsTree (trees.plain_table w) (trees.plain_table v) top (at_front k.sorted.members)) (gone : Unlinks trees.is_linked (trees.plain_table w) (trees.plain_table v) p)
+        (pushed : (s : List Place) → lists.PlainRepresents q (list_at ends task.queue) s → lists.PlainRepresents r (list_at after task.queue) (s ++ p ∷ [])) (others : (i : ℕ) → i ≢ task.queue → list_at after i ≡ list_at ends i)
+        (also : LinksAlso lists.is_linked (lists.plain_table q) (lists.plain_table r) p) (frame : (s : List Place) → lists.PlainRepresents q (list_at ends task.queue) s → ChangesOnlyIn (lists.plain_table q) (lists.plain_table r) (p ∷ s)) where
       pub kept_moved : IsKept objects v top r after
       kept_moved = record {
         waiting = drop 1 k.waiting;
@@ -203,8 +199,8 @@ module _ {V A B : Type 0} where
 
     -- THE FRONT OF A QUEUE is taken out
     module _ {i : ℕ} {p : Place} {found : Task V} (is : Some p ≡ first (k.numbered.members i)) (there : object_at objects p ≡ Some found) (new : Objects (Task V)) (r : lists.DoublyLinkOps B) (after : List Ends)
-        (popped : (s : List Place) → lists.PlainShows q (list_at ends i) s → lists.PlainShows r (list_at after i) (drop 1 s)) (others : (j : ℕ) → j ≢ i → list_at after j ≡ list_at ends j)
-        (gone : Unlinks lists.is_linked (lists.plain_table q) (lists.plain_table r) p) (frame : (s : List Place) → lists.PlainShows q (list_at ends i) s → KeepsBeside (lists.plain_table q) (lists.plain_table r) s)
+        (popped : (s : List Place) → lists.PlainRepresents q (list_at ends i) s → lists.PlainRepresents r (list_at after i) (drop 1 s)) (others : (j : ℕ) → j ≢ i → list_at after j ≡ list_at ends j)
+        (gone : Unlinks lists.is_linked (lists.plain_table q) (lists.plain_table r) p) (frame : (s : List Place) → lists.PlainRepresents q (list_at ends i) s → ChangesOnlyIn (lists.plain_table q) (lists.plain_table r) s)
         (frees : Frees objects new p) where
       pub kept_taken : IsKept new w root r after
       kept_taken = record {

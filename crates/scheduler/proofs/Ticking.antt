@@ -18,7 +18,7 @@ filter_swap test other [] = refl
 filter_swap test other (x ∷ s) = let rest = filter_swap test other s in grind (arith, nat_tests)
 
 module _ {V : Type 0} where
-  -- ONE MORE, in front of exactly those that are later
+  -- ONE MORE, before exactly those that are later
   pub by_deadline_with : {old new w : List (Task V)} {task : Task V} → InsertsValue nat_cmp deadline_of old task new → IsByDeadline old w → IsByDeadline new (w ++ task ∷ [])
   by_deadline_with {old} {new} {w} {task} put stands = record { rises = put.sorted; alike = alike } where
     alike : (d : ℕ) → filter (has_deadline d) new ≡ filter (has_deadline d) (w ++ task ∷ [])

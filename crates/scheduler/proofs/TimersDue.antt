@@ -3,28 +3,22 @@ use Rattle.std.proofs.Common.{◌≡◌, ℕ, ◌≤◌, ◌<◌, Bool, false, O
 use Rattle.std.proofs.lemmas.Bool.Decides.{nat_tests}
 use Rattle.std.specs.List.{AllByRecursion}
 use Rattle.std.specs.Ordering.{nat_cmp}
-use Rattle.ic_unsafe_ref.specs.declared.place.Place.{Place}
-use Rattle.ic_unsafe_ref.specs.Objects.{Objects}
-use Rattle.ic_link_ops.specs.PlacedObjects.{ArePlaced, values_at}
-use Rattle.ic_link_ops.specs.Positions.{object_there, Site, ShowsAt}
-use Rattle.ic_link_ops.specs.Sequences.{first, at_front, IsAbsent}
+use Rattle.ic_link_ops.specs.Prelude.{Place, Objects, first, at_front, IsAbsent, Table, ChangesOnlyIn, IsCovered, object_there, CursorState, RepresentsAt, ArePlaced, values_at, LinkStep, releases, releases_each}
 use Rattle.ic_link_ops.proofs.Each.{all_map, all_both}
 use Rattle.ic_link_ops.proofs.SequenceLemmas.{some_same, absent_right, first_is}
 use Rattle.ic_rbtree.specs.Borders.{IsSorted, if_passes}
 use Rattle.ic_rbtree.specs.SortedObjects.{key_at, keys_at}
-use Rattle.scheduler.specs.Timers.{due, is_due, StandsFirst}
+use Rattle.scheduler.specs.Timers.{due, is_due, ComesFirst}
 use Rattle.ic_rbtree.proofs.Passing.{passed}
 use Rattle.ic_rbtree.proofs.SortedKeys.{first_is_least}
 use Rattle.ic_link_ops.specs.EditsAt.{RemovesThere}
-use Rattle.ic_link_ops.specs.LinkSteps.{LinkStep, releases, releases_each}
-use Rattle.ic_link_ops.specs.RedBlackTree.{Node, Shows}
-use Rattle.ic_link_ops.specs.Tables.{Table, KeepsBeside, IsCovered}
-use Rattle.ic_link_ops.proofs.ShownTrees.{one_sequence}
+use Rattle.ic_link_ops.specs.RedBlackTree.{Node, Represents}
+use Rattle.ic_link_ops.proofs.RepresentedTrees.{one_sequence}
 use Rattle.ic_link_ops.specs.Edits.{Removes}
 use Rattle.ic_link_ops.proofs.Covering.{frames_join}
 use Rattle.ic_link_ops.proofs.StepLemmas.{releases_append}
 use Rattle.ic_rbtree.specs.Members.{members}
-use Rattle.ic_rbtree.proofs.Members.{members_shown}
+use Rattle.ic_rbtree.proofs.Members.{members_represented}
 
 module _ {T : Type 0} (deadline : T → ℕ) (objects : Objects T) where
   -- it has the least deadline
@@ -49,29 +43,29 @@ module _ {T : Type 0} (deadline : T → ℕ) (objects : Objects T) where
   values_wait now [] wait = tt
   values_wait now (p ∷ s) wait = let rest = values_wait now s wait.1 in grind (arith, nat_tests, wait.0)
 
-module _ {L E : Type 0} {n : E → Node} {table : L → Table E} {Does : L → L → List LinkStep → Type 0} {old new : Site L (Option Place)} {s : List Place} where
+module _ {L E : Type 0} {n : E → Node} {table : L → Table E} {Trace : L → L → List LinkStep → Type 0} {old new : CursorState L (Option Place)} {s : List Place} where
   -- the position is on the one that is first then
-  pub first_again : ShowsAt (Shows n) table old s → old.position ≡ first s → (o : Option Place) → RemovesThere (Shows n) table Does old o new
-      → (u : List Place) → ShowsAt (Shows n) table new u → new.position ≡ first u
+  pub first_again : RepresentsAt (Represents n) table old s → old.position ≡ first s → (o : Option Place) → RemovesThere (Represents n) table Trace old o new
+      → (u : List Place) → RepresentsAt (Represents n) table new u → new.position ≡ first u
   first_again shown is None off u here =
-      ap (λ (z : Site L (Option Place)). z.position) off.null ∙ is ∙ ap first (one_sequence shown (subst (λ (z : Site L (Option Place)). ShowsAt (Shows n) table z u) off.null here))
+      ap (λ (z : CursorState L (Option Place)). z.position) off.null ∙ is ∙ ap first (one_sequence shown (subst (λ (z : CursorState L (Option Place)). RepresentsAt (Represents n) table z u) off.null here))
   first_again shown is (Some p) off u here =
       off.moved (at_front s) shown is ∙ ap first (one_sequence (off.removed (at_front s) shown is).shows here)
 
-module _ {T L E : Type 0} (deadline : T → ℕ) (n : E → Node) (table : L → Table E) (Does : L → L → List LinkStep → Type 0) (objects : Objects T) (now : ℕ) where
-  -- SOME THAT ARE DUE were taken off the front of s, which `start` showed, and stand behind `items` now; the rest is shown
+module _ {T L E : Type 0} (deadline : T → ℕ) (n : E → Node) (table : L → Table E) (Trace : L → L → List LinkStep → Type 0) (objects : Objects T) (now : ℕ) where
+  -- SOME THAT ARE DUE were taken off the front of s, which `start` showed, and stand after `items` now; the rest is represented
   pub record Takes (start : L) (s items : List Place) (links : L) (root : Option Place) (held : List Place) : Type 0 where
     pub taken : List Place
     pub rest : List Place
-    pub stood : StandsFirst deadline objects now taken rest s
+    pub stood : ComesFirst deadline objects now taken rest s
     pub held_is : held ≡ items ++ taken
-    pub shown : Shows n (table links) root rest
-    pub steps : Does start links (releases_each taken)
-    pub frame : KeepsBeside (table start) (table links) s
+    pub shown : Represents n (table links) root rest
+    pub steps : Trace start links (releases_each taken)
+    pub frame : ChangesOnlyIn (table start) (table links) s
 
-module _ {T L E : Type 0} {deadline : T → ℕ} {n : E → Node} {table : L → Table E} {Does : L → L → List LinkStep → Type 0} {objects : Objects T} {now : ℕ} {start : L} {s items : List Place} where
+module _ {T L E : Type 0} {deadline : T → ℕ} {n : E → Node} {table : L → Table E} {Trace : L → L → List LinkStep → Type 0} {objects : Objects T} {now : ℕ} {start : L} {s items : List Place} where
   -- at first none were taken,
-  pub takes_none : {root : Option Place} → Does start start [] → Shows n (table start) root s → Takes deadline n table Does objects now start s items start root items
+  pub takes_none : {root : Option Place} → Trace start start [] → Represents n (table start) root s → Takes deadline n table Trace objects now start s items start root items
   takes_none nothing shown = record {
     taken = [];
     rest = s;
@@ -82,14 +76,14 @@ module _ {T L E : Type 0} {deadline : T → ℕ} {n : E → Node} {table : L →
     frame = record { extent = refl; others = λ q out. refl };
   }
 
-  module _ {links : L} {root : Option Place} {held : List Place} (k : Takes deadline n table Does objects now start s items links root held) {p : Place} (is : Some p ≡ if_passes (is_due deadline objects now) (first k.rest)) where
+  module _ {links : L} {root : Option Place} {held : List Place} (k : Takes deadline n table Trace objects now start s items links root held) {p : Place} (is : Some p ≡ if_passes (is_due deadline objects now) (first k.rest)) where
     -- the first of the rest is due,
     pub next_due : k.rest ≡ p ∷ drop 1 k.rest
     next_due = first_is k.rest (passed (is_due deadline objects now) (first k.rest) p is).0
 
     -- and is taken too
-    pub takes_one : ((a b c : L) (u v : List LinkStep) → Does a b u → Does b c v → Does a c (u ++ v)) → {new : L} {new_root : Option Place} {new_held : List Place}
-        → new_held ≡ held ++ p ∷ [] → Removes (Shows n) (table links) (table new) new_root (at_front k.rest) → Does links new (releases p ∷ []) → Takes deadline n table Does objects now start s items new new_root new_held
+    pub takes_one : ((a b c : L) (u v : List LinkStep) → Trace a b u → Trace b c v → Trace a c (u ++ v)) → {new : L} {new_root : Option Place} {new_held : List Place}
+        → new_held ≡ held ++ p ∷ [] → Removes (Represents n) (table links) (table new) new_root (at_front k.rest) → Trace links new (releases p ∷ []) → Takes deadline n table Trace objects now start s items new new_root new_held
     takes_one on {new} held_is removes step =
         let due = (passed (is_due deadline objects now) (first k.rest) p is).1 in
         let here : key_at deadline objects p ≤ now = grind (arith, nat_tests, due) in
@@ -102,14 +96,14 @@ module _ {T L E : Type 0} {deadline : T → ℕ} {n : E → Node} {table : L →
           };
           held_is = held_is ∙ ap (λ (x : List Place). x ++ p ∷ []) k.held_is ∙ append_assoc items k.taken (p ∷ []);
           shown = removes.shows;
-          steps = subst (Does start new) (sym (releases_append k.taken (p ∷ []))) (on start links new _ _ k.steps step);
+          steps = subst (Trace start new) (sym (releases_append k.taken (p ∷ []))) (on start links new _ _ k.steps step);
           frame = frames_join k.frame removes.frame (λ q out. absent_right q k.taken k.rest (subst (IsAbsent q) (sym k.stood.same) out));
         }
 
     -- so that fewer are left
     pub fewer : ((l : L) (q : Place) → (n ((table l).entry q)).linked ≡ true → IsCovered (table l) q) → {new : L} {new_root : Option Place}
-        → Removes (Shows n) (table links) (table new) new_root (at_front k.rest) → length (members n (table new) new_root) < length (members n (table links) root)
+        → Removes (Represents n) (table links) (table new) new_root (at_front k.rest) → length (members n (table new) new_root) < length (members n (table links) root)
     fewer covered {new} {new_root} removes =
-        let after = members_shown (table new) (covered new) new_root (drop 1 k.rest) removes.shows in
-        let before = members_shown (table links) (covered links) root k.rest k.shown in
+        let after = members_represented (table new) (covered new) new_root (drop 1 k.rest) removes.shows in
+        let before = members_represented (table links) (covered links) root k.rest k.shown in
         omega (arith, ap length after, ap length before, ap length next_due)

@@ -1,14 +1,10 @@
 -- What a scheduler keeps of its objects, its two tables, its tree and its lists.
 use Rattle.std.specs.Prelude.{◌≡◌, ℕ, ◌^◌, ◌<◌, true, leb, Option, List, map, slice_index_or}
 use Rattle.std.specs.Ordering.{nat_cmp}
-use Rattle.ic_unsafe_ref.specs.declared.place.Place.{Place}
-use Rattle.ic_unsafe_ref.specs.Places.{index_of}
-use Rattle.ic_unsafe_ref.specs.Objects.{Objects, is_placed}
+use Rattle.ic_link_ops.specs.Prelude.{Place, index_of, Objects, is_placed, IsCovered, values_at}
 use Rattle.ic_link_ops.specs.Chains.{Ends, no_members}
 use Rattle.ic_link_ops.specs.DoublyEntries as lists
 use Rattle.ic_link_ops.specs.NumberedCollections.{HasNumbered}
-use Rattle.ic_link_ops.specs.PlacedObjects.{values_at}
-use Rattle.ic_link_ops.specs.Tables.{IsCovered}
 use Rattle.ic_link_ops.specs.TwoFields.{IsLinkedOnce}
 use Rattle.ic_rbtree.specs.PlainTrees as trees
 use Rattle.ic_rbtree.specs.SortedValues.{HasSorted}
@@ -32,7 +28,7 @@ abbrev pub HasRoom : {B : Type 0} → lists.DoublyLinkOps B → Place → Type 0
 HasRoom links p = IsCovered (lists.plain_table links) p × index_of p < 2 ^ 32
 
 module _ {V A B : Type 0} (objects : Objects (Task V)) (deadline_links : trees.TreeLinkOps A) (root : Option Place) (queue_links : lists.DoublyLinkOps B) (queues : List Ends) where
-  -- the tasks in the tree and those in each list, and their places, as the tables show them
+  -- the tasks in the tree and those in each list, and their places, as the tables represent them
   abbrev pub schedule_of : Schedule V
   schedule_of = record {
     waiting = values_at objects (trees.members_of deadline_links root);
@@ -48,7 +44,7 @@ module _ {V A B : Type 0} (objects : Objects (Task V)) (deadline_links : trees.T
   pub record IsKept : Type 0 where
     pub waiting : List (Task V)
     pub queued : ℕ → List (Task V)
-    pub sorted : HasSorted nat_cmp deadline_of trees.ShowsTree trees.is_linked (trees.plain_table deadline_links) root objects waiting
-    pub numbered : HasNumbered lists.ShowsList lists.is_linked queue_of (lists.plain_table queue_links) (list_at queues) objects queued
+    pub sorted : HasSorted nat_cmp deadline_of trees.RepresentsTree trees.is_linked (trees.plain_table deadline_links) root objects waiting
+    pub numbered : HasNumbered lists.RepresentsList lists.is_linked queue_of (lists.plain_table queue_links) (list_at queues) objects queued
     pub once : IsLinkedOnce trees.is_linked lists.is_linked objects (trees.plain_table deadline_links) (lists.plain_table queue_links)
     pub room : (p : Place) → is_placed objects p ≡ true → HasRoom queue_links p

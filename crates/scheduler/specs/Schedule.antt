@@ -1,8 +1,7 @@
 -- Schedules: tasks that wait for their deadlines, and queues of tasks that were due.
 use Rattle.std.specs.Prelude.{◌≡◌, ◌≢◌, ℕ, Bool, true, false, not, eqb, leb, List, [], ◌∷◌, ◌++◌, length, map, filter, slice_index_or}
 use Rattle.std.specs.Ordering.{nat_cmp}
-use Rattle.ic_unsafe_ref.specs.declared.place.Place.{Place}
-use Rattle.ic_link_ops.specs.Sequences.{IsDistinct, IsDisjoint}
+use Rattle.ic_link_ops.specs.Prelude.{Place, IsDistinct, IsDisjoint}
 use Rattle.ic_rbtree.specs.Borders.{IsSorted}
 use Rattle.scheduler.specs.declared.task.Task.{Task}
 
@@ -55,8 +54,8 @@ module _ {V : Type 0} where
     pub alike : (d : ℕ) → filter (has_deadline d) tasks ≡ filter (has_deadline d) w
 
   -- THE SCHEDULE STANDS FOR w, the tasks that wait in the order in which they were added
-  abbrev pub StandsFor : Schedule V → List (Task V) → Type 0
-  StandsFor schedule w = IsByDeadline schedule.waiting w
+  abbrev pub IsScheduleOf : Schedule V → List (Task V) → Type 0
+  IsScheduleOf schedule w = IsByDeadline schedule.waiting w
 
   -- NOTHING WAITS, and each queue is empty
   pub record IsEmpty (schedule : Schedule V) : Type 0 where
@@ -72,17 +71,17 @@ module _ {V : Type 0} where
     pub waiting_at : new.waiting_at ≡ old.waiting_at
     pub queued_at : (q : ℕ) → places_at new q ≡ places_at old q
 
-  -- THE TASK IS ADDED: it waits behind all that were added before
+  -- THE TASK IS ADDED: it waits after all that were added before
   pub record Adds (task : Task V) (old new : Schedule V) : Type 0 where
-    pub waits : (w : List (Task V)) → StandsFor old w → StandsFor new (w ++ task ∷ [])
+    pub waits : (w : List (Task V)) → IsScheduleOf old w → IsScheduleOf new (w ++ task ∷ [])
     pub queues : (q : ℕ) → queue_at new q ≡ queue_at old q
 
   -- THE TICK at `now`: those of w that are due, by deadline, equal ones as in w, go to the backs of their queues. The others wait
   -- still, in their order
   pub record Ticks (now : ℕ) (old new : Schedule V) (moved : ℕ) : Type 0 where
     pub due : List (Task V)
-    pub in_order : (w : List (Task V)) → StandsFor old w → IsByDeadline due (filter (is_due now) w)
-    pub others : (w : List (Task V)) → StandsFor old w → StandsFor new (filter (λ task. not (is_due now task)) w)
+    pub in_order : (w : List (Task V)) → IsScheduleOf old w → IsByDeadline due (filter (is_due now) w)
+    pub others : (w : List (Task V)) → IsScheduleOf old w → IsScheduleOf new (filter (λ task. not (is_due now task)) w)
     pub queues : (q : ℕ) → queue_at new q ≡ queue_at old q ++ filter (is_for q) due
     pub count : moved ≡ length due
     pub is_full : new.is_full ≡ old.is_full

@@ -2,13 +2,9 @@
 use Rattle.std.specs.Prelude.{◌≡◌, ℕ, ◌≤◌, Bool, false, leb, Option, None, Some, Result, Ok, Err, List, [], ◌∷◌, ◌++◌}
 use Rattle.std.specs.List.{AllByRecursion}
 use Rattle.std.specs.declared.alloc.AllocFailed.{AllocFailed}
-use Rattle.ic_unsafe_ref.specs.declared.place.Place.{Place}
-use Rattle.ic_unsafe_ref.specs.Objects.{Objects, object_at}
-use Rattle.ic_link_ops.specs.Positions.{Site, ShowsAt}
-use Rattle.ic_link_ops.specs.RedBlackTree.{Node, Shows}
-use Rattle.ic_link_ops.specs.Sequences.{first}
-use Rattle.ic_link_ops.specs.Tables.{Table}
-use Rattle.ic_rbtree.specs.SortedObjects.{key_at, ShowsSorted}
+use Rattle.ic_link_ops.specs.Prelude.{Place, Objects, object_at, first, Table, CursorState, RepresentsAt}
+use Rattle.ic_link_ops.specs.RedBlackTree.{Node, Represents}
+use Rattle.ic_rbtree.specs.SortedObjects.{key_at, RepresentsSorted}
 
 module _ {T : Type 0} (deadline : T → ℕ) where
   -- whether a timer is due: there is one, and its deadline is at most `now`
@@ -21,14 +17,14 @@ module _ {T : Type 0} (deadline : T → ℕ) where
   is_due objects now p = due now (object_at objects p)
 
   -- those of `taken` stand first in s, and each of them is due; `rest` are the others
-  pub record StandsFirst (objects : Objects T) (now : ℕ) (taken rest s : List Place) : Type 0 where
+  pub record ComesFirst (objects : Objects T) (now : ℕ) (taken rest s : List Place) : Type 0 where
     pub same : taken ++ rest ≡ s
     pub are_due : AllByRecursion (λ p. key_at deadline objects p ≤ now) taken
 
   -- a position is on the first timer of a queue, null where there is none; the timers are placed, and in the order of their deadlines
-  pub record IsAtFront {L E : Type 0} (n : E → Node) (table : L → Table E) (objects : Objects T) (at : Site L (Option Place)) : Type 0 where
-    pub queue : ShowsSorted deadline (ShowsAt (Shows n) table at) objects
-    pub first_is : (s : List Place) → ShowsAt (Shows n) table at s → at.position ≡ first s
+  pub record IsAtFront {L E : Type 0} (n : E → Node) (table : L → Table E) (objects : Objects T) (at : CursorState L (Option Place)) : Type 0 where
+    pub queue : RepresentsSorted deadline (RepresentsAt (Represents n) table at) objects
+    pub first_is : (s : List Place) → RepresentsAt (Represents n) table at s → at.position ≡ first s
 
 -- what comes back where there was no room for it
 abbrev pub handed_back : {T : Type 0} → Result Unit (AllocFailed T) → List T

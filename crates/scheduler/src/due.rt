@@ -7,10 +7,9 @@
 ghost use Rattle.std.specs.Prelude.{◌≡◌, ◌≤◌, true, false, length, List};
 ghost use Rattle.std.specs.Bool.{OnTrue, OnFalse};
 ghost use Rattle.std.specs.List.{AllByRecursion};
-ghost use Rattle.ic_unsafe_ref.specs.declared.place.Place.{Place};
-ghost use Rattle.ic_link_ops.specs.Sequences.{first};
+ghost use Rattle.ic_link_ops.specs.Prelude.{Place, first};
 ghost use Rattle.ic_rbtree.specs.CursorMut.{tree_of, links_of, position, SameBorrows};
-ghost use Rattle.ic_rbtree.specs.PlainTrees.{PlainShows};
+ghost use Rattle.ic_rbtree.specs.PlainTrees.{PlainRepresents};
 ghost use Rattle.ic_rbtree.specs.Tree.{root_of};
 ghost use Rattle.scheduler.specs.Kept.{schedule_of, IsKept};
 ghost use Rattle.scheduler.specs.Schedule.{IsUnchanged, Ticks, MovesFirst, is_due};
@@ -34,9 +33,9 @@ fn move_first<V, A: Allocator>(
     now: u64,
 ) -> bool
     requires kept { IsKept objects.now (links_of cursor.old) (root_of (tree_of cursor.old)) queue_links.old queues.old }
-    requires front { (s : List Place) → PlainShows (links_of cursor.old) (root_of (tree_of cursor.old)) s → position cursor.old ≡ first s }
+    requires front { (s : List Place) → PlainRepresents (links_of cursor.old) (root_of (tree_of cursor.old)) s → position cursor.old ≡ first s }
     ensures kept { IsKept objects.now (links_of cursor.new) (root_of (tree_of cursor.new)) queue_links.new queues.new }
-    ensures front { (s : List Place) → PlainShows (links_of cursor.new) (root_of (tree_of cursor.new)) s → position cursor.new ≡ first s }
+    ensures front { (s : List Place) → PlainRepresents (links_of cursor.new) (root_of (tree_of cursor.new)) s → position cursor.new ≡ first s }
     ensures few { length (schedule_of objects.now (links_of cursor.old) (root_of (tree_of cursor.old)) queue_links.old queues.old).waiting
         ≤ 8589934591 }
     ensures moved { OnTrue result (MovesFirst now

@@ -1,11 +1,9 @@
 //! The eight queues, lists over one table.
 
 ghost use Rattle.std.specs.Prelude.{◌≡◌, ◌≢◌, ◌++◌, ◌∷◌, [], ℕ, List, IfSome, IfNone};
-ghost use Rattle.ic_unsafe_ref.specs.declared.place.Place.{Place};
+ghost use Rattle.ic_link_ops.specs.Prelude.{Place, first, remove, at_front, IsCovered, IsUnlinked, ChangesOnlyIn, LinksAlso, Unlinks};
 ghost use Rattle.ic_link_ops.specs.Chains.{no_members};
-ghost use Rattle.ic_link_ops.specs.Sequences.{first, remove, at_front};
-ghost use Rattle.ic_link_ops.specs.Tables.{IsCovered, IsUnlinked, KeepsBeside, LinksAlso, Unlinks};
-ghost use Rattle.ic_link_ops.specs.DoublyEntries.{is_linked, plain_table, PlainShows, PlainShowsSome};
+ghost use Rattle.ic_link_ops.specs.DoublyEntries.{is_linked, plain_table, PlainRepresents, PlainRepresentsSome};
 ghost use Rattle.scheduler.specs.Kept.{list_at};
 
 use crate::Queue;
@@ -35,13 +33,13 @@ pub(crate) fn enqueue<V, A: Allocator>(
 )
     requires covered { IsCovered (plain_table links.old) object }
     requires unlinked { IsUnlinked is_linked (plain_table links.old) object }
-    requires shown { PlainShowsSome links.old (list_at queues.old queue) }
-    ensures pushed { (s : List Place) → PlainShows links.old (list_at queues.old queue) s
-        → PlainShows links.new (list_at queues.new queue) (s ++ object ∷ []) }
+    requires shown { PlainRepresentsSome links.old (list_at queues.old queue) }
+    ensures pushed { (s : List Place) → PlainRepresents links.old (list_at queues.old queue) s
+        → PlainRepresents links.new (list_at queues.new queue) (s ++ object ∷ []) }
     ensures others { (q : ℕ) → q ≢ queue → list_at queues.new q ≡ list_at queues.old q }
     ensures linked { LinksAlso is_linked (plain_table links.old) (plain_table links.new) object }
-    ensures frame { (s : List Place) → PlainShows links.old (list_at queues.old queue) s
-        → KeepsBeside (plain_table links.old) (plain_table links.new) (object ∷ s) }
+    ensures frame { (s : List Place) → PlainRepresents links.old (list_at queues.old queue) s
+        → ChangesOnlyIn (plain_table links.old) (plain_table links.new) (object ∷ s) }
 {
     let _ = queues[queue.number()].push_back(links, object); // proved: it is not linked
 }
@@ -52,15 +50,15 @@ pub(crate) fn dequeue<V, A: Allocator>(
     links: &mut LinkOps<A>,
     queue: Queue,
 ) -> Option<UnsafeRef<Task<V>>>
-    requires shown { PlainShowsSome links.old (list_at queues.old queue) }
-    ensures answer { (s : List Place) → PlainShows links.old (list_at queues.old queue) s → result ≡ first s }
-    ensures popped { (s : List Place) → PlainShows links.old (list_at queues.old queue) s
-        → PlainShows links.new (list_at queues.new queue) (remove (at_front s)) }
+    requires shown { PlainRepresentsSome links.old (list_at queues.old queue) }
+    ensures answer { (s : List Place) → PlainRepresents links.old (list_at queues.old queue) s → result ≡ first s }
+    ensures popped { (s : List Place) → PlainRepresents links.old (list_at queues.old queue) s
+        → PlainRepresents links.new (list_at queues.new queue) (remove (at_front s)) }
     ensures others { (q : ℕ) → q ≢ queue → list_at queues.new q ≡ list_at queues.old q }
     ensures released { IfSome result (Unlinks is_linked (plain_table links.old) (plain_table links.new)) }
     ensures none { IfNone result ((queues.new ≡ queues.old) × (links.new ≡ links.old)) }
-    ensures frame { (s : List Place) → PlainShows links.old (list_at queues.old queue) s
-        → KeepsBeside (plain_table links.old) (plain_table links.new) s }
+    ensures frame { (s : List Place) → PlainRepresents links.old (list_at queues.old queue) s
+        → ChangesOnlyIn (plain_table links.old) (plain_table links.new) s }
 {
     queues[queue.number()].pop_front(links)
 }

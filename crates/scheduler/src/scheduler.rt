@@ -37,7 +37,7 @@ impl<V, A: Allocator> Model for Scheduler<V, A> {
 }
 
 impl<V, A: Allocator> Scheduler<V, A> {
-    ghost use Rattle.scheduler.specs.Schedule.{IsEmpty, IsOnceEach, StandsFor, IsUnchanged, Adds, Ticks, TakesFront, queue_at, task_of};
+    ghost use Rattle.scheduler.specs.Schedule.{IsEmpty, IsOnceEach, IsScheduleOf, IsUnchanged, Adds, Ticks, TakesFront, queue_at, task_of};
     ghost use Rattle.scheduler.specs.Refusals.{number_of, refusal_number, value_of};
 
     /// A scheduler with no task. It takes no memory.
@@ -119,7 +119,7 @@ impl<V, A: Allocator> Scheduler<V, A> {
 
     /// Says that the tasks that wait are in order of deadline: so there is a list for which the scheduler stands. It does nothing.
     pub fn stands_for_what_waits(&self)
-        ensures { StandsFor self.now self.now.waiting }
+        ensures { IsScheduleOf self.now self.now.waiting }
     {
         let _ = self.pool.len();
     }

@@ -11,20 +11,15 @@
 ghost use Rattle.std.specs.Prelude.{◌≡◌, ◌++◌, ◌∷◌, [], ◌≤◌, ◌<◌, true, List, OnOk, OnErr, OnSome, IfErr, IfSome, IfNone, vec_len, vec_capacity};
 ghost use Rattle.std.specs.List.{AllByRecursion};
 ghost use Rattle.std.specs.Option.{option_copied};
-ghost use Rattle.ic_unsafe_ref.specs.declared.place.Place.{Place};
-ghost use Rattle.ic_unsafe_ref.specs.Objects.{is_placed};
-ghost use Rattle.ic_link_ops.specs.Sequences.{first, at_front};
-ghost use Rattle.ic_link_ops.specs.Tables.{IsCovered, KeepsBeside};
-ghost use Rattle.ic_link_ops.specs.LinkSteps.{acquires, releases, releases_each};
+ghost use Rattle.ic_link_ops.specs.Prelude.{Place, is_placed, first, at_front, IsCovered, ChangesOnlyIn, HasMember, RepresentsAt, acquires, releases, releases_each};
 ghost use Rattle.ic_link_ops.specs.Edits.{Removes};
-ghost use Rattle.ic_link_ops.specs.Positions.{HasMember, ShowsAt};
-ghost use Rattle.ic_link_ops.specs.RedBlackTree.{Shows};
+ghost use Rattle.ic_link_ops.specs.RedBlackTree.{Represents};
 ghost use Rattle.ic_rbtree.specs.CursorMut.{tree_of, links_of, site_of, SameBorrows};
 ghost use Rattle.ic_rbtree.specs.Tree.{root_of};
 ghost use Rattle.ic_rbtree.specs.Borders.{if_passes};
 ghost use Rattle.ic_rbtree.specs.Ordered.{InsertsInOrder};
-ghost use Rattle.ic_rbtree.specs.SortedObjects.{against, key_at, ShowsSorted, StaysSorted};
-ghost use Rattle.scheduler.specs.Timers.{due, is_due, handed_back, StandsFirst, IsAtFront};
+ghost use Rattle.ic_rbtree.specs.SortedObjects.{against, key_at, RepresentsSorted, StaysSorted};
+ghost use Rattle.scheduler.specs.Timers.{due, is_due, handed_back, ComesFirst, IsAtFront};
 
 mod deadline;
 
@@ -35,7 +30,7 @@ use ic_rbtree::{CursorMut, RBTree};
 use ic_unsafe_ref::{Objects, UnsafeRef};
 use std::alloc::{AllocFailed, Allocator};
 
-/// Puts a timer into the queue, behind all with its deadline or an earlier one, unless its link is refused. O(log n), and it
+/// Puts a timer into the queue, after all with its deadline or an earlier one, unless its link is refused. O(log n), and it
 /// takes no memory.
 ///
 /// It requires that the timer is placed and its place covered, and that the timers in the queue are placed and stand in the order
@@ -48,12 +43,12 @@ pub fn schedule<T: HasDeadline, L: RBTreeOps, B: Allocator>(
 ) -> Result<(), AlreadyLinked<T>>
     requires covered { IsCovered (L.table links.old) timer }
     requires object { is_placed objects.now timer ≡ true }
-    requires queue { ShowsSorted T.deadline (Shows L.node (L.table links.old) (root_of timers.old)) objects.now }
-    ensures queue { ShowsSorted T.deadline (Shows L.node (L.table links.new) (root_of timers.new)) objects.now }
-    ensures scheduled { (s : List Place) → Shows L.node (L.table links.old) (root_of timers.old) s
-        → OnOk result (InsertsInOrder (Shows L.node) (against T.deadline objects.now timer) (L.table links.old) (L.table links.new)
+    requires queue { RepresentsSorted T.deadline (Represents L.node (L.table links.old) (root_of timers.old)) objects.now }
+    ensures queue { RepresentsSorted T.deadline (Represents L.node (L.table links.new) (root_of timers.new)) objects.now }
+    ensures scheduled { (s : List Place) → Represents L.node (L.table links.old) (root_of timers.old) s
+        → OnOk result (InsertsInOrder (Represents L.node) (against T.deadline objects.now timer) (L.table links.old) (L.table links.new)
         (root_of timers.new) s timer) }
-    ensures acquired { OnOk result (L.Does links.old links.new (acquires timer ∷ [])) }
+    ensures acquired { OnOk result (L.Trace links.old links.new (acquires timer ∷ [])) }
     ensures refused { OnErr result (L.Refused links.old links.new timer) }
     ensures unchanged { IfErr result (λ refused. (refused.0 ≡ timer) × (timers.new ≡ timers.old)) }
 {
@@ -81,14 +76,14 @@ pub(crate) fn take_due_at<T: HasDeadline, L: RBTreeOps, B: Allocator>(
 ) -> Option<UnsafeRef<T>>
     requires front { IsAtFront T.deadline L.node L.table objects.now (site_of cursor.old) }
     ensures front { IsAtFront T.deadline L.node L.table objects.now (site_of cursor.new) }
-    ensures due { (s : List Place) → ShowsAt (Shows L.node) L.table (site_of cursor.old) s
+    ensures due { (s : List Place) → RepresentsAt (Represents L.node) L.table (site_of cursor.old) s
         → result ≡ if_passes (is_due T.deadline objects.now now) (first s) }
-    ensures none_due { (s : List Place) → ShowsAt (Shows L.node) L.table (site_of cursor.old) s
+    ensures none_due { (s : List Place) → RepresentsAt (Represents L.node) L.table (site_of cursor.old) s
         → IfNone result (AllByRecursion (λ p. now < key_at T.deadline objects.now p) s) }
-    ensures taken { (s : List Place) → ShowsAt (Shows L.node) L.table (site_of cursor.old) s
-        → OnSome result (Removes (Shows L.node) (L.table (links_of cursor.old)) (L.table (links_of cursor.new))
+    ensures taken { (s : List Place) → RepresentsAt (Represents L.node) L.table (site_of cursor.old) s
+        → OnSome result (Removes (Represents L.node) (L.table (links_of cursor.old)) (L.table (links_of cursor.new))
         (root_of (tree_of cursor.new)) (at_front s)) }
-    ensures released { IfSome result (λ timer. L.Does (links_of cursor.old) (links_of cursor.new) (releases timer ∷ [])) }
+    ensures released { IfSome result (λ timer. L.Trace (links_of cursor.old) (links_of cursor.new) (releases timer ∷ [])) }
     ensures unchanged { IfNone result ((tree_of cursor.new ≡ tree_of cursor.old) × (links_of cursor.new ≡ links_of cursor.old)) }
     ensures borrows { SameBorrows cursor.old cursor.new }
 {
@@ -108,24 +103,24 @@ pub fn take_due<T: HasDeadline, L: RBTreeOps, B: Allocator>(
     objects: &Objects<T, B>,
     now: u64,
 ) -> Option<UnsafeRef<T>>
-    requires queue { ShowsSorted T.deadline (Shows L.node (L.table links.old) (root_of timers.old)) objects.now }
-    ensures queue { ShowsSorted T.deadline (Shows L.node (L.table links.new) (root_of timers.new)) objects.now }
-    ensures due { (s : List Place) → Shows L.node (L.table links.old) (root_of timers.old) s
+    requires queue { RepresentsSorted T.deadline (Represents L.node (L.table links.old) (root_of timers.old)) objects.now }
+    ensures queue { RepresentsSorted T.deadline (Represents L.node (L.table links.new) (root_of timers.new)) objects.now }
+    ensures due { (s : List Place) → Represents L.node (L.table links.old) (root_of timers.old) s
         → result ≡ if_passes (is_due T.deadline objects.now now) (first s) }
-    ensures earliest { (s : List Place) → Shows L.node (L.table links.old) (root_of timers.old) s
+    ensures earliest { (s : List Place) → Represents L.node (L.table links.old) (root_of timers.old) s
         → IfSome result (λ timer. AllByRecursion (λ p. key_at T.deadline objects.now timer ≤ key_at T.deadline objects.now p) s) }
-    ensures none_due { (s : List Place) → Shows L.node (L.table links.old) (root_of timers.old) s
+    ensures none_due { (s : List Place) → Represents L.node (L.table links.old) (root_of timers.old) s
         → IfNone result (AllByRecursion (λ p. now < key_at T.deadline objects.now p) s) }
-    ensures taken { (s : List Place) → Shows L.node (L.table links.old) (root_of timers.old) s
-        → OnSome result (Removes (Shows L.node) (L.table links.old) (L.table links.new) (root_of timers.new) (at_front s)) }
-    ensures released { IfSome result (λ timer. L.Does links.old links.new (releases timer ∷ [])) }
+    ensures taken { (s : List Place) → Represents L.node (L.table links.old) (root_of timers.old) s
+        → OnSome result (Removes (Represents L.node) (L.table links.old) (L.table links.new) (root_of timers.new) (at_front s)) }
+    ensures released { IfSome result (λ timer. L.Trace links.old links.new (releases timer ∷ [])) }
     ensures unchanged { IfNone result ((timers.new ≡ timers.old) × (links.new ≡ links.old)) }
 {
     let mut cursor = timers.front_mut(links);
     take_due_at(&mut cursor, objects, now)
 }
 
-/// Takes all timers off that are due at `now`, the earliest first, and puts them behind those in `due`. O(log n), and O(1) on average for
+/// Takes all timers off that are due at `now`, the earliest first, and puts them after those in `due`. O(log n), and O(1) on average for
 /// each that is taken.
 ///
 /// It requires that the timers in the queue are placed and stand in the order of their deadlines. What was taken is unlinked then,
@@ -138,16 +133,16 @@ pub fn take_all_due<T: HasDeadline, L: RBTreeOps, B: Allocator, C: Allocator>(
     now: u64,
     due: &mut Vec<UnsafeRef<T>, C>,
 ) -> Result<(), AllocFailed<UnsafeRef<T>>>
-    requires queue { ShowsSorted T.deadline (Shows L.node (L.table links.old) (root_of timers.old)) objects.now }
-    ensures queue { ShowsSorted T.deadline (Shows L.node (L.table links.new) (root_of timers.new)) objects.now }
-    ensures taken { (s : List Place) → Shows L.node (L.table links.old) (root_of timers.old) s → (taken rest : List Place)
-        × StandsFirst T.deadline objects.now now taken rest s × (due.new.items ++ handed_back result ≡ due.old.items ++ taken)
-        × Shows L.node (L.table links.new) (root_of timers.new) rest × L.Does links.old links.new (releases_each taken) }
-    ensures none_due { (s : List Place) → Shows L.node (L.table links.new) (root_of timers.new) s
+    requires queue { RepresentsSorted T.deadline (Represents L.node (L.table links.old) (root_of timers.old)) objects.now }
+    ensures queue { RepresentsSorted T.deadline (Represents L.node (L.table links.new) (root_of timers.new)) objects.now }
+    ensures taken { (s : List Place) → Represents L.node (L.table links.old) (root_of timers.old) s → (taken rest : List Place)
+        × ComesFirst T.deadline objects.now now taken rest s × (due.new.items ++ handed_back result ≡ due.old.items ++ taken)
+        × Represents L.node (L.table links.new) (root_of timers.new) rest × L.Trace links.old links.new (releases_each taken) }
+    ensures none_due { (s : List Place) → Represents L.node (L.table links.new) (root_of timers.new) s
         → OnOk result (AllByRecursion (λ p. now < key_at T.deadline objects.now p) s) }
     ensures full { OnErr result (vec_capacity due.old ≤ vec_len due.new) }
-    ensures frame { (s : List Place) → Shows L.node (L.table links.old) (root_of timers.old) s
-        → KeepsBeside (L.table links.old) (L.table links.new) s }
+    ensures frame { (s : List Place) → Represents L.node (L.table links.old) (root_of timers.old) s
+        → ChangesOnlyIn (L.table links.old) (L.table links.new) s }
 {
     let mut cursor = timers.front_mut(links);
     while let Some(timer) = take_due_at(&mut cursor, objects, now) {
@@ -164,15 +159,15 @@ pub fn cancel<T: HasDeadline, L: RBTreeOps>(
     links: &mut L,
     timer: UnsafeRef<T>,
 )
-    requires member { HasMember (Shows L.node (L.table links.old) (root_of timers.old)) timer }
-    ensures queue { StaysSorted T.deadline (Shows L.node (L.table links.old) (root_of timers.old))
-        (Shows L.node (L.table links.new) (root_of timers.new)) }
+    requires member { HasMember (Represents L.node (L.table links.old) (root_of timers.old)) timer }
+    ensures queue { StaysSorted T.deadline (Represents L.node (L.table links.old) (root_of timers.old))
+        (Represents L.node (L.table links.new) (root_of timers.new)) }
     ensures cancelled { (front back : List Place)
-        → Shows L.node (L.table links.old) (root_of timers.old) (front ++ timer ∷ back)
-        → Shows L.node (L.table links.new) (root_of timers.new) (front ++ back) }
-    ensures released { L.Does links.old links.new (releases timer ∷ []) }
-    ensures frame { (s : List Place) → Shows L.node (L.table links.old) (root_of timers.old) s
-        → KeepsBeside (L.table links.old) (L.table links.new) s }
+        → Represents L.node (L.table links.old) (root_of timers.old) (front ++ timer ∷ back)
+        → Represents L.node (L.table links.new) (root_of timers.new) (front ++ back) }
+    ensures released { L.Trace links.old links.new (releases timer ∷ []) }
+    ensures frame { (s : List Place) → Represents L.node (L.table links.old) (root_of timers.old) s
+        → ChangesOnlyIn (L.table links.old) (L.table links.new) s }
 {
     timers.remove(links, &timer);
 }

@@ -196,7 +196,7 @@ takes_sent (Release q ∷ es) only = absurd only
 takes_sent (Push k s ∷ es) only = absurd only
 takes_sent (TakeAll k s ∷ es) only = takes_sent es only
 
--- SEVERAL SENDERS, of which each begins where the one in front of it ends
+-- SEVERAL SENDERS, of which each begins where the one before it ends
 abbrev pub SentBy : ℕ → ℕ → List Party → Type 0
 SentBy first count [] = Unit {0}
 SentBy first count (x ∷ xs) = Sends first count x.steps × SentBy (first + count) count xs
@@ -441,7 +441,7 @@ pub made_all : {A : Type 0} (stacks : Stacks A) (first count : ℕ) (hs : List H
 made_all stacks first count [] are = All-nil (IsOf stacks)
 made_all stacks first count (h ∷ hs) are = All-cons (IsOf stacks) h hs are.0.made (made_all stacks (first + count) count hs are.1)
 
--- the last of a list, and those in front of it
+-- the last of a list, and those before it
 pub same_front : {X : Type 0} (l m : List X) (a b : X) → l ++ a ∷ [] ≡ m ++ b ∷ [] → (l ≡ m) × (a ≡ b)
 same_front [] [] a b e = (refl, cc e)
 same_front [] (y ∷ []) a b e = absurd (cc e)
@@ -450,7 +450,7 @@ same_front (x ∷ []) [] a b e = absurd (cc e)
 same_front (x ∷ z ∷ l) [] a b e = absurd (cc e)
 same_front (x ∷ l) (y ∷ m) a b e = let first : x ≡ y = cc e in let rest = same_front l m a b (cc e) in ((λ i. first i ∷ rest.0 i), rest.1)
 
--- what holds of all holds of the last, and of those in front of it
+-- what holds of all holds of the last, and of those before it
 pub ends : {X : Type 0} (P : X → Type 0) (l : List X) (x : X) → All P (l ++ x ∷ []) → All P l × P x
 ends P [] x all = (All-nil P, All-head P x [] all)
 ends P (y ∷ l) x all = let r = ends P l x (All-tail P y (l ++ x ∷ []) all) in (All-cons P y l (All-head P y (l ++ x ∷ []) all) r.0, r.1)

@@ -61,7 +61,7 @@ module _ {A : Type 0} where
     pub made : IsOf stacks holder
     pub sends : Sends first count (record_of holder)
 
-  -- the same of several, of which each begins where the one in front of it ends
+  -- the same of several, of which each begins where the one before it ends
   abbrev pub AreReady : Stacks A → ℕ → ℕ → List (Sender A) → Type 0
   AreReady stacks first count [] = Unit {0}
   AreReady stacks first count (x ∷ xs) = IsReady stacks first count x × AreReady stacks (first + count) count xs
@@ -77,7 +77,7 @@ module _ {A : Type 0} where
     pub few : spent_by holder ≤ turns
     pub came_is : of_record (got 0) (record_of holder) ≡ came
 
-  -- the senders have sent their places, and the receiver, behind them, has taken these
+  -- the senders have sent their places, and the receiver, after them, has taken these
   pub record HasDone (stacks : Stacks A) (count : ℕ) (holders : List Holder) (came : List Place) : Type 0 where
     pub senders : List Holder
     pub receiver : Holder

@@ -146,7 +146,7 @@ fn send_and_receive<R: Threads + Sync, A: Allocator + Copy + Send + Sync>(
     Ok((holders, came))
 }
 
-// Receives the rest, once all senders have sent, between two audits of all holders: so nothing comes behind it.
+// Receives the rest, once all senders have sent, between two audits of all holders: so nothing comes after it.
 fn receive_rest<A: Allocator>(
     stacks: &Stacks<A>,
     mut holders: Vec<Holder, A>,
@@ -192,7 +192,7 @@ fn deliver_over<R: Threads + Sync, A: Allocator + Copy + Send + Sync>(
 
 /// Lets so many senders send `places` places each to one mailbox, and returns what came, in the order in which it came.
 ///
-/// Each sender sends in a thread of its own, in the order of the places' indexes: the first sender those from 0 on, the next those behind
+/// Each sender sends in a thread of its own, in the order of the places' indexes: the first sender those from 0 on, the next those after
 /// them. The caller's thread receives meanwhile, and the rest when all have sent. What came is all that was sent, and each place came
 /// once. Those of each sender came in their order. How those of several senders lie among one another is left open.
 ///

@@ -16,9 +16,9 @@ ghost use Rattle.std.specs.Bool.{OnTrue, OnFalse};
 ghost use Rattle.ic_unsafe_ref.specs.declared.place.Place.{Place};
 ghost use Rattle.ic_unsafe_ref.specs.Places.{index_of};
 ghost use Rattle.ic_lock_free_stack.specs.declared.step.Step.TheVariants.{Push, TakeAll};
-ghost use Rattle.ic_lock_free_stack.specs.Moments.{is_in};
+ghost use Rattle.ic_lock_free_stack.specs.Moments.{is_in, same};
 ghost use Rattle.ic_lock_free_stack.specs.Records.{holds, most_steps, GivesUp};
-ghost use Rattle.ic_lock_free_stack.specs.Holders.{places_of, stacks_of, record_of, spent_by, Steps, IsOf, HasChain};
+ghost use Rattle.ic_lock_free_stack.specs.Holders.{places_of, stacks_of, record_of, spent_by, Steps, IsOf, HasChain, KeepsChains};
 ghost use Rattle.stack_uses.specs.Frees.{user_of, stack_of, HasFree};
 
 use ic_lock_free_stack::{Chain, Holder, Stacks};
@@ -34,6 +34,8 @@ pub struct Owner {
 }
 
 /// Frees a place from any thread: it is its owner's again, who takes it in time. It waits for nobody.
+///
+/// Each chain of the user in which the place is not stays, so he may free a chain place by place.
 pub fn free<A: Allocator>(stacks: &Stacks<A>, user: &mut Holder, stack: usize, place: Place)
     requires stack { stack < stacks_of stacks.now }
     requires place { index_of place < places_of stacks.now }
@@ -43,6 +45,7 @@ pub fn free<A: Allocator>(stacks: &Stacks<A>, user: &mut Holder, stack: usize, p
     ensures made { IsOf stacks.now user.new }
     ensures step { Steps user.old user.new (Push stack (place ∷ [])) }
     ensures freed { GivesUp (record_of user.old) (record_of user.new) place }
+    ensures chains { KeepsChains stacks.now user.old user.new (λ p. same p place) }
 {
     stacks.push(user, stack, place);
 }

@@ -1,25 +1,21 @@
--- Lists of objects, all of which are placed; and an empty list, which is shown beside another.
+-- Lists of objects, all of which are placed; and an empty list, which is represented beside another.
 use Rattle.std.proofs.Common.{◌≡◌, ◌<◌, ℕ, Option, [], refl, ap, ◌∙◌, subst}
-use Rattle.ic_unsafe_ref.specs.declared.place.Place.{Place}
-use Rattle.ic_unsafe_ref.specs.Objects.{Objects}
-use Rattle.ic_unsafe_ref.specs.Places.{index_of}
-use Rattle.ic_link_ops.specs.Tables.{Extent, Table, IsCovered}
-use Rattle.ic_link_ops.specs.Chains.{ListHead, ShowsChain, ShowsSomeChain, empty_list}
-use Rattle.ic_link_ops.specs.PlacedObjects.{ShowsPlaced}
+use Rattle.ic_link_ops.specs.Prelude.{Place, index_of, Objects, Extent, Table, IsCovered, RepresentsPlaced}
+use Rattle.ic_link_ops.specs.Chains.{ListHead, RepresentsChain, RepresentsSomeChain, empty_list}
 use Rattle.ic_link_ops.proofs.SequenceLemmas.{disjoint_nothing}
-use Rattle.ic_list_algorithms.specs.Runs.{TwoShown}
+use Rattle.ic_list_algorithms.specs.Runs.{TwoRepresented}
 use Rattle.ic_list_algorithms.specs.TwoLists.{TwoLists}
 use Rattle.ic_list_algorithms.proofs.WholeLists.{members_placed}
 use Rattle.structure_tests.specs.OfEight.{HoldsOfEight}
 
 module _ {E W : Type 0} {between : E → Option Place → Option Place → Type 0} {kept : Option Place → W} {t : Table E} where
-  -- an empty list is shown
-  nothing : {other : ListHead W} → other ≡ empty_list kept → ShowsChain between kept t other []
+  -- an empty list is represented
+  nothing : {other : ListHead W} → other ≡ empty_list kept → RepresentsChain between kept t other []
   nothing none = rw none (record { distinct = tt; chain = tt; head = refl; tail = refl })
 
-  -- beside a list that is shown and placed, and beside one that is shown
-  pub two_placed : {list other : ListHead W} {objects : Objects ℕ} → other ≡ empty_list kept → ShowsPlaced (ShowsChain between kept t list) objects
-      → TwoShown (ShowsChain between kept) objects t list other
+  -- beside a list that is represented and placed, and beside one that is represented
+  pub two_placed : {list other : ListHead W} {objects : Objects ℕ} → other ≡ empty_list kept → RepresentsPlaced (RepresentsChain between kept t list) objects
+      → TwoRepresented (RepresentsChain between kept) objects t list other
   two_placed none p = record {
     first = p.members;
     second = [];
@@ -30,12 +26,12 @@ module _ {E W : Type 0} {between : E → Option Place → Option Place → Type 
     other_placed = tt;
   }
 
-  pub two_lists : {list other : ListHead W} → other ≡ empty_list kept → ShowsSomeChain between kept t list → TwoLists (ShowsChain between kept) t list other
+  pub two_lists : {list other : ListHead W} → other ≡ empty_list kept → RepresentsSomeChain between kept t list → TwoLists (RepresentsChain between kept) t list other
   two_lists none s = record { first = s.0; second = []; shown = s.1; other = nothing none; apart = tt }
 
   -- the members of a list of some of eight objects are placed: each of them is covered
   pub placed_members : {list : ListHead W} {objects : Objects ℕ} → ((q : Place) (b a : Option Place) → between (t.entry q) b a → IsCovered t q)
-      → HoldsOfEight between kept t list objects → ShowsPlaced (ShowsChain between kept t list) objects
+      → HoldsOfEight between kept t list objects → RepresentsPlaced (RepresentsChain between kept t list) objects
   placed_members {objects = objects} covered h = record {
     members = h.shown.0;
     shown = h.shown.1;
@@ -44,5 +40,5 @@ module _ {E W : Type 0} {between : E → Option Place → Option Place → Type 
 
   -- and after a call that moved or unlinked members it is a list of some of them again
   pub still_of_eight : {new : Table E} {list after : ListHead W} {objects : Objects ℕ} → HoldsOfEight between kept t list objects → new.extent ≡ t.extent
-      → ShowsSomeChain between kept new after → HoldsOfEight between kept new after objects
+      → RepresentsSomeChain between kept new after → HoldsOfEight between kept new after objects
   still_of_eight h same shown = record { covers = ap (λ (e : Extent). e.places) same ∙ h.covers; shown = shown; placed = h.placed }

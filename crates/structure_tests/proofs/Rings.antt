@@ -1,14 +1,9 @@
 -- Rings after a call of a test: what the members are then, and that each object is placed.
 use Rattle.std.proofs.Common.{◌≡◌, ◌≢◌, ◌<◌, true, Option, Some, None, List, [], ◌∷◌, ◌++◌, Result, Ok, Err, OnOk, OnErr, OnSome, drop, refl, sym, ap, ◌∙◌, subst, append_assoc, append-nil}
-use Rattle.ic_unsafe_ref.specs.declared.place.Place.{Place}
-use Rattle.ic_unsafe_ref.specs.Places.{index_of}
-use Rattle.ic_unsafe_ref.specs.Objects.{Objects, is_placed}
-use Rattle.ic_link_ops.specs.Sequences.{Cut, join, IsAbsent, IsDisjoint, first, first_or, last, last_or, but_last}
-use Rattle.ic_link_ops.specs.Tables.{Table, Extent, IsCovered}
+use Rattle.ic_link_ops.specs.Prelude.{Place, index_of, Objects, is_placed, Cut, join, IsAbsent, IsDisjoint, first, first_or, last, last_or, but_last, Table, Extent, IsCovered, ArePlaced, RepresentsPlaced}
 use Rattle.ic_link_ops.specs.LinkedList.{Neighbors, IsChain}
-use Rattle.ic_link_ops.specs.PlacedObjects.{ArePlaced, ShowsPlaced}
 use Rattle.ic_link_ops.proofs.SequenceLemmas.{first_is, split_last, disjoint_sym, disjoint_right, absent_right, absent_swap, absent_turned, last_of_push, some_same, none_not}
-use Rattle.ic_ring.specs.Rings.{IsCircle, Shows, InRing, OthersStay}
+use Rattle.ic_ring.specs.Rings.{IsCircle, Represents, InRing, OthersStay}
 use Rattle.ic_ring.specs.RingCursors.{IsOn, IsBefore}
 use Rattle.ic_ring.proofs.Circles.{circles_apart, seen_from, rotated}
 use Rattle.structure_tests.specs.TwoRings.{TwoRings}
@@ -19,22 +14,22 @@ either_way (Ok a) holds refused accepts refuses = accepts holds
 either_way (Err e) holds refused accepts refuses = refuses refused
 
 module _ {E : Type 0} (n : E → Neighbors) (t : Table E) where
-  -- the ring, cut behind its first member, and read from that
-  pub first_of : {h p : Place} (s : List Place) → Shows n t h s → Some p ≡ first s → Shows n t h (p ∷ drop 1 s)
-  first_of {h} s shown is = subst (Shows n t h) (first_is s is) shown
+  -- the ring, cut after its first member, and read from that
+  pub first_of : {h p : Place} (s : List Place) → Represents n t h s → Some p ≡ first s → Represents n t h (p ∷ drop 1 s)
+  first_of {h} s shown is = subst (Represents n t h) (first_is s is) shown
 
-  pub first_in_ring : {h p : Place} (s : List Place) → Shows n t h s → Some p ≡ first s → InRing n t p
+  pub first_in_ring : {h p : Place} (s : List Place) → Represents n t h s → Some p ≡ first s → InRing n t p
   first_in_ring {h} {p} s shown is = (drop 1 s ++ h ∷ [], seen_from [] p (drop 1 s) (first_of s shown is))
 
-  -- and in front of its last one
-  pub last_of : {h p : Place} (s : List Place) → Shows n t h s → Some p ≡ last s → Shows n t h (but_last s ++ p ∷ [])
-  last_of {h} s shown is = subst (Shows n t h) (split_last s (sym is)) shown
+  -- and before its last one
+  pub last_of : {h p : Place} (s : List Place) → Represents n t h s → Some p ≡ last s → Represents n t h (but_last s ++ p ∷ [])
+  last_of {h} s shown is = subst (Represents n t h) (split_last s (sym is)) shown
 
-  pub last_in_ring : {h p : Place} (s : List Place) → Shows n t h s → Some p ≡ last s → InRing n t p
+  pub last_in_ring : {h p : Place} (s : List Place) → Represents n t h s → Some p ≡ last s → InRing n t p
   last_in_ring {h} {p} s shown is = ([] ++ h ∷ but_last s, seen_from (but_last s) p [] (last_of s shown is))
 
   -- two heads that are apart: neither is in the other's ring
-  pub heads_apart : {h k : Place} (s u : List Place) → Shows n t h s → Shows n t k u → IsAbsent h (k ∷ u) → IsAbsent k (h ∷ s)
+  pub heads_apart : {h k : Place} (s u : List Place) → Represents n t h s → Represents n t k u → IsAbsent h (k ∷ u) → IsAbsent k (h ∷ s)
   heads_apart {h} {k} s u c d out = (disjoint_sym (h ∷ s) (k ∷ u) (circles_apart (k ∷ u) h s d c out)).0
 
   -- where an object stands at each covered place, one stands at each place of a ring
@@ -44,19 +39,19 @@ module _ {E : Type 0} (n : E → Neighbors) (t : Table E) where
     chain_placed b a [] k = tt
     chain_placed b a (x ∷ s) k = (all x (subst (λ places. index_of x < places) covers (covered x k.0.linked)), chain_placed (Some x) a s k.1)
 
-    pub ring_placed : (h : Place) → InRing n t h → ShowsPlaced (Shows n t h) o
+    pub ring_placed : (h : Place) → InRing n t h → RepresentsPlaced (Represents n t h) o
     ring_placed h (s, shown) = record { members = s; shown = shown; placed = (chain_placed (last (h ∷ s)) (first (h ∷ s)) (h ∷ s) shown.chain).1 }
 
   -- the last member is not the head
-  pub last_other : {h p : Place} (s : List Place) → Shows n t h (s ++ p ∷ []) → h ≢ p
+  pub last_other : {h p : Place} (s : List Place) → Represents n t h (s ++ p ∷ []) → h ≢ p
   last_other {h} {p} s shown = (absent_right h s (p ∷ []) shown.distinct.0).0
 
   -- a member of the second ring is not in the first one
-  pub member_apart : {h k p : Place} (s u : List Place) → Shows n t h s → Shows n t k (p ∷ u) → IsAbsent h (k ∷ p ∷ u) → IsAbsent p (h ∷ s)
+  pub member_apart : {h k p : Place} (s u : List Place) → Represents n t h s → Represents n t k (p ∷ u) → IsAbsent h (k ∷ p ∷ u) → IsAbsent p (h ∷ s)
   member_apart {h} {k} {p} s u c d out = (disjoint_sym (h ∷ s) (k ∷ p ∷ u) (circles_apart (k ∷ p ∷ u) h s d c out)).1.0
 
-  -- HEADS EXCHANGED what stands behind them: the first ring has all places of the second one
-  pub joined_heads : (new : Table E) {h k : Place} (s u : List Place) → Shows n t h s → Shows n t k u → IsAbsent h (k ∷ u)
+  -- HEADS EXCHANGED what stands after them: the first ring has all places of the second one
+  pub joined_heads : (new : Table E) {h k : Place} (s u : List Place) → Represents n t h s → Represents n t k u → IsAbsent h (k ∷ u)
       → ((r v : List Place) → IsCircle n t.entry r → IsCircle n t.entry v → IsDisjoint r v → Some h ≡ last r → Some k ≡ last v → IsCircle n new.entry (r ++ v))
       → InRing n new h
   joined_heads new {h} {k} s u c d out joins =
@@ -68,7 +63,7 @@ module _ {E : Type 0} (n : E → Neighbors) (t : Table E) where
       let whole = joins r v (rotated (h ∷ []) s c) (rotated (k ∷ []) u d) (disjoint_sym v r two) (sym (last_of_push s h)) (sym (last_of_push u k)) in
       (v ++ s, rotated s (h ∷ v) (rw (append_assoc s (h ∷ []) v) at whole))
 
--- what is absent from a ring, seen behind its first member
+-- what is absent from a ring, seen after its first member
 pub first_absent : {q h p : Place} (s : List Place) → Some p ≡ first s → IsAbsent q (h ∷ s) → IsAbsent q (h ∷ p ∷ drop 1 s)
 first_absent {q} {h} s is out = subst (λ s. IsAbsent q (h ∷ s)) (first_is s is) out
 
@@ -100,26 +95,26 @@ module _ {E : Type 0} (n : E → Neighbors) where
   kept old new places two extent ring others out = record { covers = places_of extent two.covers; shown = ring; apart = (two.apart.0, others.rings _ two.apart.1 out, two.apart.2) }
 
   -- the first member is not in the second ring, nor is the last one
-  pub first_outside : (t : Table E) {h k p : Place} (s : List Place) (two : TwoRings n t h k) → Shows n t h (p ∷ s) → IsAbsent p (k ∷ two.apart.0)
+  pub first_outside : (t : Table E) {h k p : Place} (s : List Place) (two : TwoRings n t h k) → Represents n t h (p ∷ s) → IsAbsent p (k ∷ two.apart.0)
   first_outside t {h} {k} {p} s two shown = (circles_apart (k ∷ two.apart.0) h (p ∷ s) two.apart.1 shown two.apart.2).1.0
 
-  pub last_outside : (t : Table E) {h k p : Place} (s : List Place) (two : TwoRings n t h k) → Shows n t h (s ++ p ∷ []) → IsAbsent p (k ∷ two.apart.0)
+  pub last_outside : (t : Table E) {h k p : Place} (s : List Place) (two : TwoRings n t h k) → Represents n t h (s ++ p ∷ []) → IsAbsent p (k ∷ two.apart.0)
   last_outside t {h} {k} {p} s two shown =
       let u = k ∷ two.apart.0 in
       let apart = (circles_apart u h (s ++ p ∷ []) two.apart.1 shown two.apart.2).1 in
       (disjoint_sym u (p ∷ []) (disjoint_right u s (p ∷ []) (disjoint_sym (s ++ p ∷ []) u apart))).0
 
   -- the same for a cursor, whose ring is named by the head that it keeps
-  pub kept_by : (old new : Table E) {h k before after : Place} (s : List Place) → before ≡ h → after ≡ h → TwoRings n old h k → new.extent ≡ old.extent → Shows n new after s
+  pub kept_by : (old new : Table E) {h k before after : Place} (s : List Place) → before ≡ h → after ≡ h → TwoRings n old h k → new.extent ≡ old.extent → Represents n new after s
       → OthersStay n old new (before ∷ []) → TwoRings n new h k
   kept_by old new {h} {k} {before} {after} s e f two extent shown others =
-      kept old new (before ∷ []) two extent (s, subst (λ h. Shows n new h s) f shown) others (subst (λ p. IsAbsent p (k ∷ two.apart.0)) (sym e) two.apart.2, tt)
+      kept old new (before ∷ []) two extent (s, subst (λ h. Represents n new h s) f shown) others (subst (λ p. IsAbsent p (k ∷ two.apart.0)) (sym e) two.apart.2, tt)
 
   -- where both rings were changed
-  pub both_shown : (new : Table E) {h k after : Place} (s u : List Place) → after ≡ h → new.extent.places ≡ 8 → Shows n new after s → Shows n new k u → IsAbsent h (k ∷ u) → TwoRings n new h k
-  both_shown new s u e covers shown other out = record { covers = covers; shown = (s, subst (λ h. Shows n new h s) e shown); apart = (u, other, out) }
+  pub both_represented : (new : Table E) {h k after : Place} (s u : List Place) → after ≡ h → new.extent.places ≡ 8 → Represents n new after s → Represents n new k u → IsAbsent h (k ∷ u) → TwoRings n new h k
+  both_represented new s u e covers shown other out = record { covers = covers; shown = (s, subst (λ h. Represents n new h s) e shown); apart = (u, other, out) }
 
--- A GAP IN FRONT of a cursor that has one behind it
+-- A GAP IN FRONT of a cursor that has one after it
 pub gap_before : (h : Place) {at : Place} (front back : List Place) → Some at ≡ last_or (Some h) front → (gap : Cut) × (join gap ≡ front ++ back) × IsBefore h gap at
 gap_before h [] back e = (record { front = back; back = [] }, append-nil back, e)
 gap_before h {at} (x ∷ s) back e =

@@ -1,11 +1,9 @@
 //! The algorithms over lists: each is called at a list of eight objects, of every kind of list that has it.
 
 ghost use Rattle.std.specs.Prelude.{◌≡◌, ◌<◌, ◌≤◌, List, length, true};
-ghost use Rattle.ic_unsafe_ref.specs.declared.place.Place.{Place};
-ghost use Rattle.ic_unsafe_ref.specs.Objects.{is_placed};
-ghost use Rattle.ic_unsafe_ref.specs.Places.{index_of};
-ghost use Rattle.ic_link_ops.specs.Chains.{ShowsChain, ShowsSomeChain};
-ghost use Rattle.ic_list_algorithms.specs.Runs.{FewLooks};
+ghost use Rattle.ic_link_ops.specs.Prelude.{Place, index_of, is_placed};
+ghost use Rattle.ic_link_ops.specs.Chains.{RepresentsChain, RepresentsSomeChain};
+ghost use Rattle.ic_list_algorithms.specs.Runs.{WithinComparisonBound};
 ghost use Rattle.structure_tests.specs.OfEight.{HoldsOfEight};
 
 use crate::asserts::{assert_same, assert_true};
@@ -26,7 +24,7 @@ fn filled<K: ForwardLinks<L>, L: LinkOps>(links: &mut L, members: usize) -> Chai
     requires covered { (L.table links.old).extent.places ≡ 8 }
     requires few { members ≤ 8 }
     ensures covers { (L.table links.new).extent.places ≡ 8 }
-    ensures shown { ShowsSomeChain K.Between K.kept (L.table links.new) result }
+    ensures shown { RepresentsSomeChain K.Between K.kept (L.table links.new) result }
 {
     let mut list = Chain::new();
     for given in 0..members {
@@ -56,7 +54,7 @@ fn sort_and_count<K: Following<L>, L: LinkOps>(
     objects: &Objects<u64>,
 ) -> u64
     requires held { HoldsOfEight K.Between K.kept (L.table links.old) list.old objects.now }
-    ensures few { (s : List Place) → ShowsChain K.Between K.kept (L.table links.old) list.old s → FewLooks 0 result (length s) }
+    ensures few { (s : List Place) → RepresentsChain K.Between K.kept (L.table links.old) list.old s → WithinComparisonBound 0 result (length s) }
     ensures held { HoldsOfEight K.Between K.kept (L.table links.new) list.new objects.now }
 {
     let mut order = Counted::new(Natural);
@@ -69,8 +67,8 @@ fn sorted_down_keyed<K: Following<L>, L: LinkValues<u64>>(
     list: &mut Chain<K, u64>,
     links: &mut L,
 ) -> Option<usize>
-    requires shown { ShowsSomeChain K.Between K.kept (L.table links.old) list.old }
-    ensures shown { ShowsSomeChain K.Between K.kept (L.table links.new) list.new }
+    requires shown { RepresentsSomeChain K.Between K.kept (L.table links.old) list.old }
+    ensures shown { RepresentsSomeChain K.Between K.kept (L.table links.new) list.new }
     ensures values { L.values links.new ≡ L.values links.old }
 {
     let mut largest_first = By::new(|a: &u64, b: &u64| b.cmp(a));
@@ -83,8 +81,8 @@ fn merged_keyed<K: Following<L>, L: LinkValues<u64>>(
     list: &mut Chain<K, u64>,
     links: &mut L,
 ) -> Option<usize>
-    requires shown { ShowsSomeChain K.Between K.kept (L.table links.old) list.old }
-    ensures shown { ShowsSomeChain K.Between K.kept (L.table links.new) list.new }
+    requires shown { RepresentsSomeChain K.Between K.kept (L.table links.old) list.old }
+    ensures shown { RepresentsSomeChain K.Between K.kept (L.table links.new) list.new }
     ensures values { L.values links.new ≡ L.values links.old }
 {
     algorithms::sort_keyed(list, links, &mut Natural);
@@ -117,7 +115,7 @@ fn index(object: Option<UnsafeRef<u64>>) -> Option<usize> {
     }
 }
 
-// Merges an empty list into one, puts one behind it, and turns it behind its first two members: it returns the member that is first then.
+// Merges an empty list into one, puts one after it, and turns it after its first two members: it returns the member that is first then.
 fn merged<K: Following<L>, L: LinkOps>(
     list: &mut Chain<K, u64>,
     links: &mut L,
@@ -130,10 +128,10 @@ fn merged<K: Following<L>, L: LinkOps>(
     turned(list, links)
 }
 
-// Turns a list behind its first two members, and returns the member that is first then.
+// Turns a list after its first two members, and returns the member that is first then.
 fn turned<K: ForwardLinks<L>, L: LinkOps>(list: &mut Chain<K, u64>, links: &mut L) -> Option<usize>
-    requires shown { ShowsSomeChain K.Between K.kept (L.table links.old) list.old }
-    ensures shown { ShowsSomeChain K.Between K.kept (L.table links.new) list.new }
+    requires shown { RepresentsSomeChain K.Between K.kept (L.table links.old) list.old }
+    ensures shown { RepresentsSomeChain K.Between K.kept (L.table links.new) list.new }
     ensures extent { (L.table links.new).extent ≡ (L.table links.old).extent }
 {
     algorithms::rotate_left(list, links, 2);
@@ -171,12 +169,12 @@ fn deduped<K: ForwardLinks<L>, L: LinkOps>(
     algorithms::len(list, links)
 }
 
-// Puts an empty list behind this one.
+// Puts an empty list after this one.
 fn appended<K: DoubleEnded + ForwardLinks<L>, L: LinkOps>(
     list: &mut Chain<K, u64>,
     links: &mut L,
 ) -> bool
-    requires shown { ShowsSomeChain K.Between K.kept (L.table links.old) list.old }
+    requires shown { RepresentsSomeChain K.Between K.kept (L.table links.old) list.old }
 {
     let mut other = Chain::new();
     algorithms::append(list, links, &mut other);
@@ -188,7 +186,7 @@ fn appended_walking<K: SingleEnded + ForwardLinks<L>, L: LinkOps>(
     list: &mut Chain<K, u64>,
     links: &mut L,
 ) -> bool
-    requires shown { ShowsSomeChain K.Between K.kept (L.table links.old) list.old }
+    requires shown { RepresentsSomeChain K.Between K.kept (L.table links.old) list.old }
 {
     let mut other = Chain::new();
     algorithms::append_walking(list, links, &mut other);

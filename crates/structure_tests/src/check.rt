@@ -2,12 +2,11 @@
 //! named is used once it is checked.
 
 ghost use Rattle.std.specs.Prelude.{◌≡◌, ◌<◌, ◌≤◌, length, IfSome};
-ghost use Rattle.ic_unsafe_ref.specs.Places.{index_of};
+ghost use Rattle.ic_link_ops.specs.Prelude.{index_of, IsNameable};
 ghost use Rattle.ic_link_ops.specs.DoublyEntries as doubly;
 ghost use Rattle.ic_link_ops.specs.PlainTables.{table};
-ghost use Rattle.ic_link_ops.specs.Tables.{IsNameable};
 ghost use Rattle.ic_link_ops.specs.Widths.{HasRoom, wide};
-ghost use Rattle.ic_rbtree.specs.PlainTrees.{PlainShowsSome};
+ghost use Rattle.ic_rbtree.specs.PlainTrees.{PlainRepresentsSome};
 ghost use Rattle.ic_rbtree.specs.Tree.{root_of};
 
 use crate::asserts::assert_true;
@@ -145,7 +144,7 @@ impl KeyAdapter for OwnKey {
 
 // A tree of the objects at the first three places.
 fn tree_of_three(links: &mut rbtree::LinkOps) -> RBTree<OwnKey>
-    ensures shown { PlainShowsSome links.new (root_of result) }
+    ensures shown { PlainRepresentsSome links.new (root_of result) }
 {
     let mut tree = RBTree::new(OwnKey);
     for index in 0..3 {
@@ -243,7 +242,7 @@ fn list_from_file(
     first: Option<Place>,
     last: Option<Place>,
 ) -> Option<LinkedList<u64>>
-    ensures { IfSome result (λ list. doubly.PlainShowsSome links.now list) }
+    ensures { IfSome result (λ list. doubly.PlainRepresentsSome links.now list) }
 {
     let list = LinkedList::from_ends(first, last);
     if check(&list, links).is_none() {

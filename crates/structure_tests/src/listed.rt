@@ -1,4 +1,4 @@
-//! Objects that are all in one list, by a caller that keeps the numbers that it has met, the newest in front, over links of either width.
+//! Objects that are all in one list, by a caller that keeps the numbers that it has met, the newest first, over links of either width.
 
 ghost use Rattle.std.specs.Prelude.{◌≡◌, IfSome, Some};
 ghost use Rattle.ic_unsafe_ref.specs.Objects.{object_at};
@@ -10,7 +10,7 @@ use ic_unsafe_ref::UnsafeRef;
 use std::alloc::Allocator;
 use std::process::Abort;
 
-// Puts a number that was met before in front again, and another one in its place. It returns the old one, if the number is there still.
+// Puts a number that was met before at the front again, and another one in its place. It returns the old one, if the number is there still.
 fn renew<A: Allocator, W: PrevPlace>(
     numbers: &mut Listed<u64, A, W>,
     met: &UnsafeRef<u64>,
@@ -32,12 +32,22 @@ fn forget_oldest<A: Allocator, W: PrevPlace>(numbers: &mut Listed<u64, A, W>) ->
     Some(numbers.remove(oldest))
 }
 
+// Puts the newest number after all others, and takes the first one out, and then that one.
+fn take_ends<A: Allocator, W: PrevPlace>(
+    numbers: &mut Listed<u64, A, W>,
+) -> (Option<u64>, Option<u64>) {
+    if let Some(newest) = numbers.first() {
+        numbers.move_to_back(newest);
+    }
+    (numbers.pop_first(), numbers.pop_last())
+}
+
 fn meet_numbers<A: Allocator, W: PrevPlace>(rt: &impl Abort, numbers: &mut Listed<u64, A, W>) {
     assert_same(rt, forget_oldest(numbers), None);
     let first = numbers.place_front(10).expect(rt, "memory");
     let second = numbers.place_front(20).expect(rt, "memory");
     assert_same(rt, numbers.first(), Some(second.place()));
-    let _behind = numbers.place_back(30).expect(rt, "memory");
+    let _after = numbers.place_back(30).expect(rt, "memory");
     assert_same(rt, forget_oldest(numbers), Some(30));
     assert_same(rt, renew(numbers, &first, 11), Some(10));
     assert_same(rt, numbers.first(), Some(first.place()));
@@ -47,10 +57,36 @@ fn meet_numbers<A: Allocator, W: PrevPlace>(rt: &impl Abort, numbers: &mut Liste
     assert_same(rt, forget_oldest(numbers), Some(11));
 }
 
+// Meets a number for the first time.
+fn meet<A: Allocator, W: PrevPlace>(rt: &impl Abort, numbers: &mut Listed<u64, A, W>, number: u64) {
+    assert_true(rt, numbers.place_front(number).is_ok());
+}
+
+// Whether that is the only number.
+fn is_only<A: Allocator, W: PrevPlace>(numbers: &Listed<u64, A, W>, number: u64) -> bool {
+    let mut walk = numbers.iter();
+    let is_first = walk.next().copied() == Some(number);
+    is_first & walk.next().is_none()
+}
+
+// Meets three numbers, of which the newest but one and then the newest are taken out.
+fn take_two<A: Allocator, W: PrevPlace>(rt: &impl Abort, numbers: &mut Listed<u64, A, W>) {
+    assert_true(rt, numbers.is_empty());
+    meet(rt, numbers, 10);
+    meet(rt, numbers, 20);
+    meet(rt, numbers, 30);
+    let (second, newest) = take_ends(numbers);
+    assert_same(rt, second, Some(20));
+    assert_same(rt, newest, Some(30));
+    assert_true(rt, is_only(numbers, 10));
+}
+
 #[test]
 fn numbers_are_met(rt: HostRuntime) {
     let mut wide: Listed<u64> = Listed::new(rt.alloc());
     meet_numbers(&rt, &mut wide);
+    take_two(&rt, &mut wide);
     let mut narrow: NarrowListed<u64> = Listed::with_words(rt.alloc());
     meet_numbers(&rt, &mut narrow);
+    take_two(&rt, &mut narrow);
 }

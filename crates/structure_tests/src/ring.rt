@@ -2,11 +2,8 @@
 //! meaning.
 
 ghost use Rattle.std.specs.Prelude.{◌≡◌, ◌<◌, List, [], true};
-ghost use Rattle.ic_unsafe_ref.specs.declared.place.Place.{Place};
-ghost use Rattle.ic_unsafe_ref.specs.Objects.{is_placed};
-ghost use Rattle.ic_unsafe_ref.specs.Places.{index_of};
-ghost use Rattle.ic_link_ops.specs.Sequences.{IsAbsent};
-ghost use Rattle.ic_ring.specs.Rings.{IsCircle, Shows, InRing};
+ghost use Rattle.ic_link_ops.specs.Prelude.{Place, index_of, is_placed, IsAbsent};
+ghost use Rattle.ic_ring.specs.Rings.{IsCircle, Represents, InRing};
 ghost use Rattle.structure_tests.specs.TwoRings.{TwoRings};
 
 mod calls;
@@ -33,7 +30,7 @@ fn opened<L: LinkedListOps>(rt: &impl Abort, links: &mut L, head: usize) -> Ring
     requires few { head < 8 }
     requires covers { (L.table links.old).extent.places ≡ 8 }
     ensures covers { (L.table links.new).extent.places ≡ 8 }
-    ensures shown { Shows L.neighbors (L.table links.new) result [] }
+    ensures shown { Represents L.neighbors (L.table links.new) result [] }
     ensures ring { InRing L.neighbors (L.table links.new) result }
     ensures others { (r : List Place) → IsCircle L.neighbors (L.table links.old).entry r
         → IsCircle L.neighbors (L.table links.new).entry r × IsAbsent result r }
@@ -101,17 +98,26 @@ fn write_ends<L: LinkedListOps>(notes: &mut Text, links: &L, ring: &Ring<u64>)
     write_places(notes, &beside);
 }
 
-// Notes whether a cursor at the head is on no member, and the second member, by a cursor that moves on twice.
-fn write_second<L: LinkedListOps>(notes: &mut Text, links: &L, ring: &Ring<u64>)
+// Notes whether a cursor at the head is on no member, the second member, by a cursor that moves on twice, the last one, by a cursor that moves back, and
+// the object of the second one.
+fn write_second<L: LinkedListOps>(
+    notes: &mut Text,
+    links: &L,
+    objects: &Objects<u64>,
+    ring: &Ring<u64>,
+)
     requires { InRing L.neighbors (L.table links.now) ring.now }
 {
     let mut cursor = ring.cursor(links);
     cursor.move_next();
     cursor.move_next();
     let second = cursor.get_ptr();
-    let cursor = ring.cursor_at(links, ring.head());
+    let number = value(cursor.get(objects));
+    let mut cursor = ring.cursor_at(links, ring.head());
     notes.add(Answer::Truth(cursor.is_null()), " ");
-    write_places(notes, &[second]);
+    cursor.move_prev();
+    write_places(notes, &[second, cursor.get_ptr()]);
+    notes.add(number, " ");
 }
 
 // Notes what the ring prints.
@@ -159,7 +165,7 @@ pub(crate) fn play<L: LinkedListOps>(
                 None
             }
             Row::Second => {
-                write_second(&mut notes, &*links, &ring);
+                write_second(&mut notes, &*links, objects, &ring);
                 None
             }
         };

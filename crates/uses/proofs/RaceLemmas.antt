@@ -13,7 +13,7 @@ use Rattle.uses.specs.Race.{HasClaimed}
 use Rattle.ic_atomic.proofs.RecordLemmas.{holds_at}
 use Rattle.ic_atomic.proofs.LastStepLemmas.{same_last, snoc_not_nil, last_step}
 
--- a record, and behind it a claim of the place that was answered so
+-- a record, and after it a claim of the place that was answered so
 abbrev pub with_claim : List Event → Place → Bool → List Event
 with_claim r p answer = r ++ event (Claim p) (cond answer 0 1) ∷ []
 

@@ -1,80 +1,74 @@
 -- One turn of a walk that keeps what passes a test, and its end.
 use Rattle.std.proofs.Common.{◌≡◌, ◌<◌, ◌∙◌, sym, ap, inl, inr, Bool, true, false, true≢false, is_some, Option, Some, None, List, [], ◌∷◌, ◌++◌, length, refl, arith, append-nil, append_assoc}
-use Rattle.ic_unsafe_ref.specs.declared.place.Place.{Place}
-use Rattle.ic_unsafe_ref.specs.Objects.{Objects}
-use Rattle.ic_link_ops.specs.Tables.{Table, IsCovered}
-use Rattle.ic_link_ops.specs.LinkSteps.{LinkStep, releases_each}
+use Rattle.ic_link_ops.specs.Prelude.{Place, Objects, Cut, join, IsAfter, Table, IsCovered, CursorState, site, MovesOn, object_there, ArePlaced, LinkStep, releases_each}
 use Rattle.ic_link_ops.specs.Chains.{Ends}
-use Rattle.ic_link_ops.specs.LinkedList.{Neighbors, Shows, members_between}
-use Rattle.ic_link_ops.specs.Positions.{Site, site, MovesOn, object_there}
+use Rattle.ic_link_ops.specs.LinkedList.{Neighbors, Represents, members_between}
 use Rattle.ic_link_ops.specs.EditsAt.{RemovesThere}
-use Rattle.ic_link_ops.specs.Sequences.{Cut, join, IsAfter}
 use Rattle.ic_link_ops.proofs.SequenceLemmas.{gap_after, none_not}
-use Rattle.ic_link_ops.proofs.DoublyLists.{members_behind}
-use Rattle.ic_link_ops.specs.PlacedObjects.{ArePlaced}
+use Rattle.ic_link_ops.proofs.DoublyLists.{members_after}
 use Rattle.ic_link_ops.proofs.EditingWalks.{Walked, walk_leaves, walk_takes}
 use Rattle.uses.specs.Retain.{Parts, TellsOf}
 
-module _ {L E T : Type 0} (n : E → Neighbors) (table : L → Table E) (Does : L → L → List LinkStep → Type 0) (objects : Objects T) (tells : T → Bool → Type 0) where
+module _ {L E T : Type 0} (n : E → Neighbors) (table : L → Table E) (Trace : L → L → List LinkStep → Type 0) (objects : Objects T) (tells : T → Bool → Type 0) where
   -- the walk from a table that showed s is here, with these members ahead, and has kept and let go as the test told
-  pub record Retains (start : L) (s : List Place) (now : Site L Ends) (ahead : List Place) : Type 0 where
+  pub record Retains (start : L) (s : List Place) (now : CursorState L Ends) (ahead : List Place) : Type 0 where
     pub behind : List Place
     pub gone : List Place
-    pub walked : Walked (Shows n) table Does start s now behind gone ahead
+    pub walked : Walked (Represents n) table Trace start s now behind gone ahead
     pub parted : (k g : List Place) → Parts (TellsOf objects tells) ahead k g → Parts (TellsOf objects tells) s (behind ++ k) (gone ++ g)
     pub placed : ArePlaced objects ahead
 
   -- a turn has led on, and less is ahead
-  abbrev pub Turns : L → List Place → Site L Ends → Site L Ends → Type 0
+  abbrev pub Turns : L → List Place → CursorState L Ends → CursorState L Ends → Type 0
   Turns start s now new = (rest : List Place) × Retains start s new rest
       × (length (members_between n (table new.links) new.position None) < length (members_between n (table now.links) now.position None))
 
-module _ {L E T : Type 0} {n : E → Neighbors} {table : L → Table E} {Does : L → L → List LinkStep → Type 0}
-    {objects : Objects T} {tells : T → Bool → Type 0} {start : L} {s : List Place} {now : Site L Ends} where
-  pub retains_gap : {ahead : List Place} → Retains n table Does objects tells start s now ahead → (gap : Cut) × Shows n (table now.links) now.head (join gap) × IsAfter gap now.position
+module _ {L E T : Type 0} {n : E → Neighbors} {table : L → Table E} {Trace : L → L → List LinkStep → Type 0}
+    {objects : Objects T} {tells : T → Bool → Type 0} {start : L} {s : List Place} {now : CursorState L Ends} where
+  pub retains_gap : {ahead : List Place} → Retains n table Trace objects tells start s now ahead → (gap : Cut) × Represents n (table now.links) now.head (join gap) × IsAfter gap now.position
   retains_gap {ahead} h = let gap = gap_after (record { front = h.behind; back = ahead }) now.position h.walked.here in (gap.0, rw gap.1 h.walked.shown, gap.2)
 
   module _ (covered : (l : L) (q : Place) → (n ((table l).entry q)).linked ≡ true → IsCovered (table l) q) where
-    turns : {p : Place} {rest : List Place} {new : Site L Ends} → Retains n table Does objects tells start s now (p ∷ rest)
-        → Retains n table Does objects tells start s new rest → Turns n table Does objects tells start s now new
+    turns : {p : Place} {rest : List Place} {new : CursorState L Ends} → Retains n table Trace objects tells start s now (p ∷ rest)
+        → Retains n table Trace objects tells start s new rest → Turns n table Trace objects tells start s now new
     turns {p} {rest} {new} h r = (
       rest,
       r,
       omega (
         arith,
-        ap length (members_behind (table now.links) (covered now.links) h.behind (p ∷ rest) h.walked.shown h.walked.here),
-        ap length (members_behind (table new.links) (covered new.links) r.behind rest r.walked.shown r.walked.here),
+        ap length (members_after (table now.links) (covered now.links) h.behind (p ∷ rest) h.walked.shown h.walked.here),
+        ap length (members_after (table new.links) (covered new.links) r.behind rest r.walked.shown r.walked.here),
       ),
     )
 
     -- the member ahead was kept
-    pub retains_kept : {x : T} (ahead : List Place) → Retains n table Does objects tells start s now ahead → object_there objects now.position ≡ Some x → tells x true
-        → {position : Option Place} → MovesOn (Shows n) table now position → Turns n table Does objects tells start s now (site now.links now.head position)
-    retains_kept {x} [] h there told moves = absurd (none_not x (sym (ap (object_there objects) h.walked.here) ∙ there))
-    retains_kept {x} (p ∷ rest) h there told moves = turns h (record {
+    pub retains_kept : {x : T} (ahead : List Place) → Retains n table Trace objects tells start s now ahead → object_there objects now.position ≡ Some x → tells x true
+        → {position : Option Place} → MovesOn (Represents n) table now position → Turns n table Trace objects tells start s now (site now.links now.head position)
+    retains_kept {x} [] h there answered moves = absurd (none_not x (sym (ap (object_there objects) h.walked.here) ∙ there))
+    retains_kept {x} (p ∷ rest) h there answered moves = turns h (record {
       behind = h.behind ++ p ∷ [];
       gone = h.gone;
       walked = walk_leaves h.walked moves;
-      parted = λ k g parts. rw (append_assoc h.behind (p ∷ []) k) (h.parted (p ∷ k) g (inl (k, (x, sym (ap (object_there objects) h.walked.here) ∙ there, told), refl, parts)));
+      parted = λ k g parts. rw (append_assoc h.behind (p ∷ []) k) (h.parted (p ∷ k) g (inl (k, (x, sym (ap (object_there objects) h.walked.here) ∙ there, answered), refl, parts)));
       placed = h.placed.1;
     })
 
     -- or it was taken off
-    pub retains_gone : ((a b c : L) (u v : List LinkStep) → Does a b u → Does b c v → Does a c (u ++ v))
-        → {x : T} (ahead : List Place) → Retains n table Does objects tells start s now ahead → object_there objects now.position ≡ Some x → tells x false
-        → {new : Site L Ends} {r : Option Place} → RemovesThere (Shows n) table Does now r new → Turns n table Does objects tells start s now new
-    retains_gone does_on {x} [] h there told removes = absurd (none_not x (sym (ap (object_there objects) h.walked.here) ∙ there))
-    retains_gone does_on {x} (p ∷ rest) h there told removes = turns h (record {
+    pub retains_gone : ((a b c : L) (u v : List LinkStep) → Trace a b u → Trace b c v → Trace a c (u ++ v))
+        → {x : T} (ahead : List Place) → Retains n table Trace objects tells start s now ahead → object_there objects now.position ≡ Some x → tells x false
+        → {new : CursorState L Ends} {r : Option Place} → RemovesThere (Represents n) table Trace now r new → Turns n table Trace objects tells start s now new
+    retains_gone does_on {x} [] h there answered removes = absurd (none_not x (sym (ap (object_there objects) h.walked.here) ∙ there))
+    retains_gone does_on {x} (p ∷ rest) h there answered removes = turns h (record {
       behind = h.behind;
       gone = h.gone ++ p ∷ [];
       walked = walk_takes h.walked does_on removes;
-      parted = λ k g parts. rw (append_assoc h.gone (p ∷ []) g) (h.parted k (p ∷ g) (inr (g, (x, sym (ap (object_there objects) h.walked.here) ∙ there, told), refl, parts)));
+      parted = λ k g parts. rw (append_assoc h.gone (p ∷ []) g) (h.parted k (p ∷ g) (inr (g, (x, sym (ap (object_there objects) h.walked.here) ∙ there, answered), refl, parts)));
       placed = h.placed.1;
     })
 
   -- at its end all of s is parted
-  pub retains_all : (ahead : List Place) → Retains n table Does objects tells start s now ahead → object_there objects now.position ≡ None
-      → (kept gone : List Place) × Parts (TellsOf objects tells) s kept gone × Shows n (table now.links) now.head kept × Does start now.links (releases_each gone)
+  pub retains_all : (ahead : List Place) → Retains n table Trace objects tells start s now ahead → object_there objects now.position ≡ None
+      → (kept gone : List Place) × Parts (TellsOf objects tells) s kept gone × Represents n (table now.links) now.head kept × Trace start now.links (releases_each gone)
   retains_all [] h over =
       (h.behind, h.gone, rw (append-nil h.behind, append-nil h.gone) at (h.parted [] [] (refl, refl)), rw (append-nil h.behind) at h.walked.shown, h.walked.steps)
   retains_all (p ∷ rest) h over = absurd (true≢false (sym h.placed.0 ∙ ap is_some (sym (ap (object_there objects) h.walked.here) ∙ over)))

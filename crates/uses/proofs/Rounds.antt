@@ -1,7 +1,6 @@
 -- Round a ring: the first that passes a test or the first of all, and the last that passes or the last of all.
 use Rattle.std.proofs.Common.{◌≡◌, true, false, Option, None, Some, is_some, List, [], ◌∷◌, sym, ap, ◌∙◌, arith, true≢false}
-use Rattle.ic_unsafe_ref.specs.declared.place.Place.{Place}
-use Rattle.ic_link_ops.specs.Sequences.{first, first_or, last, last_or}
+use Rattle.ic_link_ops.specs.Prelude.{Place, first, first_or, last, last_or}
 use Rattle.ic_link_ops.proofs.SequenceLemmas.{last_some}
 
 -- where one passes, it is there

@@ -1,10 +1,8 @@
 -- A job that is linked in a worker's table, and what is left without it.
 use Rattle.std.proofs.Common.{◌≡◌, List, ◌∷◌, ◌++◌, sym, ◌∙◌, subst, true≢false}
-use Rattle.ic_unsafe_ref.specs.declared.place.Place.{Place}
+use Rattle.ic_link_ops.specs.Prelude.{Place, Cut, join, insert, IsAbsent, IsMember, IsLinked, IsUnlinked, Unlinks}
 use Rattle.ic_link_ops.specs.Chains.{Ends}
-use Rattle.ic_link_ops.specs.DoublyEntries.{DoublyLinkOps, is_linked, plain_table, PlainShows}
-use Rattle.ic_link_ops.specs.Sequences.{Cut, join, insert, IsAbsent, IsMember}
-use Rattle.ic_link_ops.specs.Tables.{IsLinked, IsUnlinked, Unlinks}
+use Rattle.ic_link_ops.specs.DoublyEntries.{DoublyLinkOps, is_linked, plain_table, PlainRepresents}
 use Rattle.ic_link_ops.proofs.LinkedSets.{everywhere}
 use Rattle.ic_link_ops.proofs.SequenceLemmas.{absent_with, member_split}
 use Rattle.uses.specs.SharedJobs.{HasAll}
@@ -15,14 +13,14 @@ module _ {A : Type 0} {links : DoublyLinkOps A} {jobs : Ends} {s : List Place} (
   is_listed out = true≢false (sym linked ∙ all.only p out)
 
   -- and what is left has all that is linked then
-  pub all_but : {new : DoublyLinkOps A} {after : Ends} → ((front back : List Place) → PlainShows links jobs (front ++ p ∷ back) → PlainShows new after (front ++ back))
+  pub all_but : {new : DoublyLinkOps A} {after : Ends} → ((front back : List Place) → PlainRepresents links jobs (front ++ p ∷ back) → PlainRepresents new after (front ++ back))
       → Unlinks is_linked (plain_table links) (plain_table new) p → (gap : Cut) × (s ≡ insert gap p) × HasAll new after (join gap)
   all_but {new} removed off =
       let m = member_split p s is_listed in (
         record { front = m.0; back = m.1 },
         m.2,
         record {
-          shown = removed m.0 m.1 (subst (PlainShows links jobs) m.2 all.shown);
+          shown = removed m.0 m.1 (subst (PlainRepresents links jobs) m.2 all.shown);
           only = λ q. everywhere (λ q. IsAbsent q (m.0 ++ m.1) → IsUnlinked is_linked (plain_table new) q) p q (λ out. off.is)
               (λ n out. off.others q n ∙ all.only q (subst (IsAbsent q) (sym m.2) (absent_with m.0 m.1 p q n out)));
         },

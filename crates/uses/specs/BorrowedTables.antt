@@ -5,7 +5,7 @@ use Rattle.ic_link_ops.specs.Tables.{Extent, Table, with_extent}
 use Rattle.uses.specs.declared.borrowed_table.BorrowedTable.{BorrowedTable}
 
 module _ {L : Type 0} where
-  -- the table behind it
+  -- the table after it
   abbrev pub links_of : BorrowedTable L → L
   links_of t = t.links.now
 
@@ -18,6 +18,6 @@ module _ {L E : Type 0} (table : L → Table E) where
   abbrev pub named : BorrowedTable L → Extent
   named t = record { places = (table t.links.now).extent.places; identity = t.links.ghost_name ∷ (table t.links.now).extent.identity }
 
-  -- its entries are those of the table behind it
+  -- its entries are those of the table after it
   abbrev pub borrowed : BorrowedTable L → Table E
   borrowed t = with_extent (named t) (table t.links.now)

@@ -1,10 +1,8 @@
 -- A table that is one of two, as a table of links.
 use Rattle.std.specs.Prelude.{◌≡◌, Bool, List, [], ◌∷◌, ◌++◌, ℕ}
 use Rattle.std.proofs.Common.{ap}
-use Rattle.ic_unsafe_ref.specs.declared.place.Place.{Place}
-use Rattle.ic_link_ops.specs.Tables.{Extent, Table, IsLinked, IsCovered, with_extent}
-use Rattle.ic_link_ops.specs.LinkSteps.{LinkStep, Replays}
-use Rattle.ic_link_ops.specs.StepLaws.{replays_within}
+use Rattle.ic_link_ops.specs.Prelude.{Place, Extent, Table, IsLinked, IsCovered, with_extent, LinkStep, TraceIs}
+use Rattle.ic_link_ops.specs.StepLaws.{trace_within}
 use Rattle.uses.specs.declared.either_table.EitherTable.{EitherTable}
 use Rattle.uses.specs.declared.either_table.EitherTable.TheVariants.{First, Second}
 
@@ -41,12 +39,12 @@ module _ {L E : Type 0} (table : L → Table E) where
     covered law (First t) p h = law t p h
     covered law (Second t) p h = law t p h
 
-    pub replay : (Does : L → L → List LinkStep → Type 0) → ((a b : L) (s : List LinkStep) → Does a b s → Replays linked (table a) (table b) s)
-        → (a b : EitherTable L) (s : List LinkStep) → Alike Does a b s → Replays linked (one_of a) (one_of b) s
-    replay Does law (First a) (First b) s d = replays_within linked (numbered 0 (table a).extent) (numbered 0 (table b).extent) s (table a) (table b) (law a b s d)
-    replay Does law (Second a) (Second b) s d = replays_within linked (numbered 1 (table a).extent) (numbered 1 (table b).extent) s (table a) (table b) (law a b s d)
-    replay Does law (First a) (Second b) s d = absurd d
-    replay Does law (Second a) (First b) s d = absurd d
+    pub replay : (Trace : L → L → List LinkStep → Type 0) → ((a b : L) (s : List LinkStep) → Trace a b s → TraceIs linked (table a) (table b) s)
+        → (a b : EitherTable L) (s : List LinkStep) → Alike Trace a b s → TraceIs linked (one_of a) (one_of b) s
+    replay Trace law (First a) (First b) s d = trace_within linked (numbered 0 (table a).extent) (numbered 0 (table b).extent) s (table a) (table b) (law a b s d)
+    replay Trace law (Second a) (Second b) s d = trace_within linked (numbered 1 (table a).extent) (numbered 1 (table b).extent) s (table a) (table b) (law a b s d)
+    replay Trace law (First a) (Second b) s d = absurd d
+    replay Trace law (Second a) (First b) s d = absurd d
 
   pub kept : (Refused : L → L → Place → Type 0) → ((a b : L) (p : Place) → Refused a b p → table b ≡ table a)
       → (a b : EitherTable L) (p : Place) → Alike Refused a b p → one_of b ≡ one_of a
@@ -55,13 +53,13 @@ module _ {L E : Type 0} (table : L → Table E) where
   kept Refused law (First a) (Second b) p r = absurd r
   kept Refused law (Second a) (First b) p r = absurd r
 
-module _ {L : Type 0} (Does : L → L → List LinkStep → Type 0) where
-  pub nothing : ((t : L) → Does t t []) → (t : EitherTable L) → Alike Does t t []
+module _ {L : Type 0} (Trace : L → L → List LinkStep → Type 0) where
+  pub nothing : ((t : L) → Trace t t []) → (t : EitherTable L) → Alike Trace t t []
   nothing law (First t) = law t
   nothing law (Second t) = law t
 
-  pub on : ((a b c : L) (s t : List LinkStep) → Does a b s → Does b c t → Does a c (s ++ t))
-      → (a b c : EitherTable L) (s t : List LinkStep) → Alike Does a b s → Alike Does b c t → Alike Does a c (s ++ t)
+  pub on : ((a b c : L) (s t : List LinkStep) → Trace a b s → Trace b c t → Trace a c (s ++ t))
+      → (a b c : EitherTable L) (s t : List LinkStep) → Alike Trace a b s → Alike Trace b c t → Alike Trace a c (s ++ t)
   on law (First a) (First b) (First c) s t d e = law a b c s t d e
   on law (Second a) (Second b) (Second c) s t d e = law a b c s t d e
   on law (First a) (Second b) c s t d e = absurd d

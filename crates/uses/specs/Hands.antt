@@ -3,7 +3,7 @@ use Rattle.std.specs.Prelude.{◌≡◌, ◌⊎◌, Option, None, List, ◌++◌
 use Rattle.ic_link_ops.specs.BothEnds.{Item, Leads, from_front, from_back}
 
 module _ {A : Type 0} where
-  -- the hand has all that it had, in front
+  -- the hand has all that it had, before the others
   abbrev pub Keeps : List A → List A → Type 0
   Keeps old new = take (length old) new ≡ old
 
@@ -12,7 +12,7 @@ module _ {A : Type 0} where
   gained old new = drop (length old) new
 
 module _ {S A : Type 0} (next_gives next_back_gives : S → Option A → S → Type 0) where
-  -- calls led from s to t, and what they gave stands behind what the hands had: of the front in one, of the back in the other
+  -- calls led from s to t, and what they gave stands after what the hands had: of the front in one, of the back in the other
   pub record HasDealt (s t : S) (fronts new_fronts backs new_backs : List A) : Type 0 where
     pub items : List (Item A)
     pub leads : Leads next_gives next_back_gives s items t

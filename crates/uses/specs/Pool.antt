@@ -1,7 +1,6 @@
 -- A pool that threads share: what taking an object out adds to a holder's record.
 use Rattle.std.specs.Prelude.{◌≡◌, ℕ, ◌+◌, ◌<◌, List, [], ◌∷◌, ◌++◌, length}
-use Rattle.ic_unsafe_ref.specs.declared.place.Place.{Place}
-use Rattle.ic_unsafe_ref.specs.Places.{index_of}
+use Rattle.ic_link_ops.specs.Prelude.{Place, index_of}
 use Rattle.ic_atomic.specs.declared.step.Step.TheVariants.{Claim}
 use Rattle.ic_atomic.specs.declared.step.Event.{Event}
 use Rattle.ic_atomic.specs.Records.{event, HoldsAlso, HoldsTheSame}
@@ -11,7 +10,7 @@ abbrev pub refusals : List Place → List Event
 refusals [] = []
 refusals (p ∷ ps) = event (Claim p) 1 ∷ refusals ps
 
--- the places have these indices: the first `from`, and each other one more than the one in front of it
+-- the places have these indices: the first `from`, and each other one more than the one before it
 abbrev pub IsRow : ℕ → List Place → Type 0
 IsRow from [] = Unit {0}
 IsRow from (p ∷ ps) = (index_of p ≡ from) × IsRow (from + 1) ps
@@ -23,7 +22,7 @@ pub record WereRefused (count : ℕ) (old new : List Event) : Type 0 where
   pub count_is : length tried ≡ count
   pub gained : new ≡ old ++ refusals tried
 
--- THE PLACE WAS TAKEN OUT: all in front of it were refused, it was had, and the holder holds that one more
+-- THE PLACE WAS TAKEN OUT: all before it were refused, it was had, and the holder holds that one more
 pub record TakesOut (places : ℕ) (old new : List Event) (place : Place) : Type 0 where
   pub inside : index_of place < places
   pub refused : List Event

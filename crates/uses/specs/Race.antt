@@ -1,7 +1,6 @@
 -- What a thread needs that claims a place, and what it brings back.
 use Rattle.std.specs.Prelude.{◌≡◌, ◌<◌, Bool, if◌then◌else◌, [], ◌∷◌, ◌++◌}
-use Rattle.ic_unsafe_ref.specs.declared.place.Place.{Place}
-use Rattle.ic_unsafe_ref.specs.Places.{index_of}
+use Rattle.ic_link_ops.specs.Prelude.{Place, index_of}
 use Rattle.ic_atomic.specs.declared.step.Step.TheVariants.{Claim}
 use Rattle.ic_atomic.specs.declared.claims.Claims.{Claims}
 use Rattle.ic_atomic.specs.declared.claims.Holder.{Holder}
@@ -13,7 +12,7 @@ pub record CanClaim {A : Type 0} (claims : Claims A) (place : Place) (holder : H
   pub inside : index_of place < places_of claims
   pub made : IsOf claims holder
 
--- the holder has its old record, and behind that a claim of the place that was answered so
+-- the holder has its old record, and after that a claim of the place that was answered so
 pub record HasClaimed {A : Type 0} (claims : Claims A) (place : Place) (old new : Holder) (answer : Bool) : Type 0 where
   pub made : IsOf claims new
   pub step : record_of new ≡ record_of old ++ event (Claim place) (if answer then 0 else 1) ∷ []

@@ -1,7 +1,6 @@
 -- What a test keeps of a sequence of places, and what it lets go.
 use Rattle.std.specs.Prelude.{◌≡◌, ◌⊎◌, Bool, true, false, Some, List, [], ◌∷◌}
-use Rattle.ic_unsafe_ref.specs.declared.place.Place.{Place}
-use Rattle.ic_unsafe_ref.specs.Objects.{Objects, object_at}
+use Rattle.ic_link_ops.specs.Prelude.{Place, Objects, object_at}
 
 -- `Tells p b`: the test may answer b at the place p
 module _ (Tells : Place → Bool → Type 0) where

@@ -1,9 +1,7 @@
 -- What clauses see of a ring of nodes.
 use Rattle.std.specs.Prelude.{ℕ, Bool, Option, List, filter}
 use Rattle.std.specs.Ordering.{nat_cmp, is_eq, is_le, is_gt}
-use Rattle.ic_unsafe_ref.specs.declared.place.Place.{Place}
-use Rattle.ic_unsafe_ref.specs.Objects.{Objects}
-use Rattle.ic_link_ops.specs.Sequences.{first, first_or, last, last_or}
+use Rattle.ic_link_ops.specs.Prelude.{Place, Objects, first, first_or, last, last_or}
 use Rattle.ic_rbtree.specs.Comparing.{compared, order_of}
 use Rattle.uses.specs.declared.ring.Node.{Node}
 

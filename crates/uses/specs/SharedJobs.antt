@@ -1,12 +1,10 @@
 -- A worker's list over a table whose places it claims.
 use Rattle.std.specs.Prelude.{List}
-use Rattle.ic_unsafe_ref.specs.declared.place.Place.{Place}
+use Rattle.ic_link_ops.specs.Prelude.{Place, IsAbsent, IsUnlinked}
 use Rattle.ic_link_ops.specs.Chains.{Ends}
-use Rattle.ic_link_ops.specs.DoublyEntries.{DoublyLinkOps, is_linked, plain_table, PlainShows}
-use Rattle.ic_link_ops.specs.Sequences.{IsAbsent}
-use Rattle.ic_link_ops.specs.Tables.{IsUnlinked}
+use Rattle.ic_link_ops.specs.DoublyEntries.{DoublyLinkOps, is_linked, plain_table, PlainRepresents}
 
--- THE LIST HAS ALL that the table links: s is shown for it, and no other place is linked
+-- THE LIST HAS ALL that the table links: s is represented for it, and no other place is linked
 pub record HasAll {A : Type 0} (links : DoublyLinkOps A) (jobs : Ends) (s : List Place) : Type 0 where
-  pub shown : PlainShows links jobs s
+  pub shown : PlainRepresents links jobs s
   pub only : (p : Place) → IsAbsent p s → IsUnlinked is_linked (plain_table links) p

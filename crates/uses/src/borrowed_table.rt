@@ -6,11 +6,8 @@
 //! ```
 
 ghost use Rattle.std.specs.Prelude.{◌≡◌, ◌∷◌, List, [], OnOk, OnErr, IfErr};
-ghost use Rattle.ic_unsafe_ref.specs.declared.place.Place.{Place};
-ghost use Rattle.ic_link_ops.specs.Sequences.{insert, at_back};
-ghost use Rattle.ic_link_ops.specs.Tables.{IsCovered, KeepsBeside};
-ghost use Rattle.ic_link_ops.specs.LinkSteps.{acquires};
-ghost use Rattle.ic_link_ops.specs.LinkedList.{Shows, ShowsSome};
+ghost use Rattle.ic_link_ops.specs.Prelude.{Place, insert, at_back, IsCovered, ChangesOnlyIn, acquires};
+ghost use Rattle.ic_link_ops.specs.LinkedList.{Represents, RepresentsSome};
 
 use ic_link_ops::linked_list::LinkedListOps;
 use ic_link_ops::{AlreadyLinked, LinkOps};
@@ -44,7 +41,7 @@ impl<'a, L> BorrowedTable<'a, L> {
 
 impl<L: LinkOps> LinkOps for BorrowedTable<'_, L> {
     ghost use Rattle.uses.specs.BorrowedTables.{borrowed, named, links_of};
-    ghost use Rattle.ic_link_ops.specs.StepLaws.{replays_within};
+    ghost use Rattle.ic_link_ops.specs.StepLaws.{trace_within};
 
     type Entry = L::Entry;
 
@@ -54,7 +51,7 @@ impl<L: LinkOps> LinkOps for BorrowedTable<'_, L> {
 
     ghost CanName = { L.CanName };
 
-    ghost Does = { λ old new s. L.Does (links_of old) (links_of new) s };
+    ghost Trace = { λ old new s. L.Trace (links_of old) (links_of new) s };
 
     ghost Refused = { λ old new p. L.Refused (links_of old) (links_of new) p × (borrowed L.table new ≡ borrowed L.table old) };
 
@@ -76,7 +73,7 @@ impl<L: LinkOps> LinkOps for BorrowedTable<'_, L> {
 
     ghost does_on = { λ a b c s t h k. L.does_on (links_of a) (links_of b) (links_of c) s t h k };
 
-    ghost does_replay = { λ old new s h. replays_within L.linked (named L.table old) (named L.table new) s
+    ghost does_replay = { λ old new s h. trace_within L.linked (named L.table old) (named L.table new) s
         (L.table (links_of old)) (L.table (links_of new)) (L.does_replay (links_of old) (links_of new) s h) };
 
     ghost refused_keeps = { λ old new p h. h.1 };
@@ -110,7 +107,7 @@ impl<L: LinkedListOps> LinkedListOps for BorrowedTable<'_, L> {
 
 /// Puts an unlinked object at the back of a list by a view of the table, and the table has then what the view showed.
 ///
-/// It requires that the table covers the object's place and shows a sequence for the list. A linked object comes back, and
+/// It requires that the table covers the object's place and represents a sequence for the list. A linked object comes back, and
 /// no entry has changed. O(1).
 pub fn push_back<T, L: LinkedListOps>(
     list: &mut LinkedList<T>,
@@ -118,14 +115,14 @@ pub fn push_back<T, L: LinkedListOps>(
     object: UnsafeRef<T>,
 ) -> Result<(), AlreadyLinked<T>>
     requires covered { IsCovered (L.table links.old) object }
-    requires shown { ShowsSome L.neighbors (L.table links.old) list.old }
-    ensures inserted { (s : List Place) → Shows L.neighbors (L.table links.old) list.old s
-        → OnOk result (Shows L.neighbors (L.table links.new) list.new (insert (at_back s) object)) }
-    ensures acquired { OnOk result (L.Does links.old links.new (acquires object ∷ [])) }
+    requires shown { RepresentsSome L.neighbors (L.table links.old) list.old }
+    ensures inserted { (s : List Place) → Represents L.neighbors (L.table links.old) list.old s
+        → OnOk result (Represents L.neighbors (L.table links.new) list.new (insert (at_back s) object)) }
+    ensures acquired { OnOk result (L.Trace links.old links.new (acquires object ∷ [])) }
     ensures refused { OnErr result (L.Refused links.old links.new object) }
     ensures unchanged { IfErr result (λ refused. (refused.0 ≡ object) × (list.new ≡ list.old)) }
-    ensures frame { (s : List Place) → Shows L.neighbors (L.table links.old) list.old s
-        → KeepsBeside (L.table links.old) (L.table links.new) (object ∷ s) }
+    ensures frame { (s : List Place) → Represents L.neighbors (L.table links.old) list.old s
+        → ChangesOnlyIn (L.table links.old) (L.table links.new) (object ∷ s) }
 {
     let mut view = BorrowedTable::new(links);
     list.push_back(&mut view, object)

@@ -21,15 +21,15 @@ pub fn is_right<A: Allocator>(
     alloc: A,
     core: &mut Core,
     calls: &[(usize, Step)],
-    told: &[bool],
+    answered: &[bool],
 ) -> Result<bool, AllocError>
     requires { All (λ call. index_of (target call.1) < length core.old) calls.now }
-    ensures right { IfOk result (λ is_right. IsTrue is_right ↔ (answers_read_off (map_of core.old) calls.now ≡ told.now)) }
+    ensures right { IfOk result (λ is_right. IsTrue is_right ↔ (answers_read_off (map_of core.old) calls.now ≡ answered.now)) }
     ensures holders { OnOk result (map_of core.new ≡ map_read_off (map_of core.old) calls.now) }
     ensures places { length core.new ≡ length core.old }
     ensures refused { OnErr result (core.new ≡ core.old) }
 {
     let mut answers = Vec::new(alloc);
     core.replay(calls, &mut answers)?;
-    Ok(answers.as_slice() == told)
+    Ok(answers.as_slice() == answered)
 }

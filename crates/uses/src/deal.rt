@@ -1,15 +1,14 @@
 //! A list dealt to two hands from its two ends, in turns.
 //!
 //! ```text
-//! deal::show(&list, &links, &objects, &mut seen_first, &mut seen_last)?;
+//! deal::represent(&list, &links, &objects, &mut seen_first, &mut seen_last)?;
 //! deal::deal(list, &mut links, &mut fronts, &mut backs)?;
 //! ```
 
 ghost use Rattle.std.specs.Prelude.{◌≡◌, ◌+◌, ◌≤◌, ◌⊎◌, ◌↔◌, List, ◌++◌, map, reverse, OnOk, OnErr, vec_len, vec_capacity};
 ghost use Rattle.std.specs.Iterator.{IsFinite};
-ghost use Rattle.ic_unsafe_ref.specs.declared.place.Place.{Place};
-ghost use Rattle.ic_link_ops.specs.LinkedList.{Shows, ShowsSome};
-ghost use Rattle.ic_link_ops.specs.PlacedObjects.{ShowsPlaced, values_at};
+ghost use Rattle.ic_link_ops.specs.Prelude.{Place, RepresentsPlaced, values_at};
+ghost use Rattle.ic_link_ops.specs.LinkedList.{Represents, RepresentsSome};
 ghost use Rattle.uses.specs.Hands.{Keeps, gained, HasDealt, IsOver};
 
 use ic_link_ops::linked_list::LinkedListOps;
@@ -48,7 +47,7 @@ where
 
 /// Deals the members of a list to two hands, one from its front and one from its back in turns, until none is left.
 ///
-/// It requires that the table shows a sequence for the list. Each member is unlinked as it is dealt. Where a hand has no room
+/// It requires that the table represents a sequence for the list. Each member is unlinked as it is dealt. Where a hand has no room
 /// left and no memory to grow, those dealt so far are unlinked, and so is the one that the hand had no room for; the others
 /// stay linked. One step for each member, and memory for the hands alone.
 pub fn deal<T, L: LinkedListOps, A: Allocator>(
@@ -57,8 +56,8 @@ pub fn deal<T, L: LinkedListOps, A: Allocator>(
     fronts: &mut Vec<UnsafeRef<T>, A>,
     backs: &mut Vec<UnsafeRef<T>, A>,
 ) -> Result<(), AllocError>
-    requires shown { ShowsSome L.neighbors (L.table links.old) list }
-    ensures dealt { (s : List Place) → Shows L.neighbors (L.table links.old) list s
+    requires shown { RepresentsSome L.neighbors (L.table links.old) list }
+    ensures dealt { (s : List Place) → Represents L.neighbors (L.table links.old) list s
         → OnOk result (gained fronts.old.items fronts.new.items ++ reverse (gained backs.old.items backs.new.items) ≡ s) }
     ensures fronts_keep { Keeps fronts.old.items fronts.new.items }
     ensures backs_keep { Keeps backs.old.items backs.new.items }
@@ -70,10 +69,10 @@ pub fn deal<T, L: LinkedListOps, A: Allocator>(
     in_turns(list.into_iter(links), fronts, backs)
 }
 
-/// Shows the objects of a list to two hands, one from its front and one from its back in turns, until all are shown.
+/// Deals the objects of a list out to two hands, one from its front and one from its back in turns, until all are dealt.
 ///
-/// It requires that the table shows a sequence for the list, whose members are placed. Where a hand has no room left and no
-/// memory to grow, the hands have those shown so far. One step for each member, and memory for the hands alone.
+/// It requires that the table represents a sequence for the list, whose members are placed. Where a hand has no room left and no
+/// memory to grow, the hands have those represented so far. One step for each member, and memory for the hands alone.
 pub fn show<'a, T, L: LinkedListOps, A: Allocator, B: Allocator>(
     list: &LinkedList<T>,
     links: &'a L,
@@ -81,8 +80,8 @@ pub fn show<'a, T, L: LinkedListOps, A: Allocator, B: Allocator>(
     fronts: &mut Vec<&'a T, B>,
     backs: &mut Vec<&'a T, B>,
 ) -> Result<(), AllocError>
-    requires placed { ShowsPlaced (Shows L.neighbors (L.table links.now) list.now) objects.now }
-    ensures shows { (s : List Place) → Shows L.neighbors (L.table links.now) list.now s
+    requires placed { RepresentsPlaced (Represents L.neighbors (L.table links.now) list.now) objects.now }
+    ensures shows { (s : List Place) → Represents L.neighbors (L.table links.now) list.now s
         → OnOk result (map (λ x. x.now) (gained fronts.old.items fronts.new.items)
         ++ reverse (map (λ x. x.now) (gained backs.old.items backs.new.items)) ≡ values_at objects.now s) }
     ensures fronts_keep { Keeps fronts.old.items fronts.new.items }

@@ -6,11 +6,8 @@
 //! ```
 
 ghost use Rattle.std.specs.Prelude.{◌≡◌, ◌∷◌, List, [], OnOk, OnErr, IfErr};
-ghost use Rattle.ic_unsafe_ref.specs.declared.place.Place.{Place};
-ghost use Rattle.ic_link_ops.specs.Sequences.{insert, at_back};
-ghost use Rattle.ic_link_ops.specs.Tables.{IsCovered, KeepsBeside};
-ghost use Rattle.ic_link_ops.specs.LinkSteps.{acquires};
-ghost use Rattle.ic_link_ops.specs.LinkedList.{Shows, ShowsSome};
+ghost use Rattle.ic_link_ops.specs.Prelude.{Place, insert, at_back, IsCovered, ChangesOnlyIn, acquires};
+ghost use Rattle.ic_link_ops.specs.LinkedList.{Represents, RepresentsSome};
 
 use ic_link_ops::linked_list::LinkedListOps;
 use ic_link_ops::{AlreadyLinked, LinkOps};
@@ -37,7 +34,7 @@ impl<L: LinkOps> LinkOps for EitherTable<L> {
 
     ghost CanName = { L.CanName };
 
-    ghost Does = { Alike L.Does };
+    ghost Trace = { Alike L.Trace };
 
     ghost Refused = { Alike L.Refused };
 
@@ -61,11 +58,11 @@ impl<L: LinkOps> LinkOps for EitherTable<L> {
 
     ghost covered_has_name = { has_name L.table L.CanName L.covered_has_name };
 
-    ghost does_nothing = { nothing L.Does L.does_nothing };
+    ghost does_nothing = { nothing L.Trace L.does_nothing };
 
-    ghost does_on = { on L.Does L.does_on };
+    ghost does_on = { on L.Trace L.does_on };
 
-    ghost does_replay = { replay L.table L.linked L.Does L.does_replay };
+    ghost does_replay = { replay L.table L.linked L.Trace L.does_replay };
 
     ghost refused_keeps = { kept L.table L.Refused L.refused_keeps };
 }
@@ -113,7 +110,7 @@ impl<L: LinkedListOps> EitherTable<L> {
 
     /// Puts an unlinked object at the back of a list whose links this table has; it is the same one of the two then.
     ///
-    /// It requires that the table covers the object's place and shows a sequence for the list. A linked object comes back,
+    /// It requires that the table covers the object's place and represents a sequence for the list. A linked object comes back,
     /// and no entry has changed. O(1).
     pub fn push_back<T>(
         &mut self,
@@ -121,15 +118,15 @@ impl<L: LinkedListOps> EitherTable<L> {
         object: UnsafeRef<T>,
     ) -> Result<(), AlreadyLinked<T>>
         requires covered { IsCovered (one_of L.table self.old) object }
-        requires shown { ShowsSome L.neighbors (one_of L.table self.old) list.old }
+        requires shown { RepresentsSome L.neighbors (one_of L.table self.old) list.old }
         ensures same { variant self.new ≡ variant self.old }
-        ensures inserted { (s : List Place) → Shows L.neighbors (one_of L.table self.old) list.old s
-            → OnOk result (Shows L.neighbors (one_of L.table self.new) list.new (insert (at_back s) object)) }
-        ensures acquired { OnOk result (Alike L.Does self.old self.new (acquires object ∷ [])) }
+        ensures inserted { (s : List Place) → Represents L.neighbors (one_of L.table self.old) list.old s
+            → OnOk result (Represents L.neighbors (one_of L.table self.new) list.new (insert (at_back s) object)) }
+        ensures acquired { OnOk result (Alike L.Trace self.old self.new (acquires object ∷ [])) }
         ensures refused { OnErr result (Alike L.Refused self.old self.new object) }
         ensures unchanged { IfErr result (λ refused. (refused.0 ≡ object) × (list.new ≡ list.old)) }
-        ensures frame { (s : List Place) → Shows L.neighbors (one_of L.table self.old) list.old s
-            → KeepsBeside (one_of L.table self.old) (one_of L.table self.new) (object ∷ s) }
+        ensures frame { (s : List Place) → Represents L.neighbors (one_of L.table self.old) list.old s
+            → ChangesOnlyIn (one_of L.table self.old) (one_of L.table self.new) (object ∷ s) }
     {
         list.push_back(self, object)
     }

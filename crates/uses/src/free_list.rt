@@ -6,11 +6,8 @@
 //! ```
 
 ghost use Rattle.std.specs.Prelude.{◌≡◌, ◌∷◌, [], List, drop, Option, Some, OnOk, OnErr, IfOk, IfErr, IfSome, IfNone};
-ghost use Rattle.ic_unsafe_ref.specs.declared.place.Place.{Place};
-ghost use Rattle.ic_link_ops.specs.Sequences.{first, IsDisjoint};
-ghost use Rattle.ic_link_ops.specs.Tables.{IsCovered, KeepsBeside};
-ghost use Rattle.ic_link_ops.specs.LinkSteps.{acquires, releases};
-ghost use Rattle.ic_link_ops.specs.SinglyLinkedList.{Front, Shows, ShowsSome};
+ghost use Rattle.ic_link_ops.specs.Prelude.{Place, first, IsDisjoint, IsCovered, ChangesOnlyIn, acquires, releases};
+ghost use Rattle.ic_link_ops.specs.SinglyLinkedList.{Front, Represents, RepresentsSome};
 
 use ic_link_ops::singly_linked_list::SinglyLinkedListOps;
 use ic_link_ops::{AlreadyLinked, LinkOps};
@@ -19,7 +16,7 @@ use ic_unsafe_ref::{Place, UnsafeRef};
 
 /// Gives an object back, unless its link is refused: it is the first to be taken again. O(1), and it takes no memory.
 ///
-/// It requires that the object's place is covered, and that the table shows a sequence for the list. A refused object comes back, and
+/// It requires that the object's place is covered, and that the table represents a sequence for the list. A refused object comes back, and
 /// the list is as it was. No other list of the table changes.
 #[inline]
 pub fn give_back<T, L: SinglyLinkedListOps>(
@@ -28,39 +25,39 @@ pub fn give_back<T, L: SinglyLinkedListOps>(
     object: UnsafeRef<T>,
 ) -> Result<(), AlreadyLinked<T>>
     requires covered { IsCovered (L.table links.old) object }
-    requires shown { ShowsSome L.successor (L.table links.old) free.old }
-    ensures given { (s : List Place) → Shows L.successor (L.table links.old) free.old s
-        → OnOk result (Shows L.successor (L.table links.new) free.new (object ∷ s)) }
-    ensures acquired { OnOk result (L.Does links.old links.new (acquires object ∷ [])) }
+    requires shown { RepresentsSome L.successor (L.table links.old) free.old }
+    ensures given { (s : List Place) → Represents L.successor (L.table links.old) free.old s
+        → OnOk result (Represents L.successor (L.table links.new) free.new (object ∷ s)) }
+    ensures acquired { OnOk result (L.Trace links.old links.new (acquires object ∷ [])) }
     ensures refused { OnErr result (L.Refused links.old links.new object) }
     ensures unchanged { IfErr result (λ refused. (refused.0 ≡ object) × (free.new ≡ free.old)) }
-    ensures others { (s t : List Place) (other : Front) → Shows L.successor (L.table links.old) free.old s
-        → Shows L.successor (L.table links.old) other t → IsDisjoint t (object ∷ s) → Shows L.successor (L.table links.new) other t }
-    ensures frame { (s : List Place) → Shows L.successor (L.table links.old) free.old s
-        → KeepsBeside (L.table links.old) (L.table links.new) (object ∷ s) }
+    ensures others { (s t : List Place) (other : Front) → Represents L.successor (L.table links.old) free.old s
+        → Represents L.successor (L.table links.old) other t → IsDisjoint t (object ∷ s) → Represents L.successor (L.table links.new) other t }
+    ensures frame { (s : List Place) → Represents L.successor (L.table links.old) free.old s
+        → ChangesOnlyIn (L.table links.old) (L.table links.new) (object ∷ s) }
 {
     free.push_front(links, object)
 }
 
 /// Takes the object that was given back last, or `None` where there is none. O(1), and it takes no memory.
 ///
-/// It requires that the table shows a sequence for the list. Where there is none, nothing has changed. No other list of the table
+/// It requires that the table represents a sequence for the list. Where there is none, nothing has changed. No other list of the table
 /// changes.
 #[inline]
 pub fn take<T, L: SinglyLinkedListOps>(
     free: &mut SinglyLinkedList<T>,
     links: &mut L,
 ) -> Option<UnsafeRef<T>>
-    requires shown { ShowsSome L.successor (L.table links.old) free.old }
-    ensures latest { (s : List Place) → Shows L.successor (L.table links.old) free.old s → result ≡ first s }
-    ensures taken { (s : List Place) → Shows L.successor (L.table links.old) free.old s
-        → Shows L.successor (L.table links.new) free.new (drop 1 s) }
-    ensures released { IfSome result (λ object. L.Does links.old links.new (releases object ∷ [])) }
+    requires shown { RepresentsSome L.successor (L.table links.old) free.old }
+    ensures latest { (s : List Place) → Represents L.successor (L.table links.old) free.old s → result ≡ first s }
+    ensures taken { (s : List Place) → Represents L.successor (L.table links.old) free.old s
+        → Represents L.successor (L.table links.new) free.new (drop 1 s) }
+    ensures released { IfSome result (λ object. L.Trace links.old links.new (releases object ∷ [])) }
     ensures empty { IfNone result ((free.new ≡ free.old) × (links.new ≡ links.old)) }
-    ensures others { (s t : List Place) (other : Front) → Shows L.successor (L.table links.old) free.old s
-        → Shows L.successor (L.table links.old) other t → IsDisjoint t s → Shows L.successor (L.table links.new) other t }
-    ensures frame { (s : List Place) → Shows L.successor (L.table links.old) free.old s
-        → KeepsBeside (L.table links.old) (L.table links.new) s }
+    ensures others { (s t : List Place) (other : Front) → Represents L.successor (L.table links.old) free.old s
+        → Represents L.successor (L.table links.old) other t → IsDisjoint t s → Represents L.successor (L.table links.new) other t }
+    ensures frame { (s : List Place) → Represents L.successor (L.table links.old) free.old s
+        → ChangesOnlyIn (L.table links.old) (L.table links.new) s }
 {
     free.pop_front(links)
 }
@@ -74,15 +71,15 @@ pub fn give_and_take<T, L: SinglyLinkedListOps>(
     object: UnsafeRef<T>,
 ) -> Result<Option<UnsafeRef<T>>, AlreadyLinked<T>>
     requires covered { IsCovered (L.table links.old) object }
-    requires shown { ShowsSome L.successor (L.table links.old) free.old }
+    requires shown { RepresentsSome L.successor (L.table links.old) free.old }
     ensures same { IfOk result (λ taken. taken ≡ Some object) }
-    ensures sequence { (s : List Place) → Shows L.successor (L.table links.old) free.old s
-        → OnOk result (Shows L.successor (L.table links.new) free.new s) }
-    ensures steps { OnOk result (L.Does links.old links.new (acquires object ∷ releases object ∷ [])) }
+    ensures sequence { (s : List Place) → Represents L.successor (L.table links.old) free.old s
+        → OnOk result (Represents L.successor (L.table links.new) free.new s) }
+    ensures steps { OnOk result (L.Trace links.old links.new (acquires object ∷ releases object ∷ [])) }
     ensures refused { OnErr result (L.Refused links.old links.new object) }
     ensures unchanged { IfErr result (λ refused. (refused.0 ≡ object) × (free.new ≡ free.old)) }
-    ensures frame { (s : List Place) → Shows L.successor (L.table links.old) free.old s
-        → KeepsBeside (L.table links.old) (L.table links.new) (object ∷ s) }
+    ensures frame { (s : List Place) → Represents L.successor (L.table links.old) free.old s
+        → ChangesOnlyIn (L.table links.old) (L.table links.new) (object ∷ s) }
 {
     give_back(free, links, object)?;
     Ok(take(free, links))

@@ -7,11 +7,8 @@
 //! ```
 
 ghost use Rattle.std.specs.Prelude.{◌≡◌, ◌≢◌, ◌≤◌, ◌⊎◌, ℕ, max, Some, None, List, [], ◌∷◌, length, IfSome, IfNone};
-ghost use Rattle.ic_unsafe_ref.specs.declared.place.Place.{Place};
-ghost use Rattle.ic_unsafe_ref.specs.Places.{index_of};
-ghost use Rattle.ic_link_ops.specs.LinkSteps.{releases};
-ghost use Rattle.ic_link_ops.specs.LinkedList.{Shows, ShowsSome};
-ghost use Rattle.ic_link_ops.specs.PlacedObjects.{ShowsPlaced, values_at};
+ghost use Rattle.ic_link_ops.specs.Prelude.{Place, index_of, RepresentsPlaced, values_at, releases};
+ghost use Rattle.ic_link_ops.specs.LinkedList.{Represents, RepresentsSome};
 
 use ic_link_ops::linked_list::LinkedListOps;
 use ic_linked_list::LinkedList;
@@ -33,16 +30,16 @@ pub fn in_order(first: Place, second: Place) -> (Place, Place)
 
 /// The two objects of a list that has two, `None` where it has another number of them. O(1).
 ///
-/// It requires that the table shows a sequence for the list, whose members are placed.
+/// It requires that the table represents a sequence for the list, whose members are placed.
 pub fn both<'a, T, L: LinkedListOps, A: Allocator>(
     list: &LinkedList<T>,
     links: &'a L,
     objects: &'a Objects<T, A>,
 ) -> Option<(&'a T, &'a T)>
-    requires placed { ShowsPlaced (Shows L.neighbors (L.table links.now) list.now) objects.now }
-    ensures both { (s : List Place) → Shows L.neighbors (L.table links.now) list.now s
+    requires placed { RepresentsPlaced (Represents L.neighbors (L.table links.now) list.now) objects.now }
+    ensures both { (s : List Place) → Represents L.neighbors (L.table links.now) list.now s
         → IfSome result (λ pair. values_at objects.now s ≡ pair.0.now ∷ pair.1.now ∷ []) }
-    ensures none { (s : List Place) → Shows L.neighbors (L.table links.now) list.now s
+    ensures none { (s : List Place) → Represents L.neighbors (L.table links.now) list.now s
         → IfNone result (length (values_at objects.now s) ≢ 2) }
 {
     let mut walk = list.iter(links, objects);
@@ -62,10 +59,10 @@ pub fn larger<L: LinkedListOps>(
     links: &L,
     objects: &Objects<u64>,
 ) -> Option<u64>
-    requires placed { ShowsPlaced (Shows L.neighbors (L.table links.now) list.now) objects.now }
-    ensures larger { (s : List Place) (a b : ℕ) → Shows L.neighbors (L.table links.now) list.now s
+    requires placed { RepresentsPlaced (Represents L.neighbors (L.table links.now) list.now) objects.now }
+    ensures larger { (s : List Place) (a b : ℕ) → Represents L.neighbors (L.table links.now) list.now s
         → values_at objects.now s ≡ a ∷ b ∷ [] → result ≡ Some (max a b) }
-    ensures none { (s : List Place) → Shows L.neighbors (L.table links.now) list.now s
+    ensures none { (s : List Place) → Represents L.neighbors (L.table links.now) list.now s
         → length (values_at objects.now s) ≢ 2 → result ≡ None }
 {
     let (first, second) = both(list, links, objects)?;
@@ -74,17 +71,17 @@ pub fn larger<L: LinkedListOps>(
 
 /// Takes the two members of a list that has two off it, `None` where it has another number of them. O(1).
 ///
-/// It requires that the table shows a sequence for the list. Of a list with another number of members those that came off,
+/// It requires that the table represents a sequence for the list. Of a list with another number of members those that came off,
 /// three at most, are unlinked, and the others stay linked.
 pub fn take_both<T, L: LinkedListOps>(
     list: LinkedList<T>,
     links: &mut L,
 ) -> Option<(UnsafeRef<T>, UnsafeRef<T>)>
-    requires shown { ShowsSome L.neighbors (L.table links.old) list }
-    ensures both { (s : List Place) → Shows L.neighbors (L.table links.old) list s
+    requires shown { RepresentsSome L.neighbors (L.table links.old) list }
+    ensures both { (s : List Place) → Represents L.neighbors (L.table links.old) list s
         → IfSome result (λ pair. s ≡ pair.0 ∷ pair.1 ∷ []) }
-    ensures none { (s : List Place) → Shows L.neighbors (L.table links.old) list s → IfNone result (length s ≢ 2) }
-    ensures released { IfSome result (λ pair. L.Does links.old links.new (releases pair.0 ∷ releases pair.1 ∷ [])) }
+    ensures none { (s : List Place) → Represents L.neighbors (L.table links.old) list s → IfNone result (length s ≢ 2) }
+    ensures released { IfSome result (λ pair. L.Trace links.old links.new (releases pair.0 ∷ releases pair.1 ∷ [])) }
 {
     let mut rest = list.into_iter(links);
     let first = rest.next()?;

@@ -6,12 +6,9 @@
 //! ```
 
 ghost use Rattle.std.specs.Prelude.{◌≡◌, List, [], ◌∷◌, ◌++◌, IfSome, IfNone, OnOk, OnErr, IfErr};
-ghost use Rattle.ic_unsafe_ref.specs.declared.place.Place.{Place};
-ghost use Rattle.ic_link_ops.specs.Sequences.{first, insert, remove, at_front, at_back};
+ghost use Rattle.ic_link_ops.specs.Prelude.{Place, first, insert, remove, at_front, at_back, IsCovered, releases_each};
 ghost use Rattle.ic_link_ops.specs.Chains.{no_members};
-ghost use Rattle.ic_link_ops.specs.Tables.{IsCovered};
-ghost use Rattle.ic_link_ops.specs.LinkedList.{Shows, ShowsSome};
-ghost use Rattle.ic_link_ops.specs.LinkSteps.{releases_each};
+ghost use Rattle.ic_link_ops.specs.LinkedList.{Represents, RepresentsSome};
 ghost use Rattle.uses.specs.Notes.{noted};
 ghost use Rattle.uses.specs.declared.recorded_table.Note.{Note};
 ghost use Rattle.uses.specs.declared.recorded_table.Note.TheVariants.{Acquired, Refused, Released};
@@ -61,7 +58,7 @@ impl<L: LinkOps, R: Recorder> LinkOps for RecordedTable<L, R> {
 
     ghost CanName = { L.CanName };
 
-    ghost Does = { λ old new s. L.Does old.links new.links s
+    ghost Trace = { λ old new s. L.Trace old.links new.links s
         × (R.notes new.recorder ≡ R.notes old.recorder ++ noted s) };
 
     ghost Refused = { λ old new p. L.Refused old.links new.links p
@@ -137,12 +134,12 @@ impl<L: LinkedListOps, R: Recorder> RecordedTable<L, R> {
 
     /// Takes the first object off a list: one note is added, that this object was released. `None` adds none. O(1).
     ///
-    /// It requires that the table shows a sequence for the list.
+    /// It requires that the table represents a sequence for the list.
     pub fn pop_front<T>(&mut self, list: &mut LinkedList<T>) -> Option<UnsafeRef<T>>
-        requires shown { ShowsSome L.neighbors (L.table (links_of self.old)) list.old }
-        ensures answer { (s : List Place) → Shows L.neighbors (L.table (links_of self.old)) list.old s → result ≡ first s }
-        ensures removed { (s : List Place) → Shows L.neighbors (L.table (links_of self.old)) list.old s
-            → Shows L.neighbors (L.table (links_of self.new)) list.new (remove (at_front s)) }
+        requires shown { RepresentsSome L.neighbors (L.table (links_of self.old)) list.old }
+        ensures answer { (s : List Place) → Represents L.neighbors (L.table (links_of self.old)) list.old s → result ≡ first s }
+        ensures removed { (s : List Place) → Represents L.neighbors (L.table (links_of self.old)) list.old s
+            → Represents L.neighbors (L.table (links_of self.new)) list.new (remove (at_front s)) }
         ensures noted { IfSome result (λ object.
             notes_of R.notes self.new ≡ notes_of R.notes self.old ++ Released object ∷ []) }
         ensures empty { IfNone result ((list.new ≡ list.old) × (self.new ≡ self.old)) }
@@ -152,16 +149,16 @@ impl<L: LinkedListOps, R: Recorder> RecordedTable<L, R> {
 
     /// Puts an object at the back of a list: one note is added, that it was acquired, or that it was refused. O(1).
     ///
-    /// It requires that the table covers the object's place and shows a sequence for the list.
+    /// It requires that the table covers the object's place and represents a sequence for the list.
     pub fn push_back<T>(
         &mut self,
         list: &mut LinkedList<T>,
         object: UnsafeRef<T>,
     ) -> Result<(), AlreadyLinked<T>>
         requires covered { IsCovered (L.table (links_of self.old)) object }
-        requires shown { ShowsSome L.neighbors (L.table (links_of self.old)) list.old }
-        ensures inserted { (s : List Place) → Shows L.neighbors (L.table (links_of self.old)) list.old s
-            → OnOk result (Shows L.neighbors (L.table (links_of self.new)) list.new (insert (at_back s) object)) }
+        requires shown { RepresentsSome L.neighbors (L.table (links_of self.old)) list.old }
+        ensures inserted { (s : List Place) → Represents L.neighbors (L.table (links_of self.old)) list.old s
+            → OnOk result (Represents L.neighbors (L.table (links_of self.new)) list.new (insert (at_back s) object)) }
         ensures noted { OnOk result (notes_of R.notes self.new ≡ notes_of R.notes self.old ++ Acquired object ∷ []) }
         ensures refused { OnErr result (L.Refused (links_of self.old) (links_of self.new) object
             × (notes_of R.notes self.new ≡ notes_of R.notes self.old ++ Refused object ∷ [])) }
@@ -172,13 +169,13 @@ impl<L: LinkedListOps, R: Recorder> RecordedTable<L, R> {
 
     /// Clears a list: each member is noted as released, in order, and nothing else is. One step for each member.
     ///
-    /// It requires that the table shows a sequence for the list.
+    /// It requires that the table represents a sequence for the list.
     pub fn clear<T>(&mut self, list: &mut LinkedList<T>)
-        requires shown { ShowsSome L.neighbors (L.table (links_of self.old)) list.old }
+        requires shown { RepresentsSome L.neighbors (L.table (links_of self.old)) list.old }
         ensures empty { list.new ≡ no_members }
-        ensures released { (s : List Place) → Shows L.neighbors (L.table (links_of self.old)) list.old s
-            → L.Does (links_of self.old) (links_of self.new) (releases_each s) }
-        ensures noted { (s : List Place) → Shows L.neighbors (L.table (links_of self.old)) list.old s
+        ensures released { (s : List Place) → Represents L.neighbors (L.table (links_of self.old)) list.old s
+            → L.Trace (links_of self.old) (links_of self.new) (releases_each s) }
+        ensures noted { (s : List Place) → Represents L.neighbors (L.table (links_of self.old)) list.old s
             → notes_of R.notes self.new ≡ notes_of R.notes self.old ++ noted (releases_each s) }
     {
         list.clear(self);

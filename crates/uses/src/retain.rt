@@ -6,11 +6,8 @@
 
 ghost use Rattle.std.specs.Prelude.{List};
 ghost use Rattle.std.specs.Fn.{FnReturnsAt};
-ghost use Rattle.ic_unsafe_ref.specs.declared.place.Place.{Place};
-ghost use Rattle.ic_link_ops.specs.Tables.{KeepsBeside};
-ghost use Rattle.ic_link_ops.specs.LinkSteps.{releases_each};
-ghost use Rattle.ic_link_ops.specs.LinkedList.{Shows};
-ghost use Rattle.ic_link_ops.specs.PlacedObjects.{ShowsPlaced};
+ghost use Rattle.ic_link_ops.specs.Prelude.{Place, ChangesOnlyIn, RepresentsPlaced, releases_each};
+ghost use Rattle.ic_link_ops.specs.LinkedList.{Represents};
 ghost use Rattle.uses.specs.Retain.{Parts, TellsOf};
 
 use ic_link_ops::linked_list::LinkedListOps;
@@ -20,7 +17,7 @@ use std::alloc::Allocator;
 
 /// Takes off each member whose object fails the test. The others stay, in their order.
 ///
-/// It requires that the table shows a sequence for the list, whose members are placed. The test is asked once for each member,
+/// It requires that the table represents a sequence for the list, whose members are placed. The test is asked once for each member,
 /// from the front. What was taken off is unlinked, and stays placed. One step for each member, and no memory.
 pub fn retain<T, L: LinkedListOps, A: Allocator, F: Fn(&T) -> bool>(
     list: &mut LinkedList<T>,
@@ -28,13 +25,13 @@ pub fn retain<T, L: LinkedListOps, A: Allocator, F: Fn(&T) -> bool>(
     objects: &Objects<T, A>,
     keeps: F,
 )
-    requires placed { ShowsPlaced (Shows L.neighbors (L.table links.old) list.old) objects.now }
+    requires placed { RepresentsPlaced (Represents L.neighbors (L.table links.old) list.old) objects.now }
     requires callable { F.IsAlwaysCallable keeps }
-    ensures retained { (s : List Place) → Shows L.neighbors (L.table links.old) list.old s → (kept gone : List Place)
+    ensures retained { (s : List Place) → Represents L.neighbors (L.table links.old) list.old s → (kept gone : List Place)
         × Parts (TellsOf objects.now (FnReturnsAt F.Fn keeps)) s kept gone
-        × Shows L.neighbors (L.table links.new) list.new kept × L.Does links.old links.new (releases_each gone) }
-    ensures frame { (s : List Place) → Shows L.neighbors (L.table links.old) list.old s
-        → KeepsBeside (L.table links.old) (L.table links.new) s }
+        × Represents L.neighbors (L.table links.new) list.new kept × L.Trace links.old links.new (releases_each gone) }
+    ensures frame { (s : List Place) → Represents L.neighbors (L.table links.old) list.old s
+        → ChangesOnlyIn (L.table links.old) (L.table links.new) s }
 {
     let mut cursor = list.front_mut(links);
     while let Some(object) = cursor.get(objects) {

@@ -1,4 +1,4 @@
-//! A ring of nodes that share out keys by consistent hashing: a key belongs to the first node at its hash or above it. Behind the
+//! A ring of nodes that share out keys by consistent hashing: a key belongs to the first node at its hash or above it. After the
 //! last node the ring goes on with the first.
 //!
 //! ```text
@@ -10,14 +10,12 @@
 //! Each call takes the ring and returns a hand: a cursor that keeps the ring, and stands on a node.
 
 ghost use Rattle.std.specs.Prelude.{◌≡◌, List, filter};
-ghost use Rattle.ic_unsafe_ref.specs.declared.place.Place.{Place};
-ghost use Rattle.ic_link_ops.specs.Sequences.{first};
-ghost use Rattle.ic_link_ops.specs.Positions.{site, Stands};
+ghost use Rattle.ic_link_ops.specs.Prelude.{Place, first, site, IsValidCursor};
 ghost use Rattle.ic_link_ops.specs.EditsAt.{RemovesThere};
-ghost use Rattle.ic_link_ops.specs.RedBlackTree.{Shows};
+ghost use Rattle.ic_link_ops.specs.RedBlackTree.{Represents};
 ghost use Rattle.ic_rbtree.specs.CursorOwning.{tree_of, position, site_of};
 ghost use Rattle.ic_rbtree.specs.Tree.{root_of};
-ghost use Rattle.ic_rbtree.specs.SortedObjects.{ShowsSorted};
+ghost use Rattle.ic_rbtree.specs.SortedObjects.{RepresentsSorted};
 ghost use Rattle.uses.specs.Ring.{point, is_from, is_at, is_below, first_round, last_round};
 
 use ic_link_ops::LinkOps;
@@ -34,7 +32,7 @@ pub struct Node {
     pub server: u64,
 }
 
-/// Nodes stand by their points.
+/// NodeStore stand by their points.
 #[derive(Copy, Clone)]
 pub struct ByPoint;
 
@@ -60,11 +58,11 @@ pub fn owner_of<L: RBTreeOps>(
     objects: &Objects<Node>,
     hash: u64,
 ) -> CursorOwning<ByPoint>
-    requires ring { ShowsSorted point (Shows L.node (L.table links.now) (root_of ring)) objects.now }
+    requires ring { RepresentsSorted point (Represents L.node (L.table links.now) (root_of ring)) objects.now }
     ensures ring { tree_of result ≡ ring }
-    ensures owner { (s : List Place) → Shows L.node (L.table links.now) (root_of ring) s
+    ensures owner { (s : List Place) → Represents L.node (L.table links.now) (root_of ring) s
         → position result ≡ first_round (is_from objects.now hash) s }
-    ensures stands { Stands (Shows L.node) L.table (site_of links.now result) }
+    ensures stands { IsValidCursor (Represents L.node) L.table (site_of links.now result) }
 {
     let mut hand = ring.lower_bound_owning(links, objects, Bound::Included(&hash));
     if hand.get_ptr().is_some() {
@@ -74,7 +72,7 @@ pub fn owner_of<L: RBTreeOps>(
     hand
 }
 
-/// The ring, with a hand on the node in front of this hash, null in an empty ring. O(log n).
+/// The ring, with a hand on the node before this hash, null in an empty ring. O(log n).
 ///
 /// A node that joins at the hash gets the keys between the two. It requires what [`owner_of`] requires.
 pub fn node_before<L: RBTreeOps>(
@@ -83,11 +81,11 @@ pub fn node_before<L: RBTreeOps>(
     objects: &Objects<Node>,
     hash: u64,
 ) -> CursorOwning<ByPoint>
-    requires ring { ShowsSorted point (Shows L.node (L.table links.now) (root_of ring)) objects.now }
+    requires ring { RepresentsSorted point (Represents L.node (L.table links.now) (root_of ring)) objects.now }
     ensures ring { tree_of result ≡ ring }
-    ensures node { (s : List Place) → Shows L.node (L.table links.now) (root_of ring) s
+    ensures node { (s : List Place) → Represents L.node (L.table links.now) (root_of ring) s
         → position result ≡ last_round (is_below objects.now hash) s }
-    ensures stands { Stands (Shows L.node) L.table (site_of links.now result) }
+    ensures stands { IsValidCursor (Represents L.node) L.table (site_of links.now result) }
 {
     let mut hand = ring.upper_bound_owning(links, objects, Bound::Excluded(&hash));
     if hand.get_ptr().is_some() {
@@ -99,7 +97,7 @@ pub fn node_before<L: RBTreeOps>(
 
 /// Takes the first node at this hash off the ring, and returns it with the ring. O(log n).
 ///
-/// It requires what [`owner_of`] requires. The node is unlinked then, and stays placed. The hand is on the node behind it, which
+/// It requires what [`owner_of`] requires. The node is unlinked then, and stays placed. The hand is on the node after it, which
 /// gets its keys; it is null if it was the last. `None`: no node is there, the hand is null, and nothing has changed.
 pub fn leave<L: RBTreeOps>(
     ring: RBTree<ByPoint>,
@@ -107,10 +105,10 @@ pub fn leave<L: RBTreeOps>(
     objects: &Objects<Node>,
     hash: u64,
 ) -> (Option<UnsafeRef<Node>>, CursorOwning<ByPoint>)
-    requires ring { ShowsSorted point (Shows L.node (L.table links.old) (root_of ring)) objects.now }
-    ensures ring { ShowsSorted point (Shows L.node (L.table links.new) (root_of (tree_of result.1))) objects.now }
-    ensures left { (s : List Place) → Shows L.node (L.table links.old) (root_of ring) s
-        → RemovesThere (Shows L.node) L.table L.Does (site links.old (root_of ring) (first (filter (is_at objects.now hash) s)))
+    requires ring { RepresentsSorted point (Represents L.node (L.table links.old) (root_of ring)) objects.now }
+    ensures ring { RepresentsSorted point (Represents L.node (L.table links.new) (root_of (tree_of result.1))) objects.now }
+    ensures left { (s : List Place) → Represents L.node (L.table links.old) (root_of ring) s
+        → RemovesThere (Represents L.node) L.table L.Trace (site links.old (root_of ring) (first (filter (is_at objects.now hash) s)))
         result.0 (site_of links.new result.1) }
 {
     let mut hand = ring.find_owning(&*links, objects, &hash);

@@ -7,10 +7,8 @@
 
 ghost use Rattle.std.specs.Prelude.{◌≡◌, ◌++◌, ◌∷◌, [], List};
 ghost use Rattle.std.specs.Bool.{OnTrue, OnFalse};
-ghost use Rattle.ic_unsafe_ref.specs.declared.place.Place.{Place};
+ghost use Rattle.ic_link_ops.specs.Prelude.{Place, Cut, join, insert, IsCovered};
 ghost use Rattle.ic_link_ops.specs.DoublyEntries.{plain_table};
-ghost use Rattle.ic_link_ops.specs.Sequences.{Cut, join, insert};
-ghost use Rattle.ic_link_ops.specs.Tables.{IsCovered};
 ghost use Rattle.ic_atomic.specs.declared.step.Step.TheVariants.{Release};
 ghost use Rattle.ic_atomic.specs.AtomicLinks.{claims_of, record_in, links_of};
 ghost use Rattle.ic_atomic.specs.Records.{event, holds};

@@ -1,10 +1,8 @@
 //! What the tests stand on: tables of a few places, objects, and the comparison of places.
 
 ghost use Rattle.std.specs.Prelude.{◌≡◌, true};
-ghost use Rattle.ic_unsafe_ref.specs.Places.{index_of};
-ghost use Rattle.ic_unsafe_ref.specs.Objects.{is_placed};
+ghost use Rattle.ic_link_ops.specs.Prelude.{index_of, is_placed, IsCovered};
 ghost use Rattle.ic_link_ops.specs.PlainTables.{table};
-ghost use Rattle.ic_link_ops.specs.Tables.{IsCovered};
 ghost use Rattle.ic_link_ops.specs.DoublyEntries.{plain_table};
 
 use ic_link_ops::linked_list::LinkOps;

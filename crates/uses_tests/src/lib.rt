@@ -4,6 +4,8 @@
 #[cfg(test)]
 mod book;
 #[cfg(test)]
+mod by_hash;
+#[cfg(test)]
 mod cache;
 #[cfg(test)]
 mod fixtures;

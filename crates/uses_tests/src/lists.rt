@@ -1,7 +1,7 @@
 //! The first steps, a free list, pairs, walks, and tables of a caller's own, over tables of a few places.
 
-ghost use Rattle.ic_link_ops.specs.DoublyEntries.{PlainShows};
-ghost use Rattle.ic_link_ops.specs.PlacedObjects.{ShowsPlaced};
+ghost use Rattle.ic_link_ops.specs.DoublyEntries.{PlainRepresents};
+ghost use Rattle.ic_link_ops.specs.PlacedObjects.{RepresentsPlaced};
 
 use crate::fixtures::{
     MEMORY, UNLINKED, check, covering, index, index_of_object, object, placed, two,
@@ -70,14 +70,14 @@ fn two_members_come_off_a_table_that_is_one_of_two(rt: HostRuntime) {
     );
 }
 
-// So many of the objects, one behind the other.
+// So many of the objects, one after the other.
 fn linked(
     rt: &impl Abort,
     links: &mut LinkOps,
     objects: &Objects<u64>,
     members: usize,
 ) -> LinkedList<u64>
-    ensures members { ShowsPlaced (PlainShows links.new result) objects.now }
+    ensures members { RepresentsPlaced (PlainRepresents links.new result) objects.now }
 {
     let mut list = LinkedList::new();
     for index in 0..members {
@@ -131,6 +131,24 @@ fn link_steps_are_noted(rt: HostRuntime) {
         &rt,
         index_of_object(taken) == 2 && notes[0] == Note::Acquired(place),
     );
+    check(
+        &rt,
+        notes.len() == 2 && notes.last() == Some(&Note::Released(place)),
+    );
+}
+
+#[test]
+fn a_cleared_list_is_noted(rt: HostRuntime) {
+    let (table, first, _) = two(&rt, rt.alloc());
+    let place = first.place();
+    let log = Log {
+        rt: &rt,
+        notes: Vec::new(rt.alloc()),
+    };
+    let (mut list, mut links) = (LinkedList::new(), RecordedTable::new(table, log));
+    links.push_back(&mut list, first).expect(&rt, UNLINKED);
+    links.clear(&mut list);
+    let notes = &links.recorder().notes;
     check(
         &rt,
         notes.len() == 2 && notes.last() == Some(&Note::Released(place)),

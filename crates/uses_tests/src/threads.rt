@@ -1,9 +1,8 @@
 //! Threads that claim places, a job that is given up, and a log of claims.
 
 ghost use Rattle.std.specs.Prelude.{◌≡◌, ◌≤◌, [], All};
-ghost use Rattle.ic_unsafe_ref.specs.declared.place.Place.{Place};
+ghost use Rattle.ic_link_ops.specs.Prelude.{Place, IsUnlinked};
 ghost use Rattle.ic_link_ops.specs.DoublyEntries.{is_linked, plain_table};
-ghost use Rattle.ic_link_ops.specs.Tables.{IsUnlinked};
 ghost use Rattle.ic_atomic.specs.AtomicLinks.{links_of};
 ghost use Rattle.ic_atomic.specs.Holders.{places_of, record_of, IsOf};
 
@@ -102,9 +101,9 @@ fn a_log_is_right_or_not(rt: HostRuntime) {
         (0, Step::Release(first)),
         (1, Step::Claim(first)),
     ];
-    let told = [true, false, false, true, true];
-    let refused = is_right(&short, &mut core, &calls, &told);
-    let right = is_right(&short, &mut core, &calls, &told);
+    let answered = [true, false, false, true, true];
+    let refused = is_right(&short, &mut core, &calls, &answered);
+    let right = is_right(&short, &mut core, &calls, &answered);
     let wrong = is_right(&short, &mut core, &[(0, Step::Claim(first))], &[true]);
     check(
         &rt,

@@ -58,7 +58,7 @@ fn the_earliest_timer_is_taken_first(rt: HostRuntime) {
     );
 }
 
-// Nodes at 70, 10 and 40.
+// NodeStore at 70, 10 and 40.
 const NODES: [Node; 3] = [
     Node {
         point: 70,
@@ -74,7 +74,7 @@ const NODES: [Node; 3] = [
     },
 ];
 
-// Hashes, the places of the nodes that their keys belong to, and those of the nodes in front of them.
+// Hashes, the places of the nodes that their keys belong to, and those of the nodes before them.
 const OWNERS: [(u64, usize, usize); 8] = [
     (0, 1, 0),
     (10, 1, 0),

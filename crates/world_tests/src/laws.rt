@@ -2,18 +2,16 @@
 
 ghost use Rattle.std.specs.Prelude.{◌≡◌, ◌≢◌, ◌≤◌, ◌++◌, [], ◌∷◌, List, true, Some, IfSome, IsTrue, length};
 ghost use Rattle.std.specs.FinSet as set;
-ghost use Rattle.ic_unsafe_ref.specs.declared.place.Place.{Place as AnyPlace};
-ghost use Rattle.ic_unsafe_ref.specs.Places.{index_of};
-ghost use Rattle.ic_link_ops.specs.Sequences.{IsDisjoint};
+ghost use Rattle.ic_link_ops.specs.Prelude.{Place as AnyPlace, index_of, ArePlaced, IsDisjoint};
 ghost use Rattle.ic_world.specs.Answers.{reply_in};
-ghost use Rattle.ic_world.specs.Family.{Sequence, collection as collection_of, linked_of};
+ghost use Rattle.ic_world.specs.Family.{Sequence, collection as collection_of, linked_of, objects_of};
 ghost use Rattle.ic_world.specs.Step.{Step};
-ghost use Rattle.ic_world_laws.specs.Entered.{StandsFor};
+ghost use Rattle.ic_world_laws.specs.InsertionOrder.{KeepsInsertionOrder};
 
 use ic_program::OwnKey;
 use ic_rbtree::KeyAdapter;
 use ic_unsafe_ref::Place;
-use ic_world::{Answer, Command, Kind, Refusal, World};
+use ic_world::{Answer, Call, Command, Gap, Insertion, Kind, Refusal, Search, World};
 use std::alloc::Allocator;
 
 /// Makes a call, and where it is refused once more, as if the first had not been made.
@@ -32,7 +30,7 @@ where
     }
 }
 
-/// Puts an object behind all members of a list. `true`: it was linked in the list's field already, and all is as it was.
+/// Puts an object after all members of a list. `true`: it was linked in the list's field already, and all is as it was.
 fn was_linked<A: KeyAdapter, M: Allocator + Copy>(
     world: &mut World<A, M>,
     collection: usize,
@@ -45,13 +43,13 @@ where
         → set.contains (linked_of world.old s.field) (index_of object) ≡ true }
     ensures unchanged { IsTrue result → world.new ≡ world.old }
 {
-    match ic_world_laws::answer(world, Command::PushBack(collection, object)) {
+    match ic_world_laws::answer(world, Command::On(collection, Call::Put(Gap::Back, object))) {
         Answer::Refused(Refusal::AlreadyLinked) => true,
         _ => false,
     }
 }
 
-/// Puts an object into a tree by its key. `true`: it stands behind all of its key that were inserted before.
+/// Puts an object into a tree by its key. `true`: it stands after all of its key that were inserted before.
 fn put_last<A: KeyAdapter, M: Allocator + Copy>(
     world: &mut World<A, M>,
     tree: usize,
@@ -60,10 +58,13 @@ fn put_last<A: KeyAdapter, M: Allocator + Copy>(
 where
     A::Value: Copy,
     A::Key: Copy,
-    ensures { IsTrue result → (entered : List AnyPlace) → StandsFor A.Key.cmp A.key_of world.old tree entered
-        → StandsFor A.Key.cmp A.key_of world.new tree (entered ++ object ∷ []) }
+    ensures { IsTrue result → (insertion_order : List AnyPlace) → KeepsInsertionOrder A.Key.cmp A.key_of world.old tree insertion_order
+        → KeepsInsertionOrder A.Key.cmp A.key_of world.new tree (insertion_order ++ object ∷ []) }
 {
-    match ic_world_laws::answer(world, Command::Insert(tree, object)) {
+    match ic_world_laws::answer(
+        world,
+        Command::On(tree, Call::Insertion(Insertion::Insert(object))),
+    ) {
         Answer::Looked(_) => true,
         _ => false,
     }
@@ -80,14 +81,17 @@ where
     A::Key: Copy,
     ensures { (s : Sequence) → collection_of world.old collection ≡ Some s → length s.members ≤ 3 → IfSome result (λ looks. looks ≤ 4) }
 {
-    match ic_world_laws::answer(world, Command::Find(collection, key)) {
+    match ic_world_laws::answer(
+        world,
+        Command::On(collection, Call::Search(Search::Find(key))),
+    ) {
         Answer::Found(_, looks) => Some(looks),
         _ => None,
     }
 }
 
 /// The members of two collections: of one field, they share none.
-fn both_shown<A: KeyAdapter, M: Allocator + Copy>(
+fn both_represented<A: KeyAdapter, M: Allocator + Copy>(
     world: &World<A, M>,
     first: usize,
     second: usize,
@@ -100,6 +104,33 @@ fn both_shown<A: KeyAdapter, M: Allocator + Copy>(
         (Ok(front), Ok(back)) => Some((front, back)),
         _ => None,
     }
+}
+
+/// The members of a collection, at each of which an object stands.
+fn members_placed<A: KeyAdapter, M: Allocator + Copy>(
+    world: &World<A, M>,
+    collection: usize,
+) -> Option<Vec<Place, M>>
+    ensures { (s : Sequence) → collection_of world.now collection ≡ Some s
+        → IfSome result (λ shown. ArePlaced (objects_of world.now) shown.items) }
+{
+    world.every_member_is_placed();
+    match world.show(collection) {
+        Ok(shown) => Some(shown),
+        Err(_) => None,
+    }
+}
+
+// Whether the tree's members have the values from 0 on, in this order.
+fn has_values_from_0(world: &World<OwnKey>, tree: usize) -> bool {
+    let Some(members) = members_placed(world, tree) else {
+        return false;
+    };
+    let mut as_wanted = true;
+    for (value, place) in (0..).zip(members.iter()) {
+        as_wanted &= world.objects().get(*place) == Some(&value);
+    }
+    as_wanted
 }
 
 // The first thing that is not as it should be in a new world, to which come three objects, a tree and a list. Nothing: the empty text.
@@ -129,7 +160,10 @@ fn first_wrong(world: &mut World<OwnKey>) -> &'static str {
     let Some(2) = looks_of_find(world, keyed, 1) else {
         return "a find of the root";
     };
-    match both_shown(world, keyed, list) {
+    if !has_values_from_0(world, keyed) {
+        return "the values";
+    }
+    match both_represented(world, keyed, list) {
         Some((members, others)) if members.len() == 3 && others.is_empty() => "",
         _ => "what is shown",
     }

@@ -1,5 +1,5 @@
-//! What no session of the program shows: faults of reading and writing, the texts of all refusals, lists of commands one behind the
-//! other, laws at work, what is known after any list of calls, and a key adapter.
+//! What no session of the program shows: faults of reading and writing, the texts of all refusals, lists of commands one after the
+//! other, laws at work, what is known after any list of calls, a key adapter, calls by their methods, and tables of each kind.
 #![tactic(auto)]
 
 #[cfg(test)]
@@ -7,9 +7,13 @@ mod faults;
 #[cfg(test)]
 mod keys;
 #[cfg(test)]
+mod kinds;
+#[cfg(test)]
 mod laws;
 #[cfg(test)]
 mod listed;
+#[cfg(test)]
+mod methods;
 #[cfg(test)]
 mod runs;
 #[cfg(test)]

@@ -1,11 +1,10 @@
-//! Commands that a world runs as lists, one list behind the other, with requests for memory refused.
+//! Commands that a world runs as lists, one list after the other, with requests for memory refused.
 
-use ic_program::{Line, OwnKey};
+use ic_program::{Line, OwnKey, push_answer};
 use ic_test_support::rationed::Rationed;
 use ic_unsafe_ref::Place;
 use ic_world::{Answer, Command, Refusal, World};
 use std::alloc::{Allocator, Global};
-use std::fmt::Write;
 
 // The request to refuse where none is.
 const NONE: u64 = u64::MAX;
@@ -18,15 +17,15 @@ field doubly; open 0 doubly; place 1; place 2; place 3; push_front 0 0; show 0; 
 pop_front 0; show 0; pop_back 0; show 0; pop_front 0; show 0; pop_front 0; pop_back 0; take 0";
 
 const ANSWERS: &str = "\
-field 0; collection 0; object 0; object 1; object 2; ok; items 0; ok; items 1 0; ok; items 1 0 2; object 1; items 0 2; object 2; \
-items 0; object 0; items; none; none; collection 1; ";
+field 0\ncollection 0\nobject 0\nobject 1\nobject 2\nok\nitems 0\nok\nitems 1 0\nok\nitems 1 0 2\nobject 1\nitems 0 2\nobject 2\n\
+items 0\nobject 0\nitems\nnone\nnone\ncollection 1\n";
 
 // The first request of a run is for its answers: refused it refuses the run, which has changed nothing then.
 const LISTS: &[List] = &[
     (0, COMMANDS, "no memory"),
     (NONE, COMMANDS, ANSWERS),
     (0, "push_back 1 0", "no memory"),
-    (NONE, "show 0; show 1", "items; items; "),
+    (NONE, "show 0; show 1", "items\nitems\n"),
     (0, "", ""),
 ];
 
@@ -41,13 +40,13 @@ pub(crate) fn commands_in(alloc: Global, text: &str) -> Vec<Command<u64, u64>> {
     commands
 }
 
-// The answers as a text, as far as there is memory for it.
-pub(crate) fn text_of<M: Allocator>(alloc: Global, answers: &[Answer<M>]) -> String {
-    let mut text = String::new(alloc);
+// The lines of the answers, as far as there is memory for them.
+pub(crate) fn lines_of<M: Allocator>(alloc: Global, answers: &[Answer<M>]) -> Vec<u8> {
+    let mut lines = Vec::new(alloc);
     for answer in answers {
-        let _ = write!(text, "{answer}; ");
+        let _ = push_answer(&mut lines, answer);
     }
-    text
+    lines
 }
 
 // Whether the world answers the list so.
@@ -64,12 +63,12 @@ fn is_answered<'r>(
     let ran = world.run(&commands, &mut answers);
     rationed.refuse(NONE);
     match ran {
-        Ok(()) => text_of(alloc, &answers).as_str() == wanted,
+        Ok(()) => lines_of(alloc, &answers).as_slice() == wanted.as_bytes(),
         Err(_) => answers.is_empty() && wanted == "no memory",
     }
 }
 
-// Whether the lists are, one behind the other.
+// Whether the lists are, one after the other.
 fn are_answered<'r>(
     alloc: Global,
     rationed: &'r Rationed,

@@ -4,9 +4,9 @@ ghost use Rattle.std.specs.Prelude.{List, map as map_list, IfSome};
 ghost use Rattle.ic_unsafe_ref.specs.declared.place.Place.{Place as AnyPlace};
 ghost use Rattle.ic_world.specs.Answers.{reply_in};
 ghost use Rattle.ic_world.specs.Apart.{AreApart};
-ghost use Rattle.ic_world_laws.specs.Entered.{StandsFor, IsInOrderOf, AreOrderly, entered_over};
+ghost use Rattle.ic_world_laws.specs.InsertionOrder.{KeepsInsertionOrder, IsInOrderOf, AreOrderly, insertion_order_over};
 
-use crate::listed::{commands_in, text_of};
+use crate::listed::{commands_in, lines_of};
 use ic_program::OwnKey;
 use ic_rbtree::KeyAdapter;
 use ic_unsafe_ref::Place;
@@ -15,7 +15,7 @@ use std::alloc::{Allocator, Global};
 
 /// Makes any calls, and returns their answers and what a tree shows then: where they are orderly for it, it is sorted, and its equal keys
 /// stand in the order of their insertion.
-fn shown_after<A: KeyAdapter, M: Allocator + Copy>(
+fn represented_after<A: KeyAdapter, M: Allocator + Copy>(
     alloc: M,
     world: &mut World<A, M>,
     commands: &[Command<A::Value, A::Key>],
@@ -24,9 +24,9 @@ fn shown_after<A: KeyAdapter, M: Allocator + Copy>(
 where
     A::Value: Copy,
     A::Key: Copy,
-    ensures { (entered : List AnyPlace) → StandsFor A.Key.cmp A.key_of world.old tree entered → IfSome result (λ told.
-        AreOrderly A.Key.cmp A.key_of world.old tree commands.now (map_list reply_in told.0.items) entered
-        → IsInOrderOf A.Key.cmp A.key_of world.new (entered_over tree commands.now (map_list reply_in told.0.items) entered) told.1.items) }
+    ensures { (insertion_order : List AnyPlace) → KeepsInsertionOrder A.Key.cmp A.key_of world.old tree insertion_order → IfSome result (λ told.
+        AreOrderly A.Key.cmp A.key_of world.old tree commands.now (map_list reply_in told.0.items) insertion_order
+        → IsInOrderOf A.Key.cmp A.key_of world.new (insertion_order_over tree commands.now (map_list reply_in told.0.items) insertion_order) told.1.items) }
 {
     let mut answers = Vec::new(alloc);
     let Ok(()) = ic_world_laws::run(world, commands, &mut answers) else {
@@ -57,27 +57,27 @@ const OPENED: &str =
     "field tree; open 0 tree; open 0 doubly; place 5; place 3; place 5; place 5; push_back 1 3; insert 0 3";
 
 const OPENED_ANSWERS: &str = "\
-field 0; collection 0; collection 1; object 0; object 1; object 2; object 3; ok; refused 10 AlreadyLinked; ";
+field 0\ncollection 0\ncollection 1\nobject 0\nobject 1\nobject 2\nobject 3\nok\nrefused 10 AlreadyLinked\n";
 
-// The first of the equal keys is taken out, and put in again behind the others.
+// The first of the equal keys is taken out, and put in again after the others.
 const INSERTED: &str = "\
 pop_front 1; insert 0 0; insert 0 1; insert 0 2; insert 0 3; find 0 5; remove 0; insert 0 0; show 0";
 
 const INSERTED_ANSWERS: &str = "\
-object 3; ok looks 0; ok looks 1; ok looks 1; ok looks 2; object 0 looks 2; object 0; ok looks 2; items 1 2 3 0; ";
+object 3\nok looks 0\nok looks 1\nok looks 1\nok looks 2\nobject 0 looks 2\nobject 0\nok looks 2\nitems 1 2 3 0\n";
 
-// Whether a new world answers these lists so, and shows the tree in order behind them.
+// Whether a new world answers these lists so, and shows the tree in order after them.
 fn is_right(alloc: Global) -> bool {
     let mut world = World::new(alloc, OwnKey);
     let mut answers = Vec::new(alloc);
     let ran = are_apart_after(&mut world, &commands_in(alloc, OPENED), &mut answers);
-    if !ran || text_of(alloc, &answers).as_str() != OPENED_ANSWERS {
+    if !ran || lines_of(alloc, &answers).as_slice() != OPENED_ANSWERS.as_bytes() {
         return false;
     }
-    match shown_after(alloc, &mut world, &commands_in(alloc, INSERTED), 0) {
+    match represented_after(alloc, &mut world, &commands_in(alloc, INSERTED), 0) {
         None => false,
         Some((answers, shown)) => {
-            text_of(alloc, &answers).as_str() == INSERTED_ANSWERS && shown.len() == 4
+            lines_of(alloc, &answers).as_slice() == INSERTED_ANSWERS.as_bytes() && shown.len() == 4
         }
     }
 }

@@ -19,7 +19,7 @@ use ic_sys::*;
 /// ```
 #[derive(Clone, Copy, Debug, PartialEq, Eq, Hash)]
 pub enum Error {
-    /// A place is not below the table's length, or there are fewer keys or hashes than places, or there is no bucket.
+    /// A place is not below the table's length, or there are fewer keys, hashes or sums than places, or there is no bucket.
     OutOfRange,
     /// The place to insert is in a list or tree of this table.
     Linked,
@@ -35,7 +35,7 @@ impl fmt::Display for Error {
     fn fmt(&self, f: &mut fmt::Formatter<'_>) -> fmt::Result {
         f.write_str(match self {
             Error::OutOfRange => {
-                "a place is not below the table's length, or there are fewer keys or hashes than places, or there is no bucket"
+                "a place is not below the table's length, or there are fewer keys, hashes or sums than places, or there is no bucket"
             }
             Error::Linked => "the place to insert is in a list or tree of this table",
             Error::NotLinked => "the member that is named is in no list or tree of this table",

@@ -69,7 +69,8 @@
 //! No call panics, and no call needs unsafe code of you. You may hand any table, list, tree and place to each. A call that returns an
 //! [`Error`] has changed nothing, except `retain`, which has made its edits up to the member at which it stopped. An edit of a list takes a
 //! constant number of steps, except [`Stack::splice_after`], [`hash::remove`], `fill`, `clear`, `retain`, `sort` and `merge`, and an edit or
-//! a search of a tree takes O(log n), except `clear` and `retain`. A `check` takes O(n).
+//! a search of a tree takes O(log n), except `append`, `join`, `split`, `clear` and `retain`, and [`Tree::sums_renew`] for all places. A `check`
+//! takes O(n).
 //!
 //! The types don't say which table a list or tree belongs to. Use each with its own table. With another one every call is memory safe, but
 //! it may mix up the members of both, if no word tells it to return [`Error::Broken`]. An iterator ends after as many members as the table
@@ -96,9 +97,11 @@ pub mod hash;
 mod keyed;
 mod link;
 mod list;
+mod list32;
 pub mod ring;
 pub mod ring32;
 mod stack;
+mod sums;
 #[cfg(test)]
 mod tests;
 mod tree;
@@ -110,7 +113,9 @@ pub use error::Error;
 pub use keyed::{Entry, VacantEntry};
 pub use link::{Link1, Link2, Link2x32, Link3};
 pub use list::List;
+pub use list32::List32;
 pub use stack::Stack;
+pub use sums::{Sum, SumKind};
 pub use tree::{Tree, TreeEnds};
 pub use view::{Iter, View};
 pub use xor_list::XorList;

@@ -42,8 +42,8 @@ fn link_of<L: Link>(table: &[L], at: u32) -> Option<&L> {
 
 /// A place, if the table has it.
 #[inline]
-pub(crate) fn within<L>(table: &[L], place: Option<u32>) -> Option<u32> {
-    place.filter(|&place| (place as usize) < table.len())
+pub(crate) fn within<L: Link>(table: &[L], place: Option<u32>) -> Option<u32> {
+    place.filter(|&place| (place as usize) < table.len().min(L::PLACES))
 }
 
 /// A place, if it is a linked one of the table. Iterators end at others.
@@ -175,7 +175,8 @@ impl Link2 {
     }
 }
 
-/// What a table of rings has for each place, in words of 4 bytes: half of what [`Link2`] takes, for the places below 536,870,911.
+/// What a table of a [`List32`](crate::List32) or of rings has for each place, in words of 4 bytes: half of what [`Link2`] takes, for the places
+/// below 536,870,911.
 ///
 /// ```
 /// use ic::{ring32, Link2x32};

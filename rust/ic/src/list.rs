@@ -83,66 +83,7 @@ use ic_sys::*;
 pub struct List(pub(crate) ic_list);
 
 impl List {
-    /// Returns a list with no members, in O(1).
-    #[inline]
-    #[must_use]
-    pub const fn new() -> List {
-        List(ic_list { head: 0, tail: 0 })
-    }
-
-    /// Returns the list that has these words, which may be any. They may come from a file: [`check`](Self::check) says whether a table
-    /// holds it.
-    #[inline]
-    #[must_use]
-    pub const fn from_words([head, tail]: [u64; 2]) -> List {
-        List(ic_list { head, tail })
-    }
-
-    /// Returns the words of the list, to be written to a file. They hold no addresses.
-    #[inline]
-    #[must_use]
-    pub const fn words(&self) -> [u64; 2] {
-        [self.0.head, self.0.tail]
-    }
-
-    /// Returns whether there are no members, in O(1).
-    #[inline]
-    #[must_use]
-    pub fn is_empty(&self) -> bool {
-        is_none(self.0.head)
-    }
-
-    /// Returns the first member, in O(1).
-    #[inline]
-    #[must_use]
-    pub fn first(&self) -> Option<u32> {
-        place(self.0.head)
-    }
-
-    /// Returns the last member, in O(1).
-    #[inline]
-    #[must_use]
-    pub fn last(&self) -> Option<u32> {
-        place(self.0.tail)
-    }
-
-    /// Returns the member after the member `at`, in O(1). It returns `None` if `at` is the last member, is not linked or is not in the
-    /// table, and if the link there leads out of the table.
-    #[inline]
-    #[must_use]
-    pub fn next(&self, table: &[Link2], at: u32) -> Option<u32> {
-        read(table, at, Link2::next)
-    }
-
-    /// Returns the member before the member `at`, in O(1). It returns `None` if `at` is the first member, is not linked or is not in the
-    /// table, and if the link there leads out of the table.
-    #[inline]
-    #[must_use]
-    pub fn prev(&self, table: &[Link2], at: u32) -> Option<u32> {
-        read(table, at, Link2::prev)
-    }
-
-    // tools/c-calls --write writes from here: list list-keys list-transfer
+    // tools/c-calls --write writes from here: list list-fill list-keys list-transfer
     /// Inserts `place` at the front, in O(1).
     ///
     /// # Errors
@@ -478,6 +419,67 @@ impl List {
         done(unsafe { ic_list_transfer_before(links, places, &mut self.0, number(at), &mut given.0, place) })
     }
     // to here
+}
+
+impl List {
+    /// Returns a list with no members, in O(1).
+    #[inline]
+    #[must_use]
+    pub const fn new() -> List {
+        List(ic_list { head: 0, tail: 0 })
+    }
+
+    /// Returns the list that has these words, which may be any. They may come from a file: [`check`](Self::check) says whether a table
+    /// holds it.
+    #[inline]
+    #[must_use]
+    pub const fn from_words([head, tail]: [u64; 2]) -> List {
+        List(ic_list { head, tail })
+    }
+
+    /// Returns the words of the list, to be written to a file. They hold no addresses.
+    #[inline]
+    #[must_use]
+    pub const fn words(&self) -> [u64; 2] {
+        [self.0.head, self.0.tail]
+    }
+
+    /// Returns whether there are no members, in O(1).
+    #[inline]
+    #[must_use]
+    pub fn is_empty(&self) -> bool {
+        is_none(self.0.head)
+    }
+
+    /// Returns the first member, in O(1).
+    #[inline]
+    #[must_use]
+    pub fn first(&self) -> Option<u32> {
+        place(self.0.head)
+    }
+
+    /// Returns the last member, in O(1).
+    #[inline]
+    #[must_use]
+    pub fn last(&self) -> Option<u32> {
+        place(self.0.tail)
+    }
+
+    /// Returns the member after the member `at`, in O(1). It returns `None` if `at` is the last member, is not linked or is not in the
+    /// table, and if the link there leads out of the table.
+    #[inline]
+    #[must_use]
+    pub fn next(&self, table: &[Link2], at: u32) -> Option<u32> {
+        read(table, at, Link2::next)
+    }
+
+    /// Returns the member before the member `at`, in O(1). It returns `None` if `at` is the first member, is not linked or is not in the
+    /// table, and if the link there leads out of the table.
+    #[inline]
+    #[must_use]
+    pub fn prev(&self, table: &[Link2], at: u32) -> Option<u32> {
+        read(table, at, Link2::prev)
+    }
 }
 
 collection!(List, Link2);

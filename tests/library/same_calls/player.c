@@ -10,42 +10,28 @@
 #include <stdlib.h>
 #include <string.h>
 
-enum { SLOTS = 3, BUCKETS = 7, WORDS = 128, LETTERS = 2048 };
+enum { SLOTS = 3, WORDS = 128, LETTERS = 2048 };
 
-/* What all calls are made of. The tables of links have as many places as tools/same-calls says. */
-static struct ic_link2 list_links[LIST_PLACES];
-static struct ic_link1 stack_links[STACK_PLACES], xor_links[XOR_PLACES];
-static struct ic_link3 tree_links[TREE_PLACES];
-static struct ic_list lists[SLOTS];
-static struct ic_stack stacks[SLOTS], buckets[BUCKETS];
-static struct ic_xor_list xor_lists[SLOTS];
-static struct ic_tree trees[SLOTS];
-static struct ic_tree_ends tree_ends[SLOTS];
+/* What the calls take besides the tables and lists of made.h, which have as many places as tools/same-calls says. */
 static uint64_t keys[TREE_PLACES];
 
-/* Of three hash tables the second has too few keys, as the second list and the second tree do, and the third has no buckets. */
+/* Of three hash tables the second has too few keys, as the second list and the second tree do, also too few sums, and the third has no buckets. */
 static const uint32_t bucket_from[SLOTS] = {0, 4, 7}, bucket_count[SLOTS] = {4, 3, 0};
 static inline size_t key_count(uint64_t slot) {
     return slot == 1 ? 5 : TREE_PLACES;
 }
 
-/* The words of all this, in the order in which they are shown. */
-static const struct {
-    uint64_t *words;
-    size_t count;
-} parts[] = {
-    {(uint64_t *)list_links, 2 * LIST_PLACES}, {(uint64_t *)lists, 2 * SLOTS},  {(uint64_t *)stack_links, STACK_PLACES},
-    {(uint64_t *)stacks, SLOTS},               {(uint64_t *)buckets, BUCKETS},  {(uint64_t *)xor_links, XOR_PLACES},
-    {(uint64_t *)xor_lists, 2 * SLOTS},        {(uint64_t *)tree_links, 3 * TREE_PLACES}, {(uint64_t *)trees, SLOTS},
-    {(uint64_t *)tree_ends, 2 * SLOTS},
+/* The words of a table or of some lists, and of how many bytes each is. made.h has them in the order in which they are shown. */
+struct part {
+    void *words;
+    size_t count, bytes;
 };
-enum { PARTS = sizeof parts / sizeof *parts };
 
 /* ---- What `play` hands out, and what is printed of it ---- */
 
 static struct {
     uint32_t place;
-    uint64_t members;
+    uint64_t number;
 } out;
 static int is_coarse;
 
@@ -103,17 +89,35 @@ static inline void see(uint32_t place) {
 
 /* ---- */
 
+enum { PARTS = sizeof parts / sizeof *parts };
+
+static uint64_t word_of(struct part part, size_t at) {
+    return part.bytes == 4 ? ((uint32_t *)part.words)[at] : ((uint64_t *)part.words)[at];
+}
+
+static void set_word(struct part part, size_t at, uint64_t word) {
+    if (part.bytes == 4)
+        ((uint32_t *)part.words)[at] = (uint32_t)word;
+    else
+        ((uint64_t *)part.words)[at] = word;
+}
+
 static void show(void) {
     for (int part = 0; part < PARTS; part++) {
         for (size_t at = 0; at < parts[part].count; at++)
-            printf("%" PRIu64 " ", parts[part].words[at]);
+            printf("%" PRIu64 " ", word_of(parts[part], at));
         puts("");
     }
 }
 
 static void reset(void) {
     for (int part = 0; part < PARTS; part++)
-        memset(parts[part].words, 0, parts[part].count * sizeof(uint64_t));
+        memset(parts[part].words, 0, parts[part].count * parts[part].bytes);
+}
+
+static void set_values(const uint64_t *values) {
+    for (size_t at = 0; at < TREE_PLACES; at++)
+        sums[at].value = values[at];
 }
 
 int main(int count, char **arguments) {
@@ -133,8 +137,10 @@ int main(int count, char **arguments) {
             show();
         else if (strcmp(name, "keys") == 0)
             memcpy(keys, n, sizeof keys);
+        else if (strcmp(name, "values") == 0)
+            set_values(n);
         else if (strcmp(name, "word") == 0)
-            parts[n[0]].words[n[1]] = n[2];
+            set_word(parts[n[0]], n[1], n[2]);
         else if (!play(name, n))
             return printf("there is no call %s\n", name), 1;
     }

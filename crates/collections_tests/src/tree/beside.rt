@@ -1,10 +1,9 @@
 //! Trees whose keys are beside the links of their members.
 
 ghost use Rattle.std.specs.Prelude.{◌≡◌};
-ghost use Rattle.ic_link_ops.specs.PlacedObjects.{ShowsPlaced};
-ghost use Rattle.ic_link_ops.specs.RedBlackTree.{Shows};
-ghost use Rattle.ic_link_ops.specs.Tables.{IsCovered};
-ghost use Rattle.ic_rbtree.specs.Kept.{ShowsWithEnds};
+ghost use Rattle.ic_link_ops.specs.Prelude.{IsCovered, RepresentsPlaced};
+ghost use Rattle.ic_link_ops.specs.RedBlackTree.{Represents};
+ghost use Rattle.ic_rbtree.specs.Kept.{RepresentsWithEnds};
 ghost use Rattle.ic_rbtree.specs.Tree.{root_of, ends_of};
 
 use crate::notes::assert_words;
@@ -25,8 +24,8 @@ fn write_inserted<L: RBTreeOps + LinkValues<u64>>(
     object: UnsafeRef<u64>,
 )
     requires covered { IsCovered (L.table links.old) object }
-    requires placed { ShowsPlaced (Shows L.node (L.table links.old) (root_of tree.old)) (L.values links.old) }
-    ensures placed { ShowsPlaced (Shows L.node (L.table links.new) (root_of tree.new)) (L.values links.new) }
+    requires placed { RepresentsPlaced (Represents L.node (L.table links.old) (root_of tree.old)) (L.values links.old) }
+    ensures placed { RepresentsPlaced (Represents L.node (L.table links.new) (root_of tree.new)) (L.values links.new) }
     ensures extent { (L.table links.new).extent ≡ (L.table links.old).extent }
 {
     let _ = tree.insert_keyed(links, object);
@@ -42,7 +41,7 @@ fn write_looks<L: RBTreeOps + LinkValues<u64>>(
     object: UnsafeRef<u64>,
 )
     requires covered { IsCovered (L.table links.old) object }
-    requires placed { ShowsPlaced (Shows L.node (L.table links.old) (root_of tree.old)) (L.values links.old) }
+    requires placed { RepresentsPlaced (Represents L.node (L.table links.old) (root_of tree.old)) (L.values links.old) }
 {
     let mut probe = KeyProbe::new(OwnKey, key);
     let _ = tree.insert_keyed_by(links, &mut probe, object);
@@ -57,8 +56,8 @@ fn write_inserted_cached<K: KeyAdapter, L: RBTreeOps + LinkValues<K::Value>>(
     object: UnsafeRef<K::Value>,
 )
     requires covered { IsCovered (L.table links.old) object }
-    requires placed { ShowsPlaced (ShowsWithEnds L.node (L.table links.old) (ends_of tree.old)) (L.values links.old) }
-    ensures placed { ShowsPlaced (ShowsWithEnds L.node (L.table links.new) (ends_of tree.new)) (L.values links.new) }
+    requires placed { RepresentsPlaced (RepresentsWithEnds L.node (L.table links.old) (ends_of tree.old)) (L.values links.old) }
+    ensures placed { RepresentsPlaced (RepresentsWithEnds L.node (L.table links.new) (ends_of tree.new)) (L.values links.new) }
     ensures extent { (L.table links.new).extent ≡ (L.table links.old).extent }
 {
     let _ = tree.insert_keyed(links, object);

@@ -1,10 +1,8 @@
 //! A tree that keeps its ends, as a queue.
 
 ghost use Rattle.std.specs.Prelude.{◌≡◌, true};
-ghost use Rattle.ic_unsafe_ref.specs.Objects.{is_placed};
-ghost use Rattle.ic_link_ops.specs.PlacedObjects.{ShowsPlaced};
-ghost use Rattle.ic_link_ops.specs.Tables.{IsCovered};
-ghost use Rattle.ic_rbtree.specs.Kept.{ended, ShowsWithEnds, ShowsKeptSome};
+ghost use Rattle.ic_link_ops.specs.Prelude.{is_placed, IsCovered, RepresentsPlaced};
+ghost use Rattle.ic_rbtree.specs.Kept.{ended, RepresentsWithEnds, RepresentsKeptSome};
 ghost use Rattle.ic_rbtree.specs.Tree.{ends_of};
 
 use crate::notes::{assert_words, write_object};
@@ -27,8 +25,8 @@ fn write_inserted<L: RBTreeOps>(
 )
     requires covered { IsCovered (L.table links.old) object }
     requires object { is_placed objects.now object ≡ true }
-    requires placed { ShowsPlaced (ShowsWithEnds L.node (L.table links.old) (ends_of tree.old)) objects.now }
-    ensures placed { ShowsPlaced (ShowsWithEnds L.node (L.table links.new) (ends_of tree.new)) objects.now }
+    requires placed { RepresentsPlaced (RepresentsWithEnds L.node (L.table links.old) (ends_of tree.old)) objects.now }
+    ensures placed { RepresentsPlaced (RepresentsWithEnds L.node (L.table links.new) (ends_of tree.new)) objects.now }
     ensures extent { (L.table links.new).extent ≡ (L.table links.old).extent }
 {
     let _ = tree.insert(links, objects, object);
@@ -37,7 +35,7 @@ fn write_inserted<L: RBTreeOps>(
 
 // Takes the first object off and the last one, and notes them and the ends that are left, and whether the tree is empty.
 fn write_taken<L: RBTreeOps>(notes: &mut Text, tree: &mut RBTree<OwnKey, WithEnds>, links: &mut L)
-    requires shown { ShowsKeptSome ended L.node (L.table links.old) (ends_of tree.old) }
+    requires shown { RepresentsKeptSome ended L.node (L.table links.old) (ends_of tree.old) }
 {
     let first = tree.pop_front(links);
     let last = tree.pop_back(links);
@@ -50,10 +48,10 @@ fn write_taken<L: RBTreeOps>(notes: &mut Text, tree: &mut RBTree<OwnKey, WithEnd
     notes.add(Answer::Truth(tree.is_empty()), " ");
 }
 
-// Splits the tree in front of its last member, and appends the rest again, and notes the ends of both parts and of the whole.
+// Splits the tree before its last member, and appends the rest again, and notes the ends of both parts and of the whole.
 fn write_split<L: RBTreeOps>(notes: &mut Text, tree: &mut RBTree<OwnKey, WithEnds>, links: &mut L)
-    requires shown { ShowsKeptSome ended L.node (L.table links.old) (ends_of tree.old) }
-    ensures shown { ShowsKeptSome ended L.node (L.table links.new) (ends_of tree.new) }
+    requires shown { RepresentsKeptSome ended L.node (L.table links.old) (ends_of tree.old) }
+    ensures shown { RepresentsKeptSome ended L.node (L.table links.new) (ends_of tree.new) }
 {
     let Some(last) = tree.last(links) else {
         return;

@@ -1,12 +1,9 @@
 //! Where cursors of a tree begin, and inserts by one that borrows the tree and by one that keeps it.
 
 ghost use Rattle.std.specs.Prelude.{◌≡◌, ◌<◌, true};
-ghost use Rattle.ic_unsafe_ref.specs.declared.place.Place.{Place};
-ghost use Rattle.ic_unsafe_ref.specs.Objects.{is_placed};
-ghost use Rattle.ic_unsafe_ref.specs.Places.{index_of};
-ghost use Rattle.ic_link_ops.specs.PlacedObjects.{ShowsPlaced};
-ghost use Rattle.ic_link_ops.specs.RedBlackTree.{ShowsSome};
-ghost use Rattle.ic_rbtree.specs.PlainTrees.{plain_table, PlainShows};
+ghost use Rattle.ic_link_ops.specs.Prelude.{Place, index_of, is_placed, RepresentsPlaced};
+ghost use Rattle.ic_link_ops.specs.RedBlackTree.{RepresentsSome};
+ghost use Rattle.ic_rbtree.specs.PlainTrees.{plain_table, PlainRepresents};
 ghost use Rattle.ic_rbtree.specs.Tree.{root_of};
 
 use crate::notes::assert_words;
@@ -19,27 +16,29 @@ use ic_test_support::objects::reference;
 use ic_test_support::tables::write_linked;
 use std::process::Abort;
 
-// Notes where cursors begin: at null and at the back, and, where they keep the tree, at the front and at the back. Empties the tree.
+// Notes where cursors begin: at null and at the back, and, where they keep the tree, at null, at the front and at the back. Empties the tree.
 fn write_ends<L: RBTreeOps>(notes: &mut Text, tree: RBTree<OwnKey>, links: &L)
-    requires shown { ShowsSome L.node (L.table links.now) (root_of tree) }
+    requires shown { RepresentsSome L.node (L.table links.now) (root_of tree) }
 {
     let null = tree.cursor(links).get_ptr();
     let back = tree.back(links).get_ptr();
     write_places(notes, &[null, back]);
-    let at_front = tree.front_owning(links);
+    let at_null = tree.cursor_owning();
+    let kept_null = at_null.get_ptr();
+    let at_front = at_null.into_inner().front_owning(links);
     let front = at_front.get_ptr();
     let at_back = at_front.into_inner().back_owning(links);
-    write_places(notes, &[front, at_back.get_ptr()]);
+    write_places(notes, &[kept_null, front, at_back.get_ptr()]);
     let mut tree = at_back.into_inner();
     tree.fast_clear();
     notes.add(Answer::Truth(tree.is_empty()), " ");
 }
 
-// Inserts the object at 3 by a cursor on the last of the members 0, 1 and 2, and notes what is behind it then.
+// Inserts the object at 3 by a cursor on the last of the members 0, 1 and 2, and notes what is after it then.
 fn write_inserted(notes: &mut Text, fixture: &mut TreeFixture)
     requires covers { (plain_table fixture.old.links).extent.places ≡ 8 }
     requires placed { (q : Place) → index_of q < 8 → is_placed fixture.old.objects q ≡ true }
-    requires shown { ShowsPlaced (PlainShows fixture.old.links (root_of fixture.old.tree)) fixture.old.objects }
+    requires shown { RepresentsPlaced (PlainRepresents fixture.old.links (root_of fixture.old.tree)) fixture.old.objects }
 {
     let mut cursor = fixture.tree.back_mut(&mut fixture.links);
     let _ = cursor.insert(&fixture.objects, reference(3));
@@ -51,7 +50,7 @@ fn write_inserted(notes: &mut Text, fixture: &mut TreeFixture)
 fn write_kept(rt: &impl Abort, notes: &mut Text, fixture: &mut TreeFixture)
     requires covers { (plain_table fixture.old.links).extent.places ≡ 8 }
     requires placed { (q : Place) → index_of q < 8 → is_placed fixture.old.objects q ≡ true }
-    requires shown { ShowsPlaced (PlainShows fixture.old.links (root_of fixture.old.tree)) fixture.old.objects }
+    requires shown { RepresentsPlaced (PlainRepresents fixture.old.links (root_of fixture.old.tree)) fixture.old.objects }
 {
     let TreeFixture {
         objects,
@@ -77,5 +76,5 @@ fn cursors(rt: HostRuntime) {
     }
     write_inserted(&mut notes, &mut tree_of(&rt, alloc, 3));
     write_kept(&rt, &mut notes, &mut tree_of(&rt, alloc, 3));
-    assert_words(&rt, &notes, "none 2  0 2  yes 0 1 2  3  3");
+    assert_words(&rt, &notes, "none 2  none 0 2  yes 0 1 2  3  3");
 }

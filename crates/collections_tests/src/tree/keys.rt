@@ -1,9 +1,8 @@
 //! Searches by keys that borrow the tree, the entry of a key, and keys in an array.
 
 ghost use Rattle.std.specs.Prelude.{◌≡◌, ◌<◌, length};
-ghost use Rattle.ic_unsafe_ref.specs.Places.{index_of};
-ghost use Rattle.ic_link_ops.specs.PlacedObjects.{ShowsPlaced};
-ghost use Rattle.ic_link_ops.specs.RedBlackTree.{Shows};
+ghost use Rattle.ic_link_ops.specs.Prelude.{index_of, RepresentsPlaced};
+ghost use Rattle.ic_link_ops.specs.RedBlackTree.{Represents};
 ghost use Rattle.ic_rbtree.specs.Tree.{root_of};
 
 use crate::notes::{assert_words, write_values};
@@ -30,7 +29,7 @@ fn write_searches<L: RBTreeOps>(
     links: &mut L,
     objects: &Objects<u64>,
 )
-    requires { ShowsPlaced (Shows L.node (L.table links.old) (root_of tree.old)) objects.now }
+    requires { RepresentsPlaced (Represents L.node (L.table links.old) (root_of tree.old)) objects.now }
 {
     let (from, below) = (Bound::Included(&40), Bound::Excluded(&40));
     let found = tree.find_mut(links, objects, &40).into_ref(objects);
@@ -53,7 +52,7 @@ fn write_entry<L: RBTreeOps>(
     key: &u64,
 )
     requires covers { (L.table links.old).extent.places ≡ 8 }
-    requires shown { ShowsPlaced (Shows L.node (L.table links.old) (root_of tree.old)) objects.now }
+    requires shown { RepresentsPlaced (Represents L.node (L.table links.old) (root_of tree.old)) objects.now }
 {
     let object = reference(7);
     let entry = tree.entry(links, objects, key);

@@ -1,11 +1,9 @@
 //! How often the calls that take a key read a value: once for each look, and an insert once more, for the object's own key.
 
 ghost use Rattle.std.specs.Prelude.{◌≡◌, true};
-ghost use Rattle.ic_unsafe_ref.specs.Objects.{is_placed};
-ghost use Rattle.ic_link_ops.specs.PlacedObjects.{ShowsPlaced};
-ghost use Rattle.ic_link_ops.specs.Tables.{IsCovered};
-ghost use Rattle.ic_rbtree.specs.Kept.{ShowsKept};
-ghost use Rattle.ic_rbtree.specs.PlainTrees.{PlainShows};
+ghost use Rattle.ic_link_ops.specs.Prelude.{is_placed, IsCovered, RepresentsPlaced};
+ghost use Rattle.ic_rbtree.specs.Kept.{RepresentsKept};
+ghost use Rattle.ic_rbtree.specs.PlainTrees.{PlainRepresents};
 ghost use Rattle.ic_rbtree.specs.Tree.{head_of, root_of};
 
 use crate::notes::assert_words;
@@ -61,7 +59,7 @@ fn write_insert<E: TreeHead, L: RBTreeOps>(
     object: UnsafeRef<u64>,
 )
     requires covered { IsCovered (L.table links.old) object }
-    requires placed { ShowsPlaced (ShowsKept E.kept L.node (L.table links.old) (head_of tree.old)) objects.now }
+    requires placed { RepresentsPlaced (RepresentsKept E.kept L.node (L.table links.old) (head_of tree.old)) objects.now }
     requires object { is_placed objects.now object ≡ true }
 {
     let counted = Counted::of(objects);
@@ -71,7 +69,7 @@ fn write_insert<E: TreeHead, L: RBTreeOps>(
 
 // Searches the entry of 80, and notes how often a value was read.
 fn write_entry(notes: &mut Text, fixture: &mut TreeFixture)
-    requires placed { ShowsPlaced (PlainShows fixture.old.links (root_of fixture.old.tree)) fixture.old.objects }
+    requires placed { RepresentsPlaced (PlainRepresents fixture.old.links (root_of fixture.old.tree)) fixture.old.objects }
 {
     let TreeFixture {
         objects,
@@ -94,7 +92,7 @@ fn write_insert_with_hint<E: TreeHead, L: RBTreeOps>(
     object: UnsafeRef<u64>,
 )
     requires covered { IsCovered (L.table links.old) object }
-    requires placed { ShowsPlaced (ShowsKept E.kept L.node (L.table links.old) (head_of tree.old)) objects.now }
+    requires placed { RepresentsPlaced (RepresentsKept E.kept L.node (L.table links.old) (head_of tree.old)) objects.now }
     requires object { is_placed objects.now object ≡ true }
 {
     let hint = member_at(rt, &*tree, &*links, position);
@@ -103,13 +101,13 @@ fn write_insert_with_hint<E: TreeHead, L: RBTreeOps>(
     counted.write_reads(notes);
 }
 
-// Seven numbers that rise, and one that belongs in front of the fourth.
+// Seven numbers that rise, and one that belongs before the fourth.
 const SEVEN_AND_ONE: [u64; 8] = [10, 20, 30, 50, 60, 70, 80, 40];
 
 // Seven members that came in rising order have the second at the root, and the fourth, the sixth and the last below each other on its right. So
-// an insert behind all makes four looks, and one where the last member is kept, and an entry of a greater key makes four. An insert in front of the
+// an insert after all makes four looks, and one where the last member is kept, and an entry of a greater key makes four. An insert before the
 // fourth makes two looks where that is the hint. It makes four where the hint is the second, which is less, and five where it is the
-// last, since the one in front of that is greater, too.
+// last, since the one before that is greater, too.
 // Promise: looks of plain calls.
 #[test]
 fn plain_calls_look_once(rt: HostRuntime) {

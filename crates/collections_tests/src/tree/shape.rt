@@ -1,7 +1,7 @@
 //! The shape of a tree, as the table of its links has it.
 
 ghost use Rattle.std.specs.Prelude.{◌≡◌, ◌<◌};
-ghost use Rattle.ic_rbtree.specs.PlainTrees.{plain_table, PlainShowsSome};
+ghost use Rattle.ic_rbtree.specs.PlainTrees.{plain_table, PlainRepresentsSome};
 ghost use Rattle.ic_rbtree.specs.Tree.{root_of};
 
 use crate::notes::assert_words;
@@ -36,7 +36,7 @@ fn write_links(notes: &mut Text, links: &LinkOps) {
 fn write_without(notes: &mut Text, fixture: &mut TreeFixture, leaving: usize)
     requires few { leaving < 8 }
     requires covers { (plain_table fixture.old.links).extent.places ≡ 8 }
-    requires shown { PlainShowsSome fixture.old.links (root_of fixture.old.tree) }
+    requires shown { PlainRepresentsSome fixture.old.links (root_of fixture.old.tree) }
 {
     let object = reference(leaving);
     if fixture.tree.contains(&fixture.links, object.place()) {

@@ -1,13 +1,10 @@
-//! Summaries over the edits of a tree: after each edit and a `refresh` they tell what the members show, in a tree of any head and over any sums.
+//! Summaries over the edits of a tree: after each edit and a `refresh` they tell what the members represent, in a tree of any head and over any sums.
 
 ghost use Rattle.std.specs.Prelude.{◌≡◌, ◌<◌, true, List};
-ghost use Rattle.ic_unsafe_ref.specs.declared.place.Place.{Place};
-ghost use Rattle.ic_unsafe_ref.specs.Objects.{is_placed};
-ghost use Rattle.ic_unsafe_ref.specs.Places.{index_of};
-ghost use Rattle.ic_link_ops.specs.Positions.{HasMember};
-ghost use Rattle.ic_rbtree.specs.Kept.{IsEmptied, ShowsKept, ShowsKeptSome};
+ghost use Rattle.ic_link_ops.specs.Prelude.{Place, index_of, is_placed, HasMember};
+ghost use Rattle.ic_rbtree.specs.Kept.{IsEmptied, RepresentsKept, RepresentsKeptSome};
 ghost use Rattle.ic_rbtree.specs.Tree.{head_of, root_in};
-ghost use Rattle.ic_augmented.specs.Consistent.{ShowsSummed};
+ghost use Rattle.ic_augmented.specs.Consistent.{RepresentsSummed};
 ghost use Rattle.ic_augmented.specs.Summed.{links_of, sums_of};
 ghost use Rattle.collections_tests.specs.Ready.{IsReady};
 
@@ -34,7 +31,7 @@ trait Readings: RenewSums {
         tree: &RBTree<OwnKey, E>,
         summed: &Summed<L, Self>,
     )
-        requires shown { (s : List Place) × ShowsSummed L.node (Self.sums (sums_of summed.now)) (L.table (links_of summed.now)) (root_in E.kept tree.now) s };
+        requires shown { (s : List Place) × RepresentsSummed L.node (Self.sums (sums_of summed.now)) (L.table (links_of summed.now)) (root_in E.kept tree.now) s };
 }
 
 // How many members there are, and each by its position, which it has to tell itself.
@@ -96,8 +93,8 @@ pub(crate) fn member_at<E: TreeHead, L: RBTreeOps>(
     links: &L,
     position: usize,
 ) -> UnsafeRef<u64>
-    requires shown { ShowsKeptSome E.kept L.node (L.table links.now) (head_of tree.now) }
-    ensures member { HasMember (ShowsKept E.kept L.node (L.table links.now) (head_of tree.now)) result }
+    requires shown { RepresentsKeptSome E.kept L.node (L.table links.now) (head_of tree.now) }
+    ensures member { HasMember (RepresentsKept E.kept L.node (L.table links.now) (head_of tree.now)) result }
 {
     let mut cursor = tree.front(links);
     for _step in 0..position {
@@ -170,7 +167,7 @@ fn put_with_hint<E: TreeHead, L: RBTreeOps, M: RenewSums>(
     assert!(rt; inserted.is_ok());
 }
 
-// Puts the object in front of the member at the position, by a cursor.
+// Puts the object before the member at the position, by a cursor.
 fn put_before<E: TreeHead, L: RBTreeOps, M: RenewSums>(
     rt: &impl Abort,
     tree: &mut RBTree<OwnKey, E>,
@@ -257,7 +254,7 @@ fn pop_back<E: TreeHead, L: RBTreeOps, M: RenewSums>(
     let _ = tree.pop_back(summed);
 }
 
-// Splits the tree in front of the member at the position, notes what the summaries tell of both parts, and puts the second behind the first again.
+// Splits the tree before the member at the position, notes what the summaries tell of both parts, and puts the second after the first again.
 fn write_parts<E: TreeHead, L: RBTreeOps, M: Readings>(
     rt: &impl Abort,
     notes: &mut Text,
@@ -277,7 +274,7 @@ fn write_parts<E: TreeHead, L: RBTreeOps, M: Readings>(
     tree.append(summed, &mut rest);
 }
 
-// Splits the tree in front of the member at the position, and puts the second part behind the first again, with the object between both.
+// Splits the tree before the member at the position, and puts the second part after the first again, with the object between both.
 fn join_with<E: TreeHead, L: RBTreeOps, M: RenewSums>(
     rt: &impl Abort,
     tree: &mut RBTree<OwnKey, E>,
@@ -365,7 +362,7 @@ fn make<E: TreeHead, L: RBTreeOps, M: Readings>(
 // The edits of a test. Beside each stand the members that the tree has then.
 const EDITS: &[Edit] = &[
     Edit::ByKey(3), // 3
-    Edit::WithHint(0, 1), // 1 3: in front of the hint
+    Edit::WithHint(0, 1), // 1 3: before the hint
     Edit::WithHint(0, 6), // 1 3 6: elsewhere
     Edit::ByKey(5), // 1 3 5 6
     Edit::WithHint(2, 4), // 1 3 4 5 6

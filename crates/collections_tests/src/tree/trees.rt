@@ -1,11 +1,8 @@
 //! Trees of objects that are their own keys.
 
 ghost use Rattle.std.specs.Prelude.{◌≡◌, ◌<◌, ◌≤◌, true};
-ghost use Rattle.ic_unsafe_ref.specs.declared.place.Place.{Place};
-ghost use Rattle.ic_unsafe_ref.specs.Objects.{is_placed};
-ghost use Rattle.ic_unsafe_ref.specs.Places.{index_of};
-ghost use Rattle.ic_link_ops.specs.PlacedObjects.{ShowsPlaced};
-ghost use Rattle.ic_rbtree.specs.PlainTrees.{plain_table, PlainShows, PlainShowsSome};
+ghost use Rattle.ic_link_ops.specs.Prelude.{Place, index_of, is_placed, RepresentsPlaced};
+ghost use Rattle.ic_rbtree.specs.PlainTrees.{plain_table, PlainRepresents, PlainRepresentsSome};
 ghost use Rattle.ic_rbtree.specs.Tree.{root_of};
 
 use ic_link_ops::rbtree::LinkOps;
@@ -50,20 +47,30 @@ impl Drop for TreeFixture {
     }
 }
 
-/// Puts the objects at the first places into a new tree, as many as that, each behind all members, or in front of them.
+// Puts the object at the place of that index before all members of the tree, or after them.
+fn put(tree: &mut RBTree<OwnKey>, links: &mut LinkOps, index: usize, in_front: bool)
+    requires few { index < 8 }
+    requires covered { index < (plain_table links.old).extent.places }
+    requires shown { PlainRepresentsSome links.old (root_of tree.old) }
+    ensures shown { PlainRepresentsSome links.new (root_of tree.new) }
+{
+    if in_front {
+        let mut cursor = tree.cursor_mut(links);
+        let _ = cursor.insert_after(reference(index));
+    } else {
+        let _ = tree.push_back(links, reference(index));
+    }
+}
+
+/// Puts the objects at the first places into a new tree, as many as that, each after all members, or before them.
 pub(crate) fn filled(links: &mut LinkOps, members: usize, in_front: bool) -> RBTree<OwnKey>
     requires { members ≤ 8 }
-    ensures shown { PlainShowsSome links.new (root_of result) }
+    ensures shown { PlainRepresentsSome links.new (root_of result) }
 {
     let mut tree = RBTree::default();
     for index in 0..members {
         if index < links.covers() {
-            let mut cursor = tree.cursor_mut(links);
-            let _ = if in_front {
-                cursor.insert_after(reference(index))
-            } else {
-                cursor.insert_before(reference(index))
-            };
+            put(&mut tree, links, index, in_front);
         }
     }
     tree
@@ -79,7 +86,7 @@ pub(crate) fn tree_over(
     requires { members ≤ 8 }
     ensures covers { (plain_table result.links).extent.places ≡ 8 }
     ensures placed { (q : Place) → index_of q < 8 → is_placed result.objects q ≡ true }
-    ensures shown { ShowsPlaced (PlainShows result.links (root_of result.tree)) result.objects }
+    ensures shown { RepresentsPlaced (PlainRepresents result.links (root_of result.tree)) result.objects }
 {
     let (objects, mut links) = eight_objects(alloc, numbers).expect(rt, "memory");
     let tree = filled(&mut links, members, false);
@@ -97,7 +104,7 @@ pub(crate) fn tree_of(rt: &impl Abort, alloc: Global, members: usize) -> TreeFix
     requires { members ≤ 8 }
     ensures covers { (plain_table result.links).extent.places ≡ 8 }
     ensures placed { (q : Place) → index_of q < 8 → is_placed result.objects q ≡ true }
-    ensures shown { ShowsPlaced (PlainShows result.links (root_of result.tree)) result.objects }
+    ensures shown { RepresentsPlaced (PlainRepresents result.links (root_of result.tree)) result.objects }
 {
     tree_over(rt, alloc, TENS, members)
 }

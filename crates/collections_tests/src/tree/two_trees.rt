@@ -1,9 +1,7 @@
 //! Two trees in one table of summaries: what comes into one of them, and leaves it, leaves the other one summed.
 
 ghost use Rattle.std.specs.Prelude.{◌≡◌, ◌<◌, ◌≤◌, None};
-ghost use Rattle.ic_unsafe_ref.specs.declared.place.Place.{Place};
-ghost use Rattle.ic_unsafe_ref.specs.Places.{index_of};
-ghost use Rattle.ic_link_ops.specs.Tables.{IsCovered};
+ghost use Rattle.ic_link_ops.specs.Prelude.{Place, index_of, IsCovered};
 ghost use Rattle.ic_rbtree.specs.Tree.{root_of};
 ghost use Rattle.ic_augmented.specs.Counts.{counts};
 ghost use Rattle.ic_augmented.specs.Summed.{links_of, sums_of};
@@ -21,7 +19,7 @@ use ic_test_support::objects::reference;
 use std::alloc::Global;
 use std::process::Abort;
 
-// Puts a member into each of two trees, and notes the first tree's member at position 0. No call renews the first tree's counts behind its insert.
+// Puts a member into each of two trees, and notes the first tree's member at position 0. No call renews the first tree's counts after its insert.
 fn play<L: RBTreeOps + LinkValues<u64>>(
     rt: &impl Abort,
     notes: &mut Text,

@@ -1,8 +1,8 @@
 //! A walk over the objects of a tree whose keys are in a range, and one that takes members off.
 
-ghost use Rattle.ic_link_ops.specs.PlacedObjects.{ShowsPlaced};
-ghost use Rattle.ic_link_ops.specs.RedBlackTree.{Shows};
-ghost use Rattle.ic_rbtree.specs.PlainTrees.{PlainShowsSome};
+ghost use Rattle.ic_link_ops.specs.PlacedObjects.{RepresentsPlaced};
+ghost use Rattle.ic_link_ops.specs.RedBlackTree.{Represents};
+ghost use Rattle.ic_rbtree.specs.PlainTrees.{PlainRepresentsSome};
 ghost use Rattle.ic_rbtree.specs.Tree.{root_of};
 
 use crate::lists::free_each;
@@ -22,7 +22,7 @@ fn write_range<'a, L: RBTreeOps>(
     links: &'a L,
     objects: &'a Objects<u64>,
 )
-    requires { ShowsPlaced (Shows L.node (L.table links.now) (root_of tree.now)) objects.now }
+    requires { RepresentsPlaced (Represents L.node (L.table links.now) (root_of tree.now)) objects.now }
 {
     let (from, below) = (Bound::Included(&20), Bound::Excluded(&40));
     let mut walk = tree.range(links, objects, from, below);
@@ -31,7 +31,7 @@ fn write_range<'a, L: RBTreeOps>(
     notes.add(value(walk.next_back()), " ");
 }
 
-// How many members a walk is over that takes them off, whether it takes the last one off behind the first, and whether it is finished then, or
+// How many members a walk is over that takes them off, whether it takes the last one off after the first, and whether it is finished then, or
 // dropped.
 // Promise: the tree iterator, a walk of seven from both ends, a dropped walk of a tree, a finished walk of a tree.
 const TAKEN: &[(usize, bool, bool)] = &[
@@ -44,7 +44,7 @@ const TAKEN: &[(usize, bool, bool)] = &[
 
 // Takes the first member off, and the last one too if that is said, notes them and what is linked then, and finishes the walk or drops it.
 fn write_taken(notes: &mut Text, fixture: &mut TreeFixture, from_back: bool, finishes: bool)
-    requires shown { PlainShowsSome fixture.old.links (root_of fixture.old.tree) }
+    requires shown { PlainRepresentsSome fixture.old.links (root_of fixture.old.tree) }
 {
     let mut rest = fixture.tree.take().into_iter(&mut fixture.links);
     write_object(notes, rest.next());

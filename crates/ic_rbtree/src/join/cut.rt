@@ -11,15 +11,14 @@
 
 ghost use Rattle.std.specs.Prelude.{◌<◌, Option, Some, List};
 ghost use Rattle.ic_link_ops.specs.RedBlackTree.{node_at};
-ghost use Rattle.ic_link_ops.specs.Sequences.{Cut, join};
-ghost use Rattle.ic_link_ops.specs.Tables.{Table};
+ghost use Rattle.ic_link_ops.specs.Prelude.{Cut, join, Table};
 ghost use Rattle.ic_rbtree.specs.Closed.{IsNamed};
 ghost use Rattle.ic_rbtree.specs.Cuts.{CutUp, IsCutBelow, Detaches, CutsOff, AreCutApart};
-ghost use Rattle.ic_rbtree.specs.Insertion.{IsHole};
-ghost use Rattle.ic_rbtree.specs.Pieces.{Piece, Shown};
+ghost use Rattle.ic_rbtree.specs.Insertion.{IsInsertPos};
+ghost use Rattle.ic_rbtree.specs.Pieces.{Piece, Represented};
 
 use crate::join::roots::{Measured, join_measured, weight_of};
-use crate::nodes::Nodes;
+use crate::nodes::NodeStore;
 use crate::readings::{child, other, side_below};
 use crate::repair::TURNS;
 use crate::repair::writers::set_parent_and_color;
@@ -27,11 +26,11 @@ use ic_link_ops::{Color, Side};
 use ic_unsafe_ref::Place;
 
 // A subtree of this black height becomes a tree of its own, with a black root. A red root made it one higher.
-fn detach<N: Nodes>(links: &mut N, child: Option<Place>, height: u32) -> Measured
+fn detach<N: NodeStore>(links: &mut N, child: Option<Place>, height: u32) -> Measured
     requires named { IsNamed N.node (N.table links.old) child }
     requires low { height < 4294967295 }
     ensures detached { Detaches N.node (N.table links.old) (N.table links.new) child height result }
-    ensures quiet { N.Quiet links.old links.new }
+    ensures keeps_links { N.KeepsLinks links.old links.new }
 {
     let Some(place) = child else {
         return Measured {
@@ -49,7 +48,7 @@ fn detach<N: Nodes>(links: &mut N, child: Option<Place>, height: u32) -> Measure
 
 // The member above the hole is cut off with its other subtree, which has this black height, and both come to the part on their side.
 // The hole is where the member was.
-fn cut_off<N: Nodes>(
+fn cut_off<N: NodeStore>(
     links: &mut N,
     place: Place,
     side: Side,
@@ -59,7 +58,7 @@ fn cut_off<N: Nodes>(
 ) -> (Measured, Measured)
     requires { (root : Option Place) × (k : CutUp N.Entry) × IsCutBelow N.node (N.table links.old) root (Some place) side height left right k }
     ensures cut { CutsOff N.node (N.table links.old) (N.table links.new) place side height left right result.0 result.1 }
-    ensures quiet { N.Quiet links.old links.new }
+    ensures keeps_links { N.KeepsLinks links.old links.new }
 {
     let rest = child(&*links, place, other(side));
     let rest = detach(links, rest, height);
@@ -69,18 +68,18 @@ fn cut_off<N: Nodes>(
     }
 }
 
-// Cuts a tree at a hole, and returns the roots of what is in front of it and of what is behind it.
-pub(crate) fn cut_at<N: Nodes>(
+// Cuts a tree at a hole, and returns the roots of what is before it and of what is after it.
+pub(crate) fn cut_at<N: NodeStore>(
     links: &mut N,
     parent: Option<Place>,
     side: Side,
 ) -> (Option<Place>, Option<Place>)
     requires { (base : Table N.Entry) × (root : Option Place) × (gap : Cut) × (ps : List Piece)
-        × Shown N.node base (N.table links.old) root (join gap) ps × IsHole N.node (N.table links.old) parent side gap }
+        × Represented N.node base (N.table links.old) root (join gap) ps × IsInsertPos N.node (N.table links.old) parent side gap }
     ensures cut { (base : Table N.Entry) (root : Option Place) (gap : Cut) (ps : List Piece)
-        → Shown N.node base (N.table links.old) root (join gap) ps → IsHole N.node (N.table links.old) parent side gap
+        → Represented N.node base (N.table links.old) root (join gap) ps → IsInsertPos N.node (N.table links.old) parent side gap
         → AreCutApart N.node base (N.table links.new) result.0 result.1 gap ps }
-    ensures quiet { N.Quiet links.old links.new }
+    ensures keeps_links { N.KeepsLinks links.old links.new }
 {
     let mut at = parent;
     let mut side = side;

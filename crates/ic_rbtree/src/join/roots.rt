@@ -5,19 +5,18 @@
 //! ```
 
 ghost use Rattle.std.specs.Prelude.{◌≡◌, ◌≤◌, ◌<◌, ◌++◌, ◌∷◌, [], List, Option, Some};
-ghost use Rattle.ic_unsafe_ref.specs.declared.place.Place.{Place};
+ghost use Rattle.ic_link_ops.specs.Prelude.{Place, Table};
 ghost use Rattle.ic_rbtree.specs.Closed.{IsNode};
 ghost use Rattle.ic_link_ops.specs.Frames.{branch};
 ghost use Rattle.ic_link_ops.specs.RedBlackTree.{node_at};
 ghost use Rattle.ic_link_ops.specs.Shape.{weight, blacks, IsRight};
-ghost use Rattle.ic_link_ops.specs.Tables.{Table};
 ghost use Rattle.ic_link_ops.specs.Trees.{Tree, in_order};
 ghost use Rattle.ic_link_ops.specs.declared.color.Color.TheVariants.{Red};
 ghost use Rattle.ic_rbtree.specs.Height.{height, turns};
 ghost use Rattle.ic_rbtree.specs.Join.{Graft, IsGraft, Grafts, IsRootOf, EndsBlack, Pair, ArePair, AreMeasured, AreHigh, IsJoined};
-ghost use Rattle.ic_rbtree.specs.Pieces.{Piece, Stands, Shown};
+ghost use Rattle.ic_rbtree.specs.Pieces.{Piece, ClimbState, Represented};
 
-use crate::nodes::Nodes;
+use crate::nodes::NodeStore;
 use crate::readings::{child, other};
 use crate::repair::TURNS;
 use crate::repair::insertion::insert_fixup;
@@ -34,7 +33,7 @@ pub(crate) struct Measured {
 
 // The linked place comes in where `near` stands on this side of `parent`, with `near` below it and `far`, a tree of its own, on this side
 // of it. The colors are repaired. It answers whether a way down has one black member more.
-pub(crate) fn graft<N: Nodes>(
+pub(crate) fn graft<N: NodeStore>(
     links: &mut N,
     root: &mut PlaceWord,
     parent: Option<Place>,
@@ -45,7 +44,7 @@ pub(crate) fn graft<N: Nodes>(
 ) -> bool
     requires { (k : Graft N.Entry) × IsGraft N.node (N.table links.old) root.old parent side near place far k }
     ensures grafted { Grafts N.node (N.table links.old) (N.table links.new) root.old root.new parent side near place far result }
-    ensures quiet { N.Quiet links.old links.new }
+    ensures keeps_links { N.KeepsLinks links.old links.new }
 {
     set_child(links, place, side, far);
     set_child(links, place, other(side), near);
@@ -67,7 +66,7 @@ pub(crate) fn graft<N: Nodes>(
 }
 
 // 1 for a black member.
-pub(crate) fn weight_of<N: Nodes>(links: &N, place: Place) -> u32
+pub(crate) fn weight_of<N: NodeStore>(links: &N, place: Place) -> u32
     requires { IsNode N.node (N.table links.now) place }
     ensures { result ≡ weight (node_at N.node (N.table links.now) place).color }
 {
@@ -78,7 +77,7 @@ pub(crate) fn weight_of<N: Nodes>(links: &N, place: Place) -> u32
 }
 
 // How many black members stand on a way down.
-pub(crate) fn black_height<N: Nodes>(links: &N, root: Option<Place>) -> u32
+pub(crate) fn black_height<N: NodeStore>(links: &N, root: Option<Place>) -> u32
     requires { (t : Tree) × IsRootOf N.node (N.table links.now) root t × (height t < turns) }
     ensures { (t : Tree) → IsRootOf N.node (N.table links.now) root t → height t < turns → result ≡ blacks t }
 {
@@ -96,16 +95,16 @@ pub(crate) fn black_height<N: Nodes>(links: &N, root: Option<Place>) -> u32
 
 // Goes down on this side to the first black subtree, or missing child, with `want` black members on a way down, of `count` from the root,
 // and says what stands there, and below which member.
-pub(crate) fn descend_spine<N: Nodes>(
+pub(crate) fn descend_spine<N: NodeStore>(
     links: &N,
     root: Option<Place>,
     side: Side,
     count: u32,
     want: u32,
 ) -> (Option<Place>, Option<Place>)
-    requires { (base : Table N.Entry) × (t : Tree) × (ps : List Piece) × Stands N.node base (N.table links.now) root [] t ps × IsRight t
+    requires { (base : Table N.Entry) × (t : Tree) × (ps : List Piece) × ClimbState N.node base (N.table links.now) root [] t ps × IsRight t
         × (count ≡ blacks t) × (want ≤ count) }
-    ensures { (base : Table N.Entry) (t : Tree) (ps : List Piece) → Stands N.node base (N.table links.now) root [] t ps → IsRight t
+    ensures { (base : Table N.Entry) (t : Tree) (ps : List Piece) → ClimbState N.node base (N.table links.now) root [] t ps → IsRight t
         → count ≡ blacks t → want ≤ count → EndsBlack N.node base (N.table links.now) root side t ps result.0 result.1 want }
 {
     let mut at = root;
@@ -127,7 +126,7 @@ pub(crate) fn descend_spine<N: Nodes>(
 }
 
 // Joins two trees, of which the first is at least as high, with a linked place between them: the first stands on the other side of it.
-pub(crate) fn join_higher<N: Nodes>(
+pub(crate) fn join_higher<N: NodeStore>(
     links: &mut N,
     tall: Measured,
     side: Side,
@@ -137,7 +136,7 @@ pub(crate) fn join_higher<N: Nodes>(
     requires { (k : Pair N.Entry) × AreHigh N.node (N.table links.old) tall place low k }
     ensures joined { (k : Pair N.Entry) → AreHigh N.node (N.table links.old) tall place low k
         → IsJoined N.node k.base (N.table links.new) result (in_order (branch side Red k.two place k.one)) k.pieces }
-    ensures quiet { N.Quiet links.old links.new }
+    ensures keeps_links { N.KeepsLinks links.old links.new }
 {
     let (near, parent) = descend_spine(&*links, tall.root, side, tall.height, low.height);
     let mut root = PlaceWord::of(tall.root);
@@ -149,7 +148,7 @@ pub(crate) fn join_higher<N: Nodes>(
 }
 
 // Joins two trees of known heights with a linked place between them, in the time of the difference of the heights.
-pub(crate) fn join_measured<N: Nodes>(
+pub(crate) fn join_measured<N: NodeStore>(
     links: &mut N,
     left: Measured,
     place: Place,
@@ -158,7 +157,7 @@ pub(crate) fn join_measured<N: Nodes>(
     requires { (k : Pair N.Entry) × AreMeasured N.node (N.table links.old) left place right k }
     ensures joined { (k : Pair N.Entry) → AreMeasured N.node (N.table links.old) left place right k
         → IsJoined N.node k.base (N.table links.new) result (in_order k.one ++ place ∷ in_order k.two) k.pieces }
-    ensures quiet { N.Quiet links.old links.new }
+    ensures keeps_links { N.KeepsLinks links.old links.new }
 {
     if right.height <= left.height {
         join_higher(links, left, Side::Right, place, right)
@@ -168,7 +167,7 @@ pub(crate) fn join_measured<N: Nodes>(
 }
 
 // Joins two trees with a linked place between them.
-pub(crate) fn join<N: Nodes>(
+pub(crate) fn join<N: NodeStore>(
     links: &mut N,
     left: Option<Place>,
     place: Place,
@@ -176,8 +175,8 @@ pub(crate) fn join<N: Nodes>(
 ) -> Option<Place>
     requires { (k : Pair N.Entry) × ArePair N.node (N.table links.old) left place right k }
     ensures joined { (k : Pair N.Entry) → ArePair N.node (N.table links.old) left place right k
-        → Shown N.node k.base (N.table links.new) result (in_order k.one ++ place ∷ in_order k.two) k.pieces }
-    ensures quiet { N.Quiet links.old links.new }
+        → Represented N.node k.base (N.table links.new) result (in_order k.one ++ place ∷ in_order k.two) k.pieces }
+    ensures keeps_links { N.KeepsLinks links.old links.new }
 {
     let left = Measured {
         root: left,

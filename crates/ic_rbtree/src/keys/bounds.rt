@@ -6,12 +6,10 @@
 //! ```
 
 ghost use Rattle.std.specs.Prelude.{◌≡◌, List};
-ghost use Rattle.ic_unsafe_ref.specs.declared.place.Place.{Place};
-ghost use Rattle.ic_link_ops.specs.Positions.{Stands};
-ghost use Rattle.ic_link_ops.specs.PlacedObjects.{ShowsPlaced};
+ghost use Rattle.ic_link_ops.specs.Prelude.{Place, IsValidCursor, RepresentsPlaced};
 ghost use Rattle.ic_rbtree.specs.Comparing.{compared_within, order_there, HasRoomWithin, LooksWithin};
 ghost use Rattle.ic_rbtree.specs.Borders.{IsLowerBorder, IsUpperBorder};
-ghost use Rattle.ic_rbtree.specs.Kept.{ShowsKept};
+ghost use Rattle.ic_rbtree.specs.Kept.{RepresentsKept};
 ghost use Rattle.ic_rbtree.specs.Tree.{head_of, adapter_of};
 
 use crate::head::TreeHead;
@@ -38,14 +36,14 @@ impl<A: KeyAdapter, E: TreeHead> RBTree<A, E> {
         objects: &O,
         bound: &mut Bound<P>,
     ) -> Cursor<'a, A, L, E>
-        requires placed { ShowsPlaced (ShowsKept E.kept L.node (L.table links.now) (head_of self.now)) (O.values objects.now) }
+        requires placed { RepresentsPlaced (RepresentsKept E.kept L.node (L.table links.now) (head_of self.now)) (O.values objects.now) }
         requires room { HasRoomWithin P.count bound.old }
         ensures tree { tree_of result ≡ self.now }
         ensures links { links_of result ≡ links.now }
-        ensures border { (s : List Place) → ShowsKept E.kept L.node (L.table links.now) (head_of self.now) s
+        ensures border { (s : List Place) → RepresentsKept E.kept L.node (L.table links.now) (head_of self.now) s
             → IsLowerBorder (compared_within P.order (O.values objects.now) bound.old) s (position result) }
-        ensures stands { Stands (ShowsKept E.kept L.node) L.table (site_of result) }
-        ensures looks { (s : List Place) → ShowsKept E.kept L.node (L.table links.now) (head_of self.now) s
+        ensures stands { IsValidCursor (RepresentsKept E.kept L.node) L.table (site_of result) }
+        ensures looks { (s : List Place) → RepresentsKept E.kept L.node (L.table links.now) (head_of self.now) s
             → LooksWithin P.order P.count bound.old bound.new s }
     {
         Cursor::new(self, links, self.lower(links, objects, bound))
@@ -59,13 +57,13 @@ impl<A: KeyAdapter, E: TreeHead> RBTree<A, E> {
         objects: &O,
         bound: Bound<&A::Key>,
     ) -> Cursor<'a, A, L, E>
-        requires placed { ShowsPlaced (ShowsKept E.kept L.node (L.table links.now) (head_of self.now)) (O.values objects.now) }
+        requires placed { RepresentsPlaced (RepresentsKept E.kept L.node (L.table links.now) (head_of self.now)) (O.values objects.now) }
         ensures tree { tree_of result ≡ self.now }
         ensures links { links_of result ≡ links.now }
-        ensures border { (s : List Place) → ShowsKept E.kept L.node (L.table links.now) (head_of self.now) s
+        ensures border { (s : List Place) → RepresentsKept E.kept L.node (L.table links.now) (head_of self.now) s
             → IsLowerBorder (compared_within
             (order_there A.Key.cmp (A.key_of (adapter_of self.now))) (O.values objects.now) bound.entry) s (position result) }
-        ensures stands { Stands (ShowsKept E.kept L.node) L.table (site_of result) }
+        ensures stands { IsValidCursor (RepresentsKept E.kept L.node) L.table (site_of result) }
     {
         self.lower_bound_by(links, objects, &mut probe_within(self.adapter, bound))
     }
@@ -78,12 +76,12 @@ impl<A: KeyAdapter, E: TreeHead> RBTree<A, E> {
         objects: &O,
         bound: Bound<&A::Key>,
     ) -> CursorMut<'a, A, L, E>
-        requires placed { ShowsPlaced (ShowsKept E.kept L.node (L.table links.old) (head_of self.old)) (O.values objects.now) }
+        requires placed { RepresentsPlaced (RepresentsKept E.kept L.node (L.table links.old) (head_of self.old)) (O.values objects.now) }
         ensures borrows { editing.IsBorrowed self.entry links.entry result }
-        ensures border { (s : List Place) → ShowsKept E.kept L.node (L.table links.old) (head_of self.old) s
+        ensures border { (s : List Place) → RepresentsKept E.kept L.node (L.table links.old) (head_of self.old) s
             → IsLowerBorder (compared_within
             (order_there A.Key.cmp (A.key_of (adapter_of self.old))) (O.values objects.now) bound.entry) s (editing.position result) }
-        ensures stands { Stands (ShowsKept E.kept L.node) L.table (editing.site_of result) }
+        ensures stands { IsValidCursor (RepresentsKept E.kept L.node) L.table (editing.site_of result) }
     {
         let current = self.lower(&*links, objects, &mut probe_within(self.adapter, bound));
         CursorMut::new(self, links, current)
@@ -97,12 +95,12 @@ impl<A: KeyAdapter, E: TreeHead> RBTree<A, E> {
         objects: &O,
         bound: Bound<&A::Key>,
     ) -> CursorOwning<A, E>
-        requires placed { ShowsPlaced (ShowsKept E.kept L.node (L.table links.now) (head_of self)) (O.values objects.now) }
+        requires placed { RepresentsPlaced (RepresentsKept E.kept L.node (L.table links.now) (head_of self)) (O.values objects.now) }
         ensures tree { owning.tree_of result ≡ self }
-        ensures border { (s : List Place) → ShowsKept E.kept L.node (L.table links.now) (head_of self) s
+        ensures border { (s : List Place) → RepresentsKept E.kept L.node (L.table links.now) (head_of self) s
             → IsLowerBorder (compared_within
             (order_there A.Key.cmp (A.key_of (adapter_of self))) (O.values objects.now) bound.entry) s (owning.position result) }
-        ensures stands { Stands (ShowsKept E.kept L.node) L.table (owning.site_of links.now result) }
+        ensures stands { IsValidCursor (RepresentsKept E.kept L.node) L.table (owning.site_of links.now result) }
     {
         let current = self.lower(links, objects, &mut probe_within(self.adapter, bound));
         CursorOwning::new(self, current)
@@ -120,14 +118,14 @@ impl<A: KeyAdapter, E: TreeHead> RBTree<A, E> {
         objects: &O,
         bound: &mut Bound<P>,
     ) -> Cursor<'a, A, L, E>
-        requires placed { ShowsPlaced (ShowsKept E.kept L.node (L.table links.now) (head_of self.now)) (O.values objects.now) }
+        requires placed { RepresentsPlaced (RepresentsKept E.kept L.node (L.table links.now) (head_of self.now)) (O.values objects.now) }
         requires room { HasRoomWithin P.count bound.old }
         ensures tree { tree_of result ≡ self.now }
         ensures links { links_of result ≡ links.now }
-        ensures border { (s : List Place) → ShowsKept E.kept L.node (L.table links.now) (head_of self.now) s
+        ensures border { (s : List Place) → RepresentsKept E.kept L.node (L.table links.now) (head_of self.now) s
             → IsUpperBorder (compared_within P.order (O.values objects.now) bound.old) s (position result) }
-        ensures stands { Stands (ShowsKept E.kept L.node) L.table (site_of result) }
-        ensures looks { (s : List Place) → ShowsKept E.kept L.node (L.table links.now) (head_of self.now) s
+        ensures stands { IsValidCursor (RepresentsKept E.kept L.node) L.table (site_of result) }
+        ensures looks { (s : List Place) → RepresentsKept E.kept L.node (L.table links.now) (head_of self.now) s
             → LooksWithin P.order P.count bound.old bound.new s }
     {
         Cursor::new(self, links, self.upper(links, objects, bound))
@@ -141,13 +139,13 @@ impl<A: KeyAdapter, E: TreeHead> RBTree<A, E> {
         objects: &O,
         bound: Bound<&A::Key>,
     ) -> Cursor<'a, A, L, E>
-        requires placed { ShowsPlaced (ShowsKept E.kept L.node (L.table links.now) (head_of self.now)) (O.values objects.now) }
+        requires placed { RepresentsPlaced (RepresentsKept E.kept L.node (L.table links.now) (head_of self.now)) (O.values objects.now) }
         ensures tree { tree_of result ≡ self.now }
         ensures links { links_of result ≡ links.now }
-        ensures border { (s : List Place) → ShowsKept E.kept L.node (L.table links.now) (head_of self.now) s
+        ensures border { (s : List Place) → RepresentsKept E.kept L.node (L.table links.now) (head_of self.now) s
             → IsUpperBorder (compared_within
             (order_there A.Key.cmp (A.key_of (adapter_of self.now))) (O.values objects.now) bound.entry) s (position result) }
-        ensures stands { Stands (ShowsKept E.kept L.node) L.table (site_of result) }
+        ensures stands { IsValidCursor (RepresentsKept E.kept L.node) L.table (site_of result) }
     {
         self.upper_bound_by(links, objects, &mut probe_within(self.adapter, bound))
     }
@@ -160,12 +158,12 @@ impl<A: KeyAdapter, E: TreeHead> RBTree<A, E> {
         objects: &O,
         bound: Bound<&A::Key>,
     ) -> CursorMut<'a, A, L, E>
-        requires placed { ShowsPlaced (ShowsKept E.kept L.node (L.table links.old) (head_of self.old)) (O.values objects.now) }
+        requires placed { RepresentsPlaced (RepresentsKept E.kept L.node (L.table links.old) (head_of self.old)) (O.values objects.now) }
         ensures borrows { editing.IsBorrowed self.entry links.entry result }
-        ensures border { (s : List Place) → ShowsKept E.kept L.node (L.table links.old) (head_of self.old) s
+        ensures border { (s : List Place) → RepresentsKept E.kept L.node (L.table links.old) (head_of self.old) s
             → IsUpperBorder (compared_within
             (order_there A.Key.cmp (A.key_of (adapter_of self.old))) (O.values objects.now) bound.entry) s (editing.position result) }
-        ensures stands { Stands (ShowsKept E.kept L.node) L.table (editing.site_of result) }
+        ensures stands { IsValidCursor (RepresentsKept E.kept L.node) L.table (editing.site_of result) }
     {
         let current = self.upper(&*links, objects, &mut probe_within(self.adapter, bound));
         CursorMut::new(self, links, current)
@@ -179,12 +177,12 @@ impl<A: KeyAdapter, E: TreeHead> RBTree<A, E> {
         objects: &O,
         bound: Bound<&A::Key>,
     ) -> CursorOwning<A, E>
-        requires placed { ShowsPlaced (ShowsKept E.kept L.node (L.table links.now) (head_of self)) (O.values objects.now) }
+        requires placed { RepresentsPlaced (RepresentsKept E.kept L.node (L.table links.now) (head_of self)) (O.values objects.now) }
         ensures tree { owning.tree_of result ≡ self }
-        ensures border { (s : List Place) → ShowsKept E.kept L.node (L.table links.now) (head_of self) s
+        ensures border { (s : List Place) → RepresentsKept E.kept L.node (L.table links.now) (head_of self) s
             → IsUpperBorder (compared_within
             (order_there A.Key.cmp (A.key_of (adapter_of self))) (O.values objects.now) bound.entry) s (owning.position result) }
-        ensures stands { Stands (ShowsKept E.kept L.node) L.table (owning.site_of links.now result) }
+        ensures stands { IsValidCursor (RepresentsKept E.kept L.node) L.table (owning.site_of links.now result) }
     {
         let current = self.upper(links, objects, &mut probe_within(self.adapter, bound));
         CursorOwning::new(self, current)

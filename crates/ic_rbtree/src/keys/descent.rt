@@ -4,10 +4,8 @@ ghost use Rattle.std.specs.Prelude.{◌≡◌, ◌+◌, ◌<◌, true, IsSome, c
 ghost use Rattle.std.specs.Bool.{OnTrue};
 ghost use Rattle.std.specs.Ordering.{is_eq};
 ghost use Rattle.std.specs.declared.cmp.Ordering.{Ordering};
-ghost use Rattle.ic_unsafe_ref.specs.declared.place.Place.{Place};
-ghost use Rattle.ic_unsafe_ref.specs.Objects.{is_placed};
-ghost use Rattle.ic_link_ops.specs.RedBlackTree.{Shows};
-ghost use Rattle.ic_link_ops.specs.PlacedObjects.{ShowsPlaced};
+ghost use Rattle.ic_link_ops.specs.Prelude.{Place, is_placed, RepresentsPlaced};
+ghost use Rattle.ic_link_ops.specs.RedBlackTree.{Represents};
 ghost use Rattle.ic_rbtree.specs.Comparing.{compared, goes_left, HasRoom, Looks};
 ghost use Rattle.ic_rbtree.specs.Descents.{at_root, passed, is_equal, EndsAt};
 
@@ -25,11 +23,11 @@ pub struct Descent {
     pub parent: PlaceWord,
     /// The side of that member.
     pub side: Side,
-    /// The member in front of the gap.
+    /// The member before the gap.
     pub front: PlaceWord,
-    /// The member behind the gap.
+    /// The member after the gap.
     pub back: PlaceWord,
-    /// The last member that compared equal, which may be behind the gap.
+    /// The last member that compared equal, which may be after the gap.
     pub(crate) equal: PlaceWord,
 }
 
@@ -57,7 +55,7 @@ fn compare_at<V, P: Probe<V>, O: Values<V>>(objects: &O, probe: &mut P, place: P
 }
 
 impl Descent {
-    /// Whether the member behind the gap compared equal. One comparison of places.
+    /// Whether the member after the gap compared equal. One comparison of places.
     #[inline]
     pub fn is_equal(&self) -> bool
         ensures { result ≡ is_equal self.now }
@@ -148,7 +146,7 @@ fn are_some(left: Option<Place>, right: Option<Place>) -> bool
 // less, and past equal ones to the side `equals`.
 //
 // Of both children one is picked, so that no guess of a processor is wrong, as every second one is for keys at random. A test of both
-// behind the loop, which never holds, keeps both loads: the compiler would else make them one, from a picked address.
+// after the loop, which never holds, keeps both loads: the compiler would else make them one, from a picked address.
 #[inline]
 pub(crate) fn descend<L: RBTreeOps, V, P: Probe<V>, O: Values<V>>(
     links: &L,
@@ -157,11 +155,11 @@ pub(crate) fn descend<L: RBTreeOps, V, P: Probe<V>, O: Values<V>>(
     probe: &mut P,
     equals: Side,
 ) -> Descent
-    requires placed { ShowsPlaced (Shows L.node (L.table links.now) root) (O.values objects.now) }
+    requires placed { RepresentsPlaced (Represents L.node (L.table links.now) root) (O.values objects.now) }
     requires room { HasRoom (P.count probe.old) }
-    ensures ends { (s : List Place) (h : Shows L.node (L.table links.now) root s)
+    ensures ends { (s : List Place) (h : Represents L.node (L.table links.now) root s)
         → EndsAt L.node (L.table links.now) (compared (P.order probe.old) (O.values objects.now)) equals h.tree result }
-    ensures looks { (s : List Place) → Shows L.node (L.table links.now) root s
+    ensures looks { (s : List Place) → Represents L.node (L.table links.now) root s
         → Looks P.order P.count probe.old probe.new s }
 {
     let mut descent = Descent::new();

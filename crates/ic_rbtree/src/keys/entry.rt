@@ -5,15 +5,12 @@
 //! ```
 
 ghost use Rattle.std.specs.Prelude.{◌≡◌, Ok, Some, IsSome, List, codes};
-ghost use Rattle.ic_unsafe_ref.specs.declared.place.Place.{Place};
-ghost use Rattle.ic_link_ops.specs.PlacedObjects.{ShowsPlaced};
-ghost use Rattle.ic_link_ops.specs.Positions.{Stands};
-ghost use Rattle.ic_link_ops.specs.Tables.{IsCovered};
+ghost use Rattle.ic_link_ops.specs.Prelude.{Place, IsCovered, IsValidCursor, RepresentsPlaced};
 ghost use Rattle.ic_rbtree.specs.Borders.{Finds};
 ghost use Rattle.ic_rbtree.specs.Comparing.{compared, order_of, HasRoom, Looks};
 ghost use Rattle.ic_rbtree.specs.CursorMut as editing;
 ghost use Rattle.ic_rbtree.specs.Entry.{IfOccupied, IfVacant, IsVacantFor, CanInsert, InsertsInto, links_of, IsBorrowed};
-ghost use Rattle.ic_rbtree.specs.Kept.{ShowsKept};
+ghost use Rattle.ic_rbtree.specs.Kept.{RepresentsKept};
 ghost use Rattle.ic_rbtree.specs.Tree.{head_of, adapter_of};
 
 use crate::head::{Root, TreeHead};
@@ -94,16 +91,16 @@ impl<A: KeyAdapter, E: TreeHead> RBTree<A, E> {
         objects: &O,
         probe: &mut P,
     ) -> Entry<'a, A, L, E>
-        requires placed { ShowsPlaced (ShowsKept E.kept L.node (L.table links.old) (head_of self.old)) (O.values objects.now) }
+        requires placed { RepresentsPlaced (RepresentsKept E.kept L.node (L.table links.old) (head_of self.old)) (O.values objects.now) }
         requires room { HasRoom (P.count probe.old) }
-        ensures occupied { (s : List Place) → ShowsKept E.kept L.node (L.table links.old) (head_of self.old) s → IfOccupied result (λ c.
+        ensures occupied { (s : List Place) → RepresentsKept E.kept L.node (L.table links.old) (head_of self.old) s → IfOccupied result (λ c.
             Finds (compared (P.order probe.old) (O.values objects.now)) s (editing.position c) × IsSome (editing.position c)) }
-        ensures stands { IfOccupied result (λ c. Stands (ShowsKept E.kept L.node) L.table (editing.site_of c)) }
-        ensures vacant { (s : List Place) → ShowsKept E.kept L.node (L.table links.old) (head_of self.old) s → IfVacant result (λ v.
+        ensures stands { IfOccupied result (λ c. IsValidCursor (RepresentsKept E.kept L.node) L.table (editing.site_of c)) }
+        ensures vacant { (s : List Place) → RepresentsKept E.kept L.node (L.table links.old) (head_of self.old) s → IfVacant result (λ v.
             IsVacantFor L.node (compared (P.order probe.old) (O.values objects.now)) (L.table links.old) s v) }
         ensures occupied_borrows { IfOccupied result (editing.IsBorrowed self.entry links.entry) }
         ensures vacant_borrows { IfVacant result (IsBorrowed self.entry links.entry) }
-        ensures looks { (s : List Place) → ShowsKept E.kept L.node (L.table links.old) (head_of self.old) s
+        ensures looks { (s : List Place) → RepresentsKept E.kept L.node (L.table links.old) (head_of self.old) s
             → Looks P.order P.count probe.old probe.new s }
     {
         let root = self.head.root();
@@ -128,12 +125,12 @@ impl<A: KeyAdapter, E: TreeHead> RBTree<A, E> {
         objects: &O,
         key: &A::Key,
     ) -> Entry<'a, A, L, E>
-        requires placed { ShowsPlaced (ShowsKept E.kept L.node (L.table links.old) (head_of self.old)) (O.values objects.now) }
-        ensures occupied { (s : List Place) → ShowsKept E.kept L.node (L.table links.old) (head_of self.old) s → IfOccupied result (λ c.
+        requires placed { RepresentsPlaced (RepresentsKept E.kept L.node (L.table links.old) (head_of self.old)) (O.values objects.now) }
+        ensures occupied { (s : List Place) → RepresentsKept E.kept L.node (L.table links.old) (head_of self.old) s → IfOccupied result (λ c.
             Finds (compared (order_of A.Key.cmp (A.key_of (adapter_of self.old)) key.now) (O.values objects.now)) s (editing.position c)
             × IsSome (editing.position c)) }
-        ensures stands { IfOccupied result (λ c. Stands (ShowsKept E.kept L.node) L.table (editing.site_of c)) }
-        ensures vacant { (s : List Place) → ShowsKept E.kept L.node (L.table links.old) (head_of self.old) s → IfVacant result (λ v.
+        ensures stands { IfOccupied result (λ c. IsValidCursor (RepresentsKept E.kept L.node) L.table (editing.site_of c)) }
+        ensures vacant { (s : List Place) → RepresentsKept E.kept L.node (L.table links.old) (head_of self.old) s → IfVacant result (λ v.
             IsVacantFor L.node (compared (order_of A.Key.cmp (A.key_of (adapter_of self.old)) key.now) (O.values objects.now))
             (L.table links.old) s v) }
         ensures occupied_borrows { IfOccupied result (editing.IsBorrowed self.entry links.entry) }
@@ -155,7 +152,7 @@ impl<'a, A: KeyAdapter, L: RBTreeOps, E: TreeHead> InsertCursor<'a, A, L, E> {
     ) -> Result<CursorMut<'a, A, L, E>, RefusedInsert<'a, A, L, E>>
         requires covered { IsCovered (L.table (links_of self)) object }
         requires vacant { CanInsert E.kept L.node L.table self }
-        ensures { InsertsInto E.kept L.node L.table L.Does L.Refused self.entry object result }
+        ensures { InsertsInto E.kept L.node L.table L.Trace L.Refused self.entry object result }
     {
         let InsertCursor {
             tree,
@@ -189,7 +186,7 @@ impl<'a, A: KeyAdapter, L: RBTreeOps, E: TreeHead> Entry<'a, A, L, E> {
         requires covered { IfVacant self (λ v. IsCovered (L.table (links_of v)) object) }
         requires vacant { IfVacant self (CanInsert E.kept L.node L.table) }
         ensures occupied { IfOccupied self.entry (λ c. result ≡ Ok c) }
-        ensures vacant { IfVacant self.entry (λ v. InsertsInto E.kept L.node L.table L.Does L.Refused v object result) }
+        ensures vacant { IfVacant self.entry (λ v. InsertsInto E.kept L.node L.table L.Trace L.Refused v object result) }
     {
         match self {
             Entry::Occupied(cursor) => Ok(cursor),
@@ -207,7 +204,7 @@ impl<'a, A: KeyAdapter, L: RBTreeOps, E: TreeHead> Entry<'a, A, L, E> {
         requires vacant { IfVacant self (CanInsert E.kept L.node L.table) }
         ensures occupied { IfOccupied self.entry (λ c. result ≡ Ok c) }
         ensures vacant { IfVacant self.entry (λ v. (object : Place) × F.post make object
-            × InsertsInto E.kept L.node L.table L.Does L.Refused v object result) }
+            × InsertsInto E.kept L.node L.table L.Trace L.Refused v object result) }
     {
         match self {
             Entry::Occupied(cursor) => Ok(cursor),

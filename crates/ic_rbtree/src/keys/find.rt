@@ -5,12 +5,10 @@
 //! ```
 
 ghost use Rattle.std.specs.Prelude.{◌≡◌, List};
-ghost use Rattle.ic_unsafe_ref.specs.declared.place.Place.{Place};
-ghost use Rattle.ic_link_ops.specs.Positions.{Stands};
-ghost use Rattle.ic_link_ops.specs.PlacedObjects.{ShowsPlaced};
+ghost use Rattle.ic_link_ops.specs.Prelude.{Place, IsValidCursor, RepresentsPlaced};
 ghost use Rattle.ic_rbtree.specs.Comparing.{compared, order_of, HasRoom, Looks};
 ghost use Rattle.ic_rbtree.specs.Borders.{Finds};
-ghost use Rattle.ic_rbtree.specs.Kept.{ShowsKept};
+ghost use Rattle.ic_rbtree.specs.Kept.{RepresentsKept};
 ghost use Rattle.ic_rbtree.specs.Tree.{head_of, adapter_of};
 
 use crate::head::TreeHead;
@@ -36,14 +34,14 @@ impl<A: KeyAdapter, E: TreeHead> RBTree<A, E> {
         objects: &O,
         probe: &mut P,
     ) -> Cursor<'a, A, L, E>
-        requires placed { ShowsPlaced (ShowsKept E.kept L.node (L.table links.now) (head_of self.now)) (O.values objects.now) }
+        requires placed { RepresentsPlaced (RepresentsKept E.kept L.node (L.table links.now) (head_of self.now)) (O.values objects.now) }
         requires room { HasRoom (P.count probe.old) }
         ensures tree { tree_of result ≡ self.now }
         ensures links { links_of result ≡ links.now }
-        ensures found { (s : List Place) → ShowsKept E.kept L.node (L.table links.now) (head_of self.now) s
+        ensures found { (s : List Place) → RepresentsKept E.kept L.node (L.table links.now) (head_of self.now) s
             → Finds (compared (P.order probe.old) (O.values objects.now)) s (position result) }
-        ensures stands { Stands (ShowsKept E.kept L.node) L.table (site_of result) }
-        ensures looks { (s : List Place) → ShowsKept E.kept L.node (L.table links.now) (head_of self.now) s
+        ensures stands { IsValidCursor (RepresentsKept E.kept L.node) L.table (site_of result) }
+        ensures looks { (s : List Place) → RepresentsKept E.kept L.node (L.table links.now) (head_of self.now) s
             → Looks P.order P.count probe.old probe.new s }
     {
         Cursor::new(self, links, self.first_equal(links, objects, probe))
@@ -57,12 +55,12 @@ impl<A: KeyAdapter, E: TreeHead> RBTree<A, E> {
         objects: &O,
         key: &A::Key,
     ) -> Cursor<'a, A, L, E>
-        requires placed { ShowsPlaced (ShowsKept E.kept L.node (L.table links.now) (head_of self.now)) (O.values objects.now) }
+        requires placed { RepresentsPlaced (RepresentsKept E.kept L.node (L.table links.now) (head_of self.now)) (O.values objects.now) }
         ensures tree { tree_of result ≡ self.now }
         ensures links { links_of result ≡ links.now }
-        ensures found { (s : List Place) → ShowsKept E.kept L.node (L.table links.now) (head_of self.now) s
+        ensures found { (s : List Place) → RepresentsKept E.kept L.node (L.table links.now) (head_of self.now) s
             → Finds (compared (order_of A.Key.cmp (A.key_of (adapter_of self.now)) key.now) (O.values objects.now)) s (position result) }
-        ensures stands { Stands (ShowsKept E.kept L.node) L.table (site_of result) }
+        ensures stands { IsValidCursor (RepresentsKept E.kept L.node) L.table (site_of result) }
     {
         self.find_by(links, objects, &mut KeyProbe::new(self.adapter, key))
     }
@@ -75,12 +73,12 @@ impl<A: KeyAdapter, E: TreeHead> RBTree<A, E> {
         objects: &O,
         key: &A::Key,
     ) -> CursorMut<'a, A, L, E>
-        requires placed { ShowsPlaced (ShowsKept E.kept L.node (L.table links.old) (head_of self.old)) (O.values objects.now) }
+        requires placed { RepresentsPlaced (RepresentsKept E.kept L.node (L.table links.old) (head_of self.old)) (O.values objects.now) }
         ensures borrows { editing.IsBorrowed self.entry links.entry result }
-        ensures found { (s : List Place) → ShowsKept E.kept L.node (L.table links.old) (head_of self.old) s
+        ensures found { (s : List Place) → RepresentsKept E.kept L.node (L.table links.old) (head_of self.old) s
             → Finds (compared (order_of A.Key.cmp (A.key_of (adapter_of self.old)) key.now) (O.values objects.now)) s
             (editing.position result) }
-        ensures stands { Stands (ShowsKept E.kept L.node) L.table (editing.site_of result) }
+        ensures stands { IsValidCursor (RepresentsKept E.kept L.node) L.table (editing.site_of result) }
     {
         let current = self.first_equal(&*links, objects, &mut KeyProbe::new(self.adapter, key));
         CursorMut::new(self, links, current)
@@ -94,12 +92,12 @@ impl<A: KeyAdapter, E: TreeHead> RBTree<A, E> {
         objects: &O,
         key: &A::Key,
     ) -> CursorOwning<A, E>
-        requires placed { ShowsPlaced (ShowsKept E.kept L.node (L.table links.now) (head_of self)) (O.values objects.now) }
+        requires placed { RepresentsPlaced (RepresentsKept E.kept L.node (L.table links.now) (head_of self)) (O.values objects.now) }
         ensures tree { owning.tree_of result ≡ self }
-        ensures found { (s : List Place) → ShowsKept E.kept L.node (L.table links.now) (head_of self) s
+        ensures found { (s : List Place) → RepresentsKept E.kept L.node (L.table links.now) (head_of self) s
             → Finds (compared (order_of A.Key.cmp (A.key_of (adapter_of self)) key.now) (O.values objects.now)) s
             (owning.position result) }
-        ensures stands { Stands (ShowsKept E.kept L.node) L.table (owning.site_of links.now result) }
+        ensures stands { IsValidCursor (RepresentsKept E.kept L.node) L.table (owning.site_of links.now result) }
     {
         let current = self.first_equal(links, objects, &mut KeyProbe::new(self.adapter, key));
         CursorOwning::new(self, current)

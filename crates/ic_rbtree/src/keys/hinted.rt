@@ -1,19 +1,14 @@
-//! Inserts that begin at a member in front of which the object probably goes.
+//! Inserts that begin at a member before which the object probably goes.
 //!
 //! ```text
-//! timers.insert_with_hint(&mut links, &objects, &next, timer)?; // two looks where it goes in front of `next`
+//! timers.insert_with_hint(&mut links, &objects, &next, timer)?; // two looks where it goes before `next`
 //! ```
 
 ghost use Rattle.std.specs.Prelude.{◌≡◌, ◌+◌, true, OnOk, OnErr, IfErr, List, [], ◌∷◌};
-ghost use Rattle.ic_unsafe_ref.specs.declared.place.Place.{Place};
-ghost use Rattle.ic_unsafe_ref.specs.Objects.{is_placed};
-ghost use Rattle.ic_link_ops.specs.LinkSteps.{acquires};
-ghost use Rattle.ic_link_ops.specs.PlacedObjects.{ShowsPlaced};
-ghost use Rattle.ic_link_ops.specs.Positions.{HasMember};
-ghost use Rattle.ic_link_ops.specs.Tables.{IsCovered};
+ghost use Rattle.ic_link_ops.specs.Prelude.{Place, is_placed, IsCovered, HasMember, RepresentsPlaced, acquires};
 ghost use Rattle.ic_rbtree.specs.Comparing.{compared, own_order, HasRoom};
 ghost use Rattle.ic_rbtree.specs.Holes.{HintedLooks};
-ghost use Rattle.ic_rbtree.specs.Kept.{ShowsKept};
+ghost use Rattle.ic_rbtree.specs.Kept.{RepresentsKept};
 ghost use Rattle.ic_rbtree.specs.Ordered.{InsertsInOrder};
 ghost use Rattle.ic_rbtree.specs.Tree.{head_of, adapter_of};
 
@@ -25,8 +20,8 @@ use ic_link_ops::{AlreadyLinked, LinkOps};
 use ic_unsafe_ref::{UnsafeRef, Values};
 
 impl<A: KeyAdapter, E: TreeHead> RBTree<A, E> {
-    /// Inserts the object where the probe's order wants it, with a hint: the member in front of which it probably goes. It looks at that
-    /// member, and at the one in front of it. If the object goes between both, it makes no descent, and else it descends.
+    /// Inserts the object where the probe's order wants it, with a hint: the member before which it probably goes. It looks at that
+    /// member, and at the one before it. If the object goes between both, it makes no descent, and else it descends.
     ///
     /// It requires that the object's place is covered, that all members are placed, that the hint is a member, and that the probe's count is
     /// at most `u64::MAX - 68`. A refused object comes back, nothing is looked at, and the tree and its links are as they were. O(log n):
@@ -41,17 +36,17 @@ impl<A: KeyAdapter, E: TreeHead> RBTree<A, E> {
         object: UnsafeRef<A::Value>,
     ) -> Result<(), AlreadyLinked<A::Value>>
         requires covered { IsCovered (L.table links.old) object }
-        requires placed { ShowsPlaced (ShowsKept E.kept L.node (L.table links.old) (head_of self.old)) (O.values objects.now) }
-        requires member { HasMember (ShowsKept E.kept L.node (L.table links.old) (head_of self.old)) hint.now }
+        requires placed { RepresentsPlaced (RepresentsKept E.kept L.node (L.table links.old) (head_of self.old)) (O.values objects.now) }
+        requires member { HasMember (RepresentsKept E.kept L.node (L.table links.old) (head_of self.old)) hint.now }
         requires room { HasRoom (P.count probe.old + 2) }
-        ensures inserted { (s : List Place) → ShowsKept E.kept L.node (L.table links.old) (head_of self.old) s → OnOk result
-            (InsertsInOrder (ShowsKept E.kept L.node) (compared (P.order probe.old) (O.values objects.now)) (L.table links.old)
+        ensures inserted { (s : List Place) → RepresentsKept E.kept L.node (L.table links.old) (head_of self.old) s → OnOk result
+            (InsertsInOrder (RepresentsKept E.kept L.node) (compared (P.order probe.old) (O.values objects.now)) (L.table links.old)
             (L.table links.new) (head_of self.new) s object) }
-        ensures acquired { OnOk result (L.Does links.old links.new (acquires object ∷ [])) }
+        ensures acquired { OnOk result (L.Trace links.old links.new (acquires object ∷ [])) }
         ensures adapter { adapter_of self.new ≡ adapter_of self.old }
         ensures refused { OnErr result (L.Refused links.old links.new object) }
         ensures unchanged { IfErr result (λ refused. (refused.0 ≡ object) × (self.new ≡ self.old)) }
-        ensures looks { (s : List Place) → ShowsKept E.kept L.node (L.table links.old) (head_of self.old) s
+        ensures looks { (s : List Place) → RepresentsKept E.kept L.node (L.table links.old) (head_of self.old) s
             → OnOk result (HintedLooks P.order P.count (O.values objects.now) hint.now probe.old probe.new s) }
         ensures no_look { OnErr result (probe.new ≡ probe.old) }
     {
@@ -65,7 +60,7 @@ impl<A: KeyAdapter, E: TreeHead> RBTree<A, E> {
         Ok(())
     }
 
-    /// Inserts the object where its own key belongs, behind members with the same key, with a hint: `insert_with_hint_by` with a
+    /// Inserts the object where its own key belongs, after members with the same key, with a hint: `insert_with_hint_by` with a
     /// `KeyProbe`. It requires that the object is placed, too. O(log n), and two looks at most where the hint is right.
     #[inline]
     pub fn insert_with_hint<L: RBTreeOps, O: Values<A::Value>>(
@@ -76,14 +71,14 @@ impl<A: KeyAdapter, E: TreeHead> RBTree<A, E> {
         object: UnsafeRef<A::Value>,
     ) -> Result<(), AlreadyLinked<A::Value>>
         requires covered { IsCovered (L.table links.old) object }
-        requires placed { ShowsPlaced (ShowsKept E.kept L.node (L.table links.old) (head_of self.old)) (O.values objects.now) }
-        requires member { HasMember (ShowsKept E.kept L.node (L.table links.old) (head_of self.old)) hint.now }
+        requires placed { RepresentsPlaced (RepresentsKept E.kept L.node (L.table links.old) (head_of self.old)) (O.values objects.now) }
+        requires member { HasMember (RepresentsKept E.kept L.node (L.table links.old) (head_of self.old)) hint.now }
         requires object { is_placed (O.values objects.now) object ≡ true }
-        ensures inserted { (s : List Place) → ShowsKept E.kept L.node (L.table links.old) (head_of self.old) s → OnOk result
-            (InsertsInOrder (ShowsKept E.kept L.node)
+        ensures inserted { (s : List Place) → RepresentsKept E.kept L.node (L.table links.old) (head_of self.old) s → OnOk result
+            (InsertsInOrder (RepresentsKept E.kept L.node)
             (compared (own_order A.Key.cmp (A.key_of (adapter_of self.old)) (O.values objects.now) object) (O.values objects.now))
             (L.table links.old) (L.table links.new) (head_of self.new) s object) }
-        ensures acquired { OnOk result (L.Does links.old links.new (acquires object ∷ [])) }
+        ensures acquired { OnOk result (L.Trace links.old links.new (acquires object ∷ [])) }
         ensures adapter { adapter_of self.new ≡ adapter_of self.old }
         ensures refused { OnErr result (L.Refused links.old links.new object) }
         ensures unchanged { IfErr result (λ refused. (refused.0 ≡ object) × (self.new ≡ self.old)) }

@@ -6,18 +6,13 @@
 //! ```
 
 ghost use Rattle.std.specs.Prelude.{◌≡◌, ◌+◌, ◌<◌, ◌≤◌, true, ℕ, Option, Some, IfSome, IfNone, List};
-ghost use Rattle.ic_unsafe_ref.specs.declared.place.Place.{Place};
-ghost use Rattle.ic_unsafe_ref.specs.Objects.{is_placed};
-ghost use Rattle.ic_link_ops.specs.PlacedObjects.{ShowsPlaced};
-ghost use Rattle.ic_link_ops.specs.Positions.{HasMember};
-ghost use Rattle.ic_link_ops.specs.RedBlackTree.{Shows};
-ghost use Rattle.ic_link_ops.specs.Sequences.{Cut, join, IsAfter, IsBefore};
-ghost use Rattle.ic_link_ops.specs.Tables.{IsLinked};
+ghost use Rattle.ic_link_ops.specs.Prelude.{Place, is_placed, Cut, join, IsAfter, IsBefore, IsLinked, HasMember, RepresentsPlaced};
+ghost use Rattle.ic_link_ops.specs.RedBlackTree.{Represents};
 ghost use Rattle.ic_rbtree.specs.Borders.{less_at};
 ghost use Rattle.ic_rbtree.specs.Comparing.{compared, HasRoom};
-ghost use Rattle.ic_rbtree.specs.Holes.{less_there, behind_there, looks_there, IsInOrder, BelongsBefore, HintedLooks};
-ghost use Rattle.ic_rbtree.specs.Insertion.{IsHole};
-ghost use Rattle.ic_rbtree.specs.Kept.{ShowsKept, HasRoomFor, InsertLooks};
+ghost use Rattle.ic_rbtree.specs.Holes.{less_there, after_there, looks_there, IsInOrder, BelongsBefore, HintedLooks};
+ghost use Rattle.ic_rbtree.specs.Insertion.{IsInsertPos};
+ghost use Rattle.ic_rbtree.specs.Kept.{RepresentsKept, HasRoomFor, InsertLooks};
 
 use crate::Probe;
 use crate::head::TreeHead;
@@ -44,10 +39,10 @@ fn is_less<V, P: Probe<V>, O: Values<V>>(objects: &O, probe: &mut P, at: Option<
 
 // Whether what is searched is not less than the object at a position. At null it takes no look, and the answer is no.
 #[inline]
-fn is_behind<V, P: Probe<V>, O: Values<V>>(objects: &O, probe: &mut P, at: Option<Place>) -> bool
+fn is_after<V, P: Probe<V>, O: Values<V>>(objects: &O, probe: &mut P, at: Option<Place>) -> bool
     requires placed { IfSome at (λ p. is_placed (O.values objects.now) p ≡ true) }
     requires room { P.count probe.old < 18446744073709551615 }
-    ensures behind { result ≡ behind_there (compared (P.order probe.old) (O.values objects.now)) at }
+    ensures behind { result ≡ after_there (compared (P.order probe.old) (O.values objects.now)) at }
     ensures counted { P.count probe.new ≡ P.count probe.old + looks_there at }
     ensures same { P.order probe.new ≡ P.order probe.old }
 {
@@ -57,7 +52,7 @@ fn is_behind<V, P: Probe<V>, O: Values<V>>(objects: &O, probe: &mut P, at: Optio
     }
 }
 
-// Where what is searched belongs: behind the last member, which is looked at first if the tree keeps it, or else where a descent ends.
+// Where what is searched belongs: after the last member, which is looked at first if the tree keeps it, or else where a descent ends.
 #[inline]
 pub(crate) fn hole_for<E: TreeHead, L: RBTreeOps, V, P: Probe<V>, O: Values<V>>(
     links: &L,
@@ -65,28 +60,28 @@ pub(crate) fn hole_for<E: TreeHead, L: RBTreeOps, V, P: Probe<V>, O: Values<V>>(
     objects: &O,
     probe: &mut P,
 ) -> (Option<Place>, Side)
-    requires placed { ShowsPlaced (ShowsKept E.kept L.node (L.table links.now) head.now) (O.values objects.now) }
+    requires placed { RepresentsPlaced (RepresentsKept E.kept L.node (L.table links.now) head.now) (O.values objects.now) }
     requires room { HasRoomFor (E.kept head.now) (P.count probe.old) }
-    ensures hole { (s : List Place) → ShowsKept E.kept L.node (L.table links.now) head.now s
+    ensures hole { (s : List Place) → RepresentsKept E.kept L.node (L.table links.now) head.now s
         → IsInOrder L.node (L.table links.now) (compared (P.order probe.old) (O.values objects.now)) s result.0 result.1 }
-    ensures looks { (s : List Place) → ShowsKept E.kept L.node (L.table links.now) head.now s
+    ensures looks { (s : List Place) → RepresentsKept E.kept L.node (L.table links.now) head.now s
         → InsertLooks P.order P.count (E.kept head.now) (O.values objects.now) probe.old probe.new s }
 {
     let last = head.kept_last();
-    if is_behind(objects, probe, last) {
+    if is_after(objects, probe, last) {
         return (last, Side::Right);
     }
     let hole = descend(links, head.root(), objects, probe, Side::Right);
     (hole.parent.get(), hole.side)
 }
 
-// The gap between two members that stand side by side, or in front of the first: below `back`, or where that has a subtree there,
+// The gap between two members that stand side by side, or before the first: below `back`, or where that has a subtree there,
 // below the last member of it, which is `front`.
 #[inline]
 fn hole_between<L: RBTreeOps>(links: &L, front: Option<Place>, back: Place) -> (Option<Place>, Side)
     requires { IsLinked L.linked (L.table links.now) back }
-    ensures { (root : Option Place) (gap : Cut) → Shows L.node (L.table links.now) root (join gap) → IsAfter gap front
-        → IsBefore gap (Some back) → IsHole L.node (L.table links.now) result.0 result.1 gap }
+    ensures { (root : Option Place) (gap : Cut) → Represents L.node (L.table links.now) root (join gap) → IsAfter gap front
+        → IsBefore gap (Some back) → IsInsertPos L.node (L.table links.now) result.0 result.1 gap }
 {
     match links.left(back) {
         None => (Some(back), Side::Left),
@@ -94,8 +89,8 @@ fn hole_between<L: RBTreeOps>(links: &L, front: Option<Place>, back: Place) -> (
     }
 }
 
-// The gap in front of the member at `place`, if what is searched belongs there. It looks at that member, and where it is less, at the
-// one in front.
+// The gap before the member at `place`, if what is searched belongs there. It looks at that member, and where it is less, at the
+// one before.
 #[inline]
 fn hole_before<L: RBTreeOps, V, P: Probe<V>, O: Values<V>>(
     links: &L,
@@ -104,12 +99,12 @@ fn hole_before<L: RBTreeOps, V, P: Probe<V>, O: Values<V>>(
     objects: &O,
     probe: &mut P,
 ) -> Option<(Option<Place>, Side)>
-    requires placed { ShowsPlaced (Shows L.node (L.table links.now) root) (O.values objects.now) }
-    requires member { HasMember (Shows L.node (L.table links.now) root) place }
+    requires placed { RepresentsPlaced (Represents L.node (L.table links.now) root) (O.values objects.now) }
+    requires member { HasMember (Represents L.node (L.table links.now) root) place }
     requires room { P.count probe.old + 1 < 18446744073709551615 }
-    ensures hole { IfSome result (λ hole. (s : List Place) → Shows L.node (L.table links.now) root s
+    ensures hole { IfSome result (λ hole. (s : List Place) → Represents L.node (L.table links.now) root s
         → IsInOrder L.node (L.table links.now) (compared (P.order probe.old) (O.values objects.now)) s hole.0 hole.1) }
-    ensures elsewhere { IfNone result ((s : List Place) → Shows L.node (L.table links.now) root s
+    ensures elsewhere { IfNone result ((s : List Place) → Represents L.node (L.table links.now) root s
         → BelongsBefore (less_at (compared (P.order probe.old) (O.values objects.now))) place s → ⊥) }
     ensures counted { (looks : ℕ) × (P.count probe.new ≡ P.count probe.old + looks) × (looks ≤ 2) }
     ensures same { P.order probe.new ≡ P.order probe.old }
@@ -124,7 +119,7 @@ fn hole_before<L: RBTreeOps, V, P: Probe<V>, O: Values<V>>(
     Some(hole_between(links, front, place))
 }
 
-// Where what is searched belongs: in front of the member at `hint`, or else where a descent ends.
+// Where what is searched belongs: before the member at `hint`, or else where a descent ends.
 #[inline]
 pub(crate) fn hole_near<L: RBTreeOps, V, P: Probe<V>, O: Values<V>>(
     links: &L,
@@ -133,12 +128,12 @@ pub(crate) fn hole_near<L: RBTreeOps, V, P: Probe<V>, O: Values<V>>(
     objects: &O,
     probe: &mut P,
 ) -> (Option<Place>, Side)
-    requires placed { ShowsPlaced (Shows L.node (L.table links.now) root) (O.values objects.now) }
-    requires member { HasMember (Shows L.node (L.table links.now) root) hint }
+    requires placed { RepresentsPlaced (Represents L.node (L.table links.now) root) (O.values objects.now) }
+    requires member { HasMember (Represents L.node (L.table links.now) root) hint }
     requires room { HasRoom (P.count probe.old + 2) }
-    ensures hole { (s : List Place) → Shows L.node (L.table links.now) root s
+    ensures hole { (s : List Place) → Represents L.node (L.table links.now) root s
         → IsInOrder L.node (L.table links.now) (compared (P.order probe.old) (O.values objects.now)) s result.0 result.1 }
-    ensures looks { (s : List Place) → Shows L.node (L.table links.now) root s
+    ensures looks { (s : List Place) → Represents L.node (L.table links.now) root s
         → HintedLooks P.order P.count (O.values objects.now) hint probe.old probe.new s }
 {
     if let Some(hole) = hole_before(links, root, hint, objects, probe) {

@@ -2,15 +2,13 @@
 //!
 //! ```text
 //! links.set_value(object.place(), 5);
-//! tree.insert_keyed(&mut links, object)?; // behind the members whose keys are not greater
+//! tree.insert_keyed(&mut links, object)?; // after the members whose keys are not greater
 //! ```
 
 ghost use Rattle.std.specs.Prelude.{◌≡◌, OnOk, OnErr, IfErr, List, [], ◌∷◌};
-ghost use Rattle.ic_unsafe_ref.specs.declared.place.Place.{Place};
-ghost use Rattle.ic_link_ops.specs.LinkSteps.{acquires};
-ghost use Rattle.ic_link_ops.specs.Tables.{IsCovered};
+ghost use Rattle.ic_link_ops.specs.Prelude.{Place, IsCovered, acquires};
 ghost use Rattle.ic_rbtree.specs.Comparing.{compared, own_order};
-ghost use Rattle.ic_rbtree.specs.Kept.{ShowsKept, ShowsKeptSome, HasRoomFor, InsertLooks};
+ghost use Rattle.ic_rbtree.specs.Kept.{RepresentsKept, RepresentsKeptSome, HasRoomFor, InsertLooks};
 ghost use Rattle.ic_rbtree.specs.Ordered.{InsertsInOrder};
 ghost use Rattle.ic_rbtree.specs.Tree.{head_of, adapter_of};
 
@@ -23,10 +21,10 @@ use ic_link_ops::{AlreadyLinked, LinkOps, LinkValues};
 use ic_unsafe_ref::{UnsafeRef, Values};
 
 impl<A: KeyAdapter, E: TreeHead> RBTree<A, E> {
-    /// Inserts the object where the probe's order wants it, behind members that compare equal, unless its link is refused:
+    /// Inserts the object where the probe's order wants it, after members that compare equal, unless its link is refused:
     /// [`insert_by`](RBTree::insert_by) where the table keeps the values.
     ///
-    /// It requires that the object's place is covered, that the tree is shown, and that the probe's count is at most `u64::MAX - 66`, or one
+    /// It requires that the object's place is covered, that the tree is represented, and that the probe's count is at most `u64::MAX - 66`, or one
     /// less where the ends are kept. A refused object comes back, nothing is looked at, and the tree and its links are as they were.
     /// O(log n): v looks in a tree of n members, where `2^v <= (n + 1)^2`.
     #[inline]
@@ -37,17 +35,17 @@ impl<A: KeyAdapter, E: TreeHead> RBTree<A, E> {
         object: UnsafeRef<A::Value>,
     ) -> Result<(), AlreadyLinked<A::Value>>
         requires covered { IsCovered (L.table links.old) object }
-        requires shown { ShowsKeptSome E.kept L.node (L.table links.old) (head_of self.old) }
+        requires shown { RepresentsKeptSome E.kept L.node (L.table links.old) (head_of self.old) }
         requires room { HasRoomFor (E.kept (head_of self.old)) (P.count probe.old) }
-        ensures inserted { (s : List Place) → ShowsKept E.kept L.node (L.table links.old) (head_of self.old) s → OnOk result
-            (InsertsInOrder (ShowsKept E.kept L.node) (compared (P.order probe.old) (L.values links.old)) (L.table links.old)
+        ensures inserted { (s : List Place) → RepresentsKept E.kept L.node (L.table links.old) (head_of self.old) s → OnOk result
+            (InsertsInOrder (RepresentsKept E.kept L.node) (compared (P.order probe.old) (L.values links.old)) (L.table links.old)
             (L.table links.new) (head_of self.new) s object) }
         ensures values { L.values links.new ≡ L.values links.old }
-        ensures acquired { OnOk result (L.Does links.old links.new (acquires object ∷ [])) }
+        ensures acquired { OnOk result (L.Trace links.old links.new (acquires object ∷ [])) }
         ensures adapter { adapter_of self.new ≡ adapter_of self.old }
         ensures refused { OnErr result (L.Refused links.old links.new object) }
         ensures unchanged { IfErr result (λ refused. (refused.0 ≡ object) × (self.new ≡ self.old)) }
-        ensures looks { (s : List Place) → ShowsKept E.kept L.node (L.table links.old) (head_of self.old) s
+        ensures looks { (s : List Place) → RepresentsKept E.kept L.node (L.table links.old) (head_of self.old) s
             → OnOk result (InsertLooks P.order P.count (E.kept (head_of self.old)) (L.values links.old) probe.old probe.new s) }
         ensures no_look { OnErr result (probe.new ≡ probe.old) }
     {
@@ -64,7 +62,7 @@ impl<A: KeyAdapter, E: TreeHead> RBTree<A, E> {
     /// Inserts the object where the key that the table keeps beside its link belongs: [`insert`](RBTree::insert) where the table keeps
     /// the values. A look reads one entry, which has the key and the children.
     ///
-    /// It requires that the object's place is covered, and that the tree is shown. A refused object comes back, nothing is looked at, and the
+    /// It requires that the object's place is covered, and that the tree is represented. A refused object comes back, nothing is looked at, and the
     /// tree and its links are as they were. O(log n).
     #[inline(always)]
     pub fn insert_keyed<L: RBTreeOps + LinkValues<A::Value>>(
@@ -73,13 +71,13 @@ impl<A: KeyAdapter, E: TreeHead> RBTree<A, E> {
         object: UnsafeRef<A::Value>,
     ) -> Result<(), AlreadyLinked<A::Value>>
         requires covered { IsCovered (L.table links.old) object }
-        requires shown { ShowsKeptSome E.kept L.node (L.table links.old) (head_of self.old) }
-        ensures inserted { (s : List Place) → ShowsKept E.kept L.node (L.table links.old) (head_of self.old) s → OnOk result
-            (InsertsInOrder (ShowsKept E.kept L.node)
+        requires shown { RepresentsKeptSome E.kept L.node (L.table links.old) (head_of self.old) }
+        ensures inserted { (s : List Place) → RepresentsKept E.kept L.node (L.table links.old) (head_of self.old) s → OnOk result
+            (InsertsInOrder (RepresentsKept E.kept L.node)
             (compared (own_order A.Key.cmp (A.key_of (adapter_of self.old)) (L.values links.old) object) (L.values links.old))
             (L.table links.old) (L.table links.new) (head_of self.new) s object) }
         ensures values { L.values links.new ≡ L.values links.old }
-        ensures acquired { OnOk result (L.Does links.old links.new (acquires object ∷ [])) }
+        ensures acquired { OnOk result (L.Trace links.old links.new (acquires object ∷ [])) }
         ensures adapter { adapter_of self.new ≡ adapter_of self.old }
         ensures refused { OnErr result (L.Refused links.old links.new object) }
         ensures unchanged { IfErr result (λ refused. (refused.0 ≡ object) × (self.new ≡ self.old)) }

@@ -1,17 +1,13 @@
 //! Inserts where the key belongs.
 //!
 //! ```text
-//! tree.insert(&mut links, &objects, object)?; // behind the members whose keys are not greater
+//! tree.insert(&mut links, &objects, object)?; // after the members whose keys are not greater
 //! ```
 
 ghost use Rattle.std.specs.Prelude.{◌≡◌, true, OnOk, OnErr, IfErr, List, [], ◌∷◌};
-ghost use Rattle.ic_unsafe_ref.specs.declared.place.Place.{Place};
-ghost use Rattle.ic_unsafe_ref.specs.Objects.{is_placed};
-ghost use Rattle.ic_link_ops.specs.Tables.{IsCovered};
-ghost use Rattle.ic_link_ops.specs.LinkSteps.{acquires};
-ghost use Rattle.ic_link_ops.specs.PlacedObjects.{ShowsPlaced};
+ghost use Rattle.ic_link_ops.specs.Prelude.{Place, is_placed, IsCovered, RepresentsPlaced, acquires};
 ghost use Rattle.ic_rbtree.specs.Comparing.{compared, own_order};
-ghost use Rattle.ic_rbtree.specs.Kept.{ShowsKept, HasRoomFor, InsertLooks};
+ghost use Rattle.ic_rbtree.specs.Kept.{RepresentsKept, HasRoomFor, InsertLooks};
 ghost use Rattle.ic_rbtree.specs.Ordered.{InsertsInOrder};
 ghost use Rattle.ic_rbtree.specs.Tree.{head_of, adapter_of};
 
@@ -44,12 +40,12 @@ impl<A: KeyAdapter, E: TreeHead, L: RBTreeOps> Ordered<L> for RBTree<A, E> {
 }
 
 impl<A: KeyAdapter, E: TreeHead> RBTree<A, E> {
-    /// Inserts the object where the probe's order wants it: behind members that compare equal, unless its link is refused. A tree that keeps
-    /// its ends looks at the last member first, and makes no descent where the object goes behind that.
+    /// Inserts the object where the probe's order wants it: after members that compare equal, unless its link is refused. A tree that keeps
+    /// its ends looks at the last member first, and makes no descent where the object goes after that.
     ///
     /// It requires that the object's place is covered, that all members are placed, and that the probe's count is at most
-    /// `u64::MAX - 66`, or one less where the ends are kept. A refused object comes back, nothing is looked at, and the tree and its links are as they were. The crate
-    /// returns a cursor on the object; here that is one more call, `cursor_mut_from_ptr`. O(log n): v looks in a tree of n
+    /// `u64::MAX - 66`, or one less where the ends are kept. A refused object comes back, nothing is looked at, and the tree and its links are as
+    /// they were. The crate returns a cursor on the object; here that is one more call, `cursor_mut_from_ptr`. O(log n): v looks in a tree of n
     /// members, where `2^v <= (n + 1)^2`.
     #[inline]
     pub fn insert_by<L: RBTreeOps, P: Probe<A::Value>, O: Values<A::Value>>(
@@ -60,16 +56,16 @@ impl<A: KeyAdapter, E: TreeHead> RBTree<A, E> {
         object: UnsafeRef<A::Value>,
     ) -> Result<(), AlreadyLinked<A::Value>>
         requires covered { IsCovered (L.table links.old) object }
-        requires placed { ShowsPlaced (ShowsKept E.kept L.node (L.table links.old) (head_of self.old)) (O.values objects.now) }
+        requires placed { RepresentsPlaced (RepresentsKept E.kept L.node (L.table links.old) (head_of self.old)) (O.values objects.now) }
         requires room { HasRoomFor (E.kept (head_of self.old)) (P.count probe.old) }
-        ensures inserted { (s : List Place) → ShowsKept E.kept L.node (L.table links.old) (head_of self.old) s → OnOk result
-            (InsertsInOrder (ShowsKept E.kept L.node) (compared (P.order probe.old) (O.values objects.now)) (L.table links.old)
+        ensures inserted { (s : List Place) → RepresentsKept E.kept L.node (L.table links.old) (head_of self.old) s → OnOk result
+            (InsertsInOrder (RepresentsKept E.kept L.node) (compared (P.order probe.old) (O.values objects.now)) (L.table links.old)
             (L.table links.new) (head_of self.new) s object) }
-        ensures acquired { OnOk result (L.Does links.old links.new (acquires object ∷ [])) }
+        ensures acquired { OnOk result (L.Trace links.old links.new (acquires object ∷ [])) }
         ensures adapter { adapter_of self.new ≡ adapter_of self.old }
         ensures refused { OnErr result (L.Refused links.old links.new object) }
         ensures unchanged { IfErr result (λ refused. (refused.0 ≡ object) × (self.new ≡ self.old)) }
-        ensures looks { (s : List Place) → ShowsKept E.kept L.node (L.table links.old) (head_of self.old) s
+        ensures looks { (s : List Place) → RepresentsKept E.kept L.node (L.table links.old) (head_of self.old) s
             → OnOk result (InsertLooks P.order P.count (E.kept (head_of self.old)) (O.values objects.now) probe.old probe.new s) }
         ensures no_look { OnErr result (probe.new ≡ probe.old) }
     {
@@ -79,7 +75,7 @@ impl<A: KeyAdapter, E: TreeHead> RBTree<A, E> {
         Ok(())
     }
 
-    /// Inserts the object where its own key belongs, behind members with the same key, unless its link is refused: `insert_by`
+    /// Inserts the object where its own key belongs, after members with the same key, unless its link is refused: `insert_by`
     /// with a `KeyProbe`. It requires that the object is placed, too. O(log n).
     #[inline]
     pub fn insert<L: RBTreeOps, O: Values<A::Value>>(
@@ -89,13 +85,13 @@ impl<A: KeyAdapter, E: TreeHead> RBTree<A, E> {
         object: UnsafeRef<A::Value>,
     ) -> Result<(), AlreadyLinked<A::Value>>
         requires covered { IsCovered (L.table links.old) object }
-        requires placed { ShowsPlaced (ShowsKept E.kept L.node (L.table links.old) (head_of self.old)) (O.values objects.now) }
+        requires placed { RepresentsPlaced (RepresentsKept E.kept L.node (L.table links.old) (head_of self.old)) (O.values objects.now) }
         requires object { is_placed (O.values objects.now) object ≡ true }
-        ensures inserted { (s : List Place) → ShowsKept E.kept L.node (L.table links.old) (head_of self.old) s → OnOk result
-            (InsertsInOrder (ShowsKept E.kept L.node)
+        ensures inserted { (s : List Place) → RepresentsKept E.kept L.node (L.table links.old) (head_of self.old) s → OnOk result
+            (InsertsInOrder (RepresentsKept E.kept L.node)
             (compared (own_order A.Key.cmp (A.key_of (adapter_of self.old)) (O.values objects.now) object) (O.values objects.now))
             (L.table links.old) (L.table links.new) (head_of self.new) s object) }
-        ensures acquired { OnOk result (L.Does links.old links.new (acquires object ∷ [])) }
+        ensures acquired { OnOk result (L.Trace links.old links.new (acquires object ∷ [])) }
         ensures adapter { adapter_of self.new ≡ adapter_of self.old }
         ensures refused { OnErr result (L.Refused links.old links.new object) }
         ensures unchanged { IfErr result (λ refused. (refused.0 ≡ object) × (self.new ≡ self.old)) }

@@ -78,12 +78,12 @@ impl<A: KeyAdapter> Probe<A::Value> for KeyProbe<'_, A> {
     #[inline]
     fn compare(&mut self, value: &A::Value) -> Ordering {
         self.looks += 1;
-        // The value's key stands in front, so that a search picks its way by one flag of the processor: `v < k`, and not `k > v`.
+        // The value's key stands first, so that a search picks its way by one flag of the processor: `v < k`, and not `k > v`.
         self.adapter.get_key(value).cmp(self.key).reverse()
     }
 }
 
-/// The same search, for an insert: it goes left where its key is less, so the key stands in front, and one flag tells: `k < v`.
+/// The same search, for an insert: it goes left where its key is less, so the key stands first, and one flag tells: `k < v`.
 #[derive(Drop)]
 pub(crate) struct KeyFirst<'k, A: KeyAdapter>
 where

@@ -7,12 +7,10 @@
 //! ```
 
 ghost use Rattle.std.specs.Prelude.{◌≡◌, true, IfSome, List};
-ghost use Rattle.ic_unsafe_ref.specs.Objects.{is_placed};
-ghost use Rattle.ic_unsafe_ref.specs.declared.place.Place.{Place};
-ghost use Rattle.ic_link_ops.specs.PlacedObjects.{ShowsPlaced, values_at};
+ghost use Rattle.ic_link_ops.specs.Prelude.{Place, is_placed, RepresentsPlaced, values_at};
 ghost use Rattle.ic_rbtree.specs.Comparing.{compared_within, order_of, order_there, HasRoomWithin, LooksWithin};
 ghost use Rattle.ic_rbtree.specs.Iter.{rest_of, objects_left, CanWalk};
-ghost use Rattle.ic_rbtree.specs.Kept.{ShowsKept};
+ghost use Rattle.ic_rbtree.specs.Kept.{RepresentsKept};
 ghost use Rattle.ic_rbtree.specs.KeyProbe.{key_order, looks_of, HasAdapter};
 ghost use Rattle.ic_rbtree.specs.Ranges.{runs_up, IsRange};
 ghost use Rattle.ic_rbtree.specs.Tree.{head_of, adapter_of};
@@ -60,20 +58,20 @@ impl<A: KeyAdapter, E: TreeHead> RBTree<A, E> {
         min: &mut Bound<KeyProbe<'_, A>>,
         max: &mut Bound<KeyProbe<'_, A>>,
     ) -> Iter<'a, A, L, O>
-        requires placed { ShowsPlaced (ShowsKept E.kept L.node (L.table links.now) (head_of self.now)) (O.values objects.now) }
+        requires placed { RepresentsPlaced (RepresentsKept E.kept L.node (L.table links.now) (head_of self.now)) (O.values objects.now) }
         requires min_room { HasRoomWithin looks_of min.old }
         requires max_room { HasRoomWithin looks_of max.old }
         requires min_adapter { HasAdapter (adapter_of self.now) min.old }
         requires max_adapter { HasAdapter (adapter_of self.now) max.old }
-        ensures range { (s : List Place) → ShowsKept E.kept L.node (L.table links.now) (head_of self.now) s → IsRange
+        ensures range { (s : List Place) → RepresentsKept E.kept L.node (L.table links.now) (head_of self.now) s → IsRange
             (compared_within (key_order A.Key.cmp A.key_of) (O.values objects.now) min.old)
             (compared_within (key_order A.Key.cmp A.key_of) (O.values objects.now) max.old)
             (runs_up A.Key.cmp (A.key_of (adapter_of self.now)) (O.values objects.now)) s (rest_of L.node L.table result) }
         ensures walks { objects_left L.node L.table O.values result ≡ values_at (O.values objects.now) (rest_of L.node L.table result) }
         ensures can_walk { CanWalk L.node L.table O.values result }
-        ensures min_looks { (s : List Place) → ShowsKept E.kept L.node (L.table links.now) (head_of self.now) s
+        ensures min_looks { (s : List Place) → RepresentsKept E.kept L.node (L.table links.now) (head_of self.now) s
             → LooksWithin (key_order A.Key.cmp A.key_of) looks_of min.old min.new s }
-        ensures max_looks { (s : List Place) → ShowsKept E.kept L.node (L.table links.now) (head_of self.now) s
+        ensures max_looks { (s : List Place) → RepresentsKept E.kept L.node (L.table links.now) (head_of self.now) s
             → LooksWithin (key_order A.Key.cmp A.key_of) looks_of max.old max.new s }
     {
         let root = self.head.root();
@@ -107,8 +105,8 @@ impl<A: KeyAdapter, E: TreeHead> RBTree<A, E> {
         min: Bound<&A::Key>,
         max: Bound<&A::Key>,
     ) -> Iter<'a, A, L, O>
-        requires placed { ShowsPlaced (ShowsKept E.kept L.node (L.table links.now) (head_of self.now)) (O.values objects.now) }
-        ensures range { (s : List Place) → ShowsKept E.kept L.node (L.table links.now) (head_of self.now) s → IsRange
+        requires placed { RepresentsPlaced (RepresentsKept E.kept L.node (L.table links.now) (head_of self.now)) (O.values objects.now) }
+        ensures range { (s : List Place) → RepresentsKept E.kept L.node (L.table links.now) (head_of self.now) s → IsRange
             (compared_within (order_there A.Key.cmp (A.key_of (adapter_of self.now))) (O.values objects.now) min.entry)
             (compared_within (order_there A.Key.cmp (A.key_of (adapter_of self.now))) (O.values objects.now) max.entry)
             (runs_up A.Key.cmp (A.key_of (adapter_of self.now)) (O.values objects.now)) s (rest_of L.node L.table result) }

@@ -1,14 +1,12 @@
 //! Members that stand at a border of a search, for all cursors.
 
 ghost use Rattle.std.specs.Prelude.{◌≡◌, List};
-ghost use Rattle.ic_unsafe_ref.specs.declared.place.Place.{Place};
-ghost use Rattle.ic_link_ops.specs.Sequences.{first, last};
-ghost use Rattle.ic_link_ops.specs.RedBlackTree.{Shows};
-ghost use Rattle.ic_link_ops.specs.PlacedObjects.{ShowsPlaced};
+ghost use Rattle.ic_link_ops.specs.Prelude.{Place, first, last, RepresentsPlaced};
+ghost use Rattle.ic_link_ops.specs.RedBlackTree.{Represents};
 ghost use Rattle.ic_rbtree.specs.Comparing.{compared, compared_within, meets_lower, is_beyond, HasRoom, HasRoomWithin, Looks, LooksWithin};
 ghost use Rattle.ic_rbtree.specs.Borders.{Finds, IsLowerBorder, IsUpperBorder};
 ghost use Rattle.ic_rbtree.specs.Descents.{gap_in};
-ghost use Rattle.ic_rbtree.specs.Kept.{ShowsKept};
+ghost use Rattle.ic_rbtree.specs.Kept.{RepresentsKept};
 ghost use Rattle.ic_rbtree.specs.Tree.{head_of, root_in};
 
 use crate::head::TreeHead;
@@ -27,11 +25,11 @@ impl<A: KeyAdapter, E: TreeHead> RBTree<A, E> {
         objects: &O,
         probe: &mut P,
     ) -> PlaceWord
-        requires placed { ShowsPlaced (ShowsKept E.kept L.node (L.table links.now) (head_of self.now)) (O.values objects.now) }
+        requires placed { RepresentsPlaced (RepresentsKept E.kept L.node (L.table links.now) (head_of self.now)) (O.values objects.now) }
         requires room { HasRoom (P.count probe.old) }
-        ensures found { (s : List Place) → ShowsKept E.kept L.node (L.table links.now) (head_of self.now) s
+        ensures found { (s : List Place) → RepresentsKept E.kept L.node (L.table links.now) (head_of self.now) s
             → Finds (compared (P.order probe.old) (O.values objects.now)) s result }
-        ensures looks { (s : List Place) → ShowsKept E.kept L.node (L.table links.now) (head_of self.now) s
+        ensures looks { (s : List Place) → RepresentsKept E.kept L.node (L.table links.now) (head_of self.now) s
             → Looks P.order P.count probe.old probe.new s }
     {
         let root = self.head.root();
@@ -42,7 +40,7 @@ impl<A: KeyAdapter, E: TreeHead> RBTree<A, E> {
         descent.back
     }
 
-    // The member behind the gap to which the bound sends from below: one that meets it.
+    // The member after the gap to which the bound sends from below: one that meets it.
     #[inline]
     pub(crate) fn lower<L: RBTreeOps, P: Probe<A::Value>, O: Values<A::Value>>(
         &self,
@@ -50,13 +48,13 @@ impl<A: KeyAdapter, E: TreeHead> RBTree<A, E> {
         objects: &O,
         bound: &mut Bound<P>,
     ) -> PlaceWord
-        requires placed { ShowsPlaced (ShowsKept E.kept L.node (L.table links.now) (head_of self.now)) (O.values objects.now) }
+        requires placed { RepresentsPlaced (RepresentsKept E.kept L.node (L.table links.now) (head_of self.now)) (O.values objects.now) }
         requires room { HasRoomWithin P.count bound.old }
-        ensures border { (s : List Place) → ShowsKept E.kept L.node (L.table links.now) (head_of self.now) s
+        ensures border { (s : List Place) → RepresentsKept E.kept L.node (L.table links.now) (head_of self.now) s
             → IsLowerBorder (compared_within P.order (O.values objects.now) bound.old) s result }
-        ensures lower { (s : List Place) (h : Shows L.node (L.table links.now) (root_in E.kept self.now) s)
+        ensures lower { (s : List Place) (h : Represents L.node (L.table links.now) (root_in E.kept self.now) s)
             → result ≡ first (gap_in (meets_lower (compared_within P.order (O.values objects.now) bound.old)) h.tree).back }
-        ensures looks { (s : List Place) → ShowsKept E.kept L.node (L.table links.now) (head_of self.now) s
+        ensures looks { (s : List Place) → RepresentsKept E.kept L.node (L.table links.now) (head_of self.now) s
             → LooksWithin P.order P.count bound.old bound.new s }
     {
         let root = self.head.root();
@@ -67,7 +65,7 @@ impl<A: KeyAdapter, E: TreeHead> RBTree<A, E> {
         }
     }
 
-    // The member in front of the gap to which the bound sends from above: one that meets it.
+    // The member before the gap to which the bound sends from above: one that meets it.
     #[inline]
     pub(crate) fn upper<L: RBTreeOps, P: Probe<A::Value>, O: Values<A::Value>>(
         &self,
@@ -75,13 +73,13 @@ impl<A: KeyAdapter, E: TreeHead> RBTree<A, E> {
         objects: &O,
         bound: &mut Bound<P>,
     ) -> PlaceWord
-        requires placed { ShowsPlaced (ShowsKept E.kept L.node (L.table links.now) (head_of self.now)) (O.values objects.now) }
+        requires placed { RepresentsPlaced (RepresentsKept E.kept L.node (L.table links.now) (head_of self.now)) (O.values objects.now) }
         requires room { HasRoomWithin P.count bound.old }
-        ensures border { (s : List Place) → ShowsKept E.kept L.node (L.table links.now) (head_of self.now) s
+        ensures border { (s : List Place) → RepresentsKept E.kept L.node (L.table links.now) (head_of self.now) s
             → IsUpperBorder (compared_within P.order (O.values objects.now) bound.old) s result }
-        ensures upper { (s : List Place) (h : Shows L.node (L.table links.now) (root_in E.kept self.now) s)
+        ensures upper { (s : List Place) (h : Represents L.node (L.table links.now) (root_in E.kept self.now) s)
             → result ≡ last (gap_in (is_beyond (compared_within P.order (O.values objects.now) bound.old)) h.tree).front }
-        ensures looks { (s : List Place) → ShowsKept E.kept L.node (L.table links.now) (head_of self.now) s
+        ensures looks { (s : List Place) → RepresentsKept E.kept L.node (L.table links.now) (head_of self.now) s
             → LooksWithin P.order P.count bound.old bound.new s }
     {
         let root = self.head.root();

@@ -6,7 +6,7 @@ ghost use Rattle.ic_unsafe_ref.specs.declared.place.Place.{Place};
 ghost use Rattle.ic_rbtree.specs.Closed.{IsNode, IsSafe, IsSafeBut, StaysClosed, StaysClosedBut, ClosesAt};
 ghost use Rattle.ic_rbtree.specs.Insertion.{FixesRedParent, FixesInsertion, FixesRedPair, FixesRedPairOn, Recolors, RotatesInnerGrandchild, Attaches};
 
-use crate::nodes::Nodes;
+use crate::nodes::NodeStore;
 use crate::readings::{child, color_here, is_across, is_red, other, side_of};
 use crate::repair::TURNS;
 use crate::repair::writers::{rotate, set_child, set_color, set_node};
@@ -14,13 +14,13 @@ use ic_link_ops::{Color, PlaceWord, Side};
 use ic_unsafe_ref::Place;
 
 // Case 1, the uncle is red: the children of `grand` turn black, and it turns red unless it is the root.
-pub(crate) fn recolor<N: Nodes>(links: &mut N, parent: Place, uncle: Place, grand: Place)
+pub(crate) fn recolor<N: NodeStore>(links: &mut N, parent: Place, uncle: Place, grand: Place)
     requires parent { IsNode N.node (N.table links.old) parent }
     requires uncle { IsNode N.node (N.table links.old) uncle }
     requires grand { IsNode N.node (N.table links.old) grand }
     ensures recolored { Recolors N.node (N.table links.old) (N.table links.new) parent uncle grand }
     ensures safe { (root : Option Place) → StaysClosedBut N.node (N.table links.old) (N.table links.new) root root [] }
-    ensures quiet { N.Quiet links.old links.new }
+    ensures keeps_links { N.KeepsLinks links.old links.new }
 {
     let color = color_here(&*links, grand);
     set_color(links, parent, Color::Black);
@@ -31,7 +31,7 @@ pub(crate) fn recolor<N: Nodes>(links: &mut N, parent: Place, uncle: Place, gran
 // Case 2, the place is an inner grandchild: it comes up above its parent, so that its parent is an outer one. Which of the two
 // is the upper one then is the answer.
 #[inline(always)]
-pub(crate) fn rotate_inner_grandchild<N: Nodes>(
+pub(crate) fn rotate_inner_grandchild<N: NodeStore>(
     links: &mut N,
     root: &mut PlaceWord,
     place: Place,
@@ -41,7 +41,7 @@ pub(crate) fn rotate_inner_grandchild<N: Nodes>(
     requires { IsSafe N.node (N.table links.old) root.old (Some place ∷ Some parent ∷ []) }
     ensures outer_grandchild { RotatesInnerGrandchild N.node (N.table links.old) (N.table links.new) root.old root.new place parent side result }
     ensures safe { StaysClosed N.node (N.table links.old) (N.table links.new) root.old root.new (Some place ∷ Some parent ∷ []) (Some result ∷ []) }
-    ensures quiet { N.Quiet links.old links.new }
+    ensures keeps_links { N.KeepsLinks links.old links.new }
 {
     let low = side_of(&*links, place, parent);
     if !is_across(low, side) {
@@ -54,7 +54,7 @@ pub(crate) fn rotate_inner_grandchild<N: Nodes>(
 // One step where `parent` stands on this side of `grand`: where the next one stands, if it was not the last. Case 3, the red
 // child of `upper` is an outer grandchild: `upper` comes up above `grand`.
 #[inline(always)]
-pub(crate) fn fix_red_pair_on<N: Nodes>(
+pub(crate) fn fix_red_pair_on<N: NodeStore>(
     links: &mut N,
     root: &mut PlaceWord,
     place: Place,
@@ -65,7 +65,7 @@ pub(crate) fn fix_red_pair_on<N: Nodes>(
     requires { IsSafe N.node (N.table links.old) root.old (Some place ∷ Some parent ∷ Some grand ∷ []) }
     ensures fixed { FixesRedPairOn N.node (N.table links.old) (N.table links.new) root.old root.new place parent grand side result }
     ensures safe { StaysClosed N.node (N.table links.old) (N.table links.new) root.old root.new (Some place ∷ Some parent ∷ Some grand ∷ []) (result ∷ []) }
-    ensures quiet { N.Quiet links.old links.new }
+    ensures keeps_links { N.KeepsLinks links.old links.new }
 {
     let far = other(side);
     let uncle = child(&*links, grand, far);
@@ -80,7 +80,7 @@ pub(crate) fn fix_red_pair_on<N: Nodes>(
 }
 
 // The same on the side on which `parent` stands. Each side has code of its own, in which no side is asked for again.
-pub(crate) fn fix_red_pair<N: Nodes>(
+pub(crate) fn fix_red_pair<N: NodeStore>(
     links: &mut N,
     root: &mut PlaceWord,
     place: Place,
@@ -90,7 +90,7 @@ pub(crate) fn fix_red_pair<N: Nodes>(
     requires { IsSafe N.node (N.table links.old) root.old (Some place ∷ Some parent ∷ Some grand ∷ []) }
     ensures fixed { FixesRedPair N.node (N.table links.old) (N.table links.new) root.old root.new place parent grand result }
     ensures safe { StaysClosed N.node (N.table links.old) (N.table links.new) root.old root.new (Some place ∷ Some parent ∷ Some grand ∷ []) (result ∷ []) }
-    ensures quiet { N.Quiet links.old links.new }
+    ensures keeps_links { N.KeepsLinks links.old links.new }
 {
     match side_of(&*links, parent, grand) {
         Side::Left => fix_red_pair_on(links, root, place, parent, grand, Side::Left),
@@ -99,7 +99,7 @@ pub(crate) fn fix_red_pair<N: Nodes>(
 }
 
 // One step of the repair at a red place below this parent, which may be black: where the next one stands, if it was not the last.
-pub(crate) fn fix_red_parent<N: Nodes>(
+pub(crate) fn fix_red_parent<N: NodeStore>(
     links: &mut N,
     root: &mut PlaceWord,
     place: Place,
@@ -108,7 +108,7 @@ pub(crate) fn fix_red_parent<N: Nodes>(
     requires { IsSafe N.node (N.table links.old) root.old (Some place ∷ parent ∷ []) }
     ensures fixed { FixesRedParent N.node (N.table links.old) (N.table links.new) root.old root.new place parent result }
     ensures safe { StaysClosed N.node (N.table links.old) (N.table links.new) root.old root.new (Some place ∷ parent ∷ []) (result ∷ []) }
-    ensures quiet { N.Quiet links.old links.new }
+    ensures keeps_links { N.KeepsLinks links.old links.new }
 {
     let parent = parent?;
     if !is_red(&*links, Some(parent)) {
@@ -121,7 +121,7 @@ pub(crate) fn fix_red_parent<N: Nodes>(
 /// Repairs the colors above a member that was put in red below this parent, in O(log n): RB-INSERT-FIXUP. It answers whether the tree
 /// has grown: the repair came up to the root, and a way down has one black member more.
 #[inline(always)]
-pub(crate) fn insert_fixup<N: Nodes>(
+pub(crate) fn insert_fixup<N: NodeStore>(
     links: &mut N,
     root: &mut PlaceWord,
     place: Place,
@@ -130,7 +130,7 @@ pub(crate) fn insert_fixup<N: Nodes>(
     requires { IsSafe N.node (N.table links.old) root.old (Some place ∷ parent ∷ []) }
     ensures restored { FixesInsertion N.node (N.table links.old) (N.table links.new) root.old root.new place parent result }
     ensures safe { StaysClosed N.node (N.table links.old) (N.table links.new) root.old root.new (Some place ∷ parent ∷ []) [] }
-    ensures quiet { N.Quiet links.old links.new }
+    ensures keeps_links { N.KeepsLinks links.old links.new }
 {
     let mut place = place;
     let mut parent = parent;
@@ -145,7 +145,7 @@ pub(crate) fn insert_fixup<N: Nodes>(
 }
 
 // Puts a linked place, which is on its own, into a hole of the tree.
-pub(crate) fn attach<N: Nodes>(
+pub(crate) fn attach<N: NodeStore>(
     links: &mut N,
     root: &mut PlaceWord,
     parent: Option<Place>,
@@ -155,7 +155,7 @@ pub(crate) fn attach<N: Nodes>(
     requires { IsSafeBut N.node (N.table links.old) root.old place (Some place ∷ parent ∷ []) }
     ensures attached { Attaches N.node (N.table links.old) (N.table links.new) root.old root.new parent side place }
     ensures safe { ClosesAt N.node (N.table links.old) (N.table links.new) root.old root.new place (Some place ∷ parent ∷ []) }
-    ensures quiet { N.Quiet links.old links.new }
+    ensures keeps_links { N.KeepsLinks links.old links.new }
 {
     match parent {
         None => {

@@ -7,7 +7,7 @@ ghost use Rattle.ic_rbtree.specs.Closed.{IsNode, IsSafe, StaysClosed, StaysClose
 ghost use Rattle.ic_rbtree.specs.Removal.{FixesDeletion, BlackensSibling, RotatesNearNephew, RotatesFarNephew, ReddensSibling, FixesDeletionStep};
 ghost use Rattle.ic_rbtree.specs.Transplants.{Closes, SplicesOut, TakesAway};
 
-use crate::nodes::Nodes;
+use crate::nodes::NodeStore;
 use crate::readings::{
     child, has_red_child, is_at, is_red, only_child, other, second_child, side_below,
 };
@@ -19,7 +19,7 @@ use ic_unsafe_ref::Place;
 
 // Case 1, the sibling is red: it comes up, and one of its children is the sibling then. Answers the sibling, which is black.
 #[inline(always)]
-pub(crate) fn blacken_sibling<N: Nodes>(
+pub(crate) fn blacken_sibling<N: NodeStore>(
     links: &mut N,
     root: &mut PlaceWord,
     place: Place,
@@ -28,7 +28,7 @@ pub(crate) fn blacken_sibling<N: Nodes>(
     requires { IsSafe N.node (N.table links.old) root.old (Some place ∷ []) }
     ensures black_sibling { BlackensSibling N.node (N.table links.old) (N.table links.new) root.old root.new place side result }
     ensures safe { StaysClosed N.node (N.table links.old) (N.table links.new) root.old root.new (Some place ∷ []) (result ∷ []) }
-    ensures quiet { N.Quiet links.old links.new }
+    ensures keeps_links { N.KeepsLinks links.old links.new }
 {
     let far = other(side);
     let sibling = child(&*links, place, far)?;
@@ -42,7 +42,7 @@ pub(crate) fn blacken_sibling<N: Nodes>(
 // Case 3, the far nephew is black and the near one red: the near one comes up above the sibling. Answers the sibling, whose far
 // child is red.
 #[inline(always)]
-pub(crate) fn rotate_near_nephew<N: Nodes>(
+pub(crate) fn rotate_near_nephew<N: NodeStore>(
     links: &mut N,
     root: &mut PlaceWord,
     sibling: Place,
@@ -51,7 +51,7 @@ pub(crate) fn rotate_near_nephew<N: Nodes>(
     requires { IsSafe N.node (N.table links.old) root.old (Some sibling ∷ []) }
     ensures red_far_nephew { RotatesNearNephew N.node (N.table links.old) (N.table links.new) root.old root.new side sibling result }
     ensures safe { StaysClosed N.node (N.table links.old) (N.table links.new) root.old root.new (Some sibling ∷ []) (result ∷ []) }
-    ensures quiet { N.Quiet links.old links.new }
+    ensures keeps_links { N.KeepsLinks links.old links.new }
 {
     let far = other(side);
     let outer = child(&*links, sibling, far);
@@ -65,7 +65,7 @@ pub(crate) fn rotate_near_nephew<N: Nodes>(
 
 // Case 4, the far nephew is red, after case 3 where it is not: the sibling comes up with the parent's color, and all is right.
 #[inline(always)]
-pub(crate) fn rotate_far_nephew<N: Nodes>(
+pub(crate) fn rotate_far_nephew<N: NodeStore>(
     links: &mut N,
     root: &mut PlaceWord,
     place: Place,
@@ -75,7 +75,7 @@ pub(crate) fn rotate_far_nephew<N: Nodes>(
     requires { IsSafe N.node (N.table links.old) root.old (Some place ∷ Some sibling ∷ []) }
     ensures restored { RotatesFarNephew N.node (N.table links.old) (N.table links.new) root.old root.new place side sibling }
     ensures safe { StaysClosed N.node (N.table links.old) (N.table links.new) root.old root.new (Some place ∷ Some sibling ∷ []) [] }
-    ensures quiet { N.Quiet links.old links.new }
+    ensures keeps_links { N.KeepsLinks links.old links.new }
 {
     let Some(upper) = rotate_near_nephew(links, root, sibling, side) else {
         return;
@@ -91,12 +91,12 @@ pub(crate) fn rotate_far_nephew<N: Nodes>(
 
 // Case 2, both nephews are black: the sibling turns red. A red parent turns black, and then all is right. Answers whether it was
 // red.
-pub(crate) fn redden_sibling<N: Nodes>(links: &mut N, place: Place, sibling: Place) -> bool
+pub(crate) fn redden_sibling<N: NodeStore>(links: &mut N, place: Place, sibling: Place) -> bool
     requires place { IsNode N.node (N.table links.old) place }
     requires sibling { IsNode N.node (N.table links.old) sibling }
     ensures reddened { ReddensSibling N.node (N.table links.old) (N.table links.new) place sibling result }
     ensures safe { (root : Option Place) → StaysClosedBut N.node (N.table links.old) (N.table links.new) root root [] }
-    ensures quiet { N.Quiet links.old links.new }
+    ensures keeps_links { N.KeepsLinks links.old links.new }
 {
     set_color(links, sibling, Color::Red);
     if is_red(&*links, Some(place)) {
@@ -108,7 +108,7 @@ pub(crate) fn redden_sibling<N: Nodes>(links: &mut N, place: Place, sibling: Pla
 
 // One step of the repair on this side of the place, which says whether it was the last.
 #[inline(always)]
-pub(crate) fn delete_fixup_on<N: Nodes>(
+pub(crate) fn delete_fixup_on<N: NodeStore>(
     links: &mut N,
     root: &mut PlaceWord,
     place: Place,
@@ -117,7 +117,7 @@ pub(crate) fn delete_fixup_on<N: Nodes>(
     requires { IsSafe N.node (N.table links.old) root.old (Some place ∷ []) }
     ensures restored { FixesDeletionStep N.node (N.table links.old) (N.table links.new) root.old root.new place side result }
     ensures safe { StaysClosed N.node (N.table links.old) (N.table links.new) root.old root.new (Some place ∷ []) [] }
-    ensures quiet { N.Quiet links.old links.new }
+    ensures keeps_links { N.KeepsLinks links.old links.new }
 {
     let Some(sibling) = blacken_sibling(links, root, place, side) else {
         return true;
@@ -130,7 +130,7 @@ pub(crate) fn delete_fixup_on<N: Nodes>(
 }
 
 // The same, where each side has code of its own.
-pub(crate) fn delete_fixup_step<N: Nodes>(
+pub(crate) fn delete_fixup_step<N: NodeStore>(
     links: &mut N,
     root: &mut PlaceWord,
     place: Place,
@@ -139,7 +139,7 @@ pub(crate) fn delete_fixup_step<N: Nodes>(
     requires { IsSafe N.node (N.table links.old) root.old (Some place ∷ []) }
     ensures restored { FixesDeletionStep N.node (N.table links.old) (N.table links.new) root.old root.new place side result }
     ensures safe { StaysClosed N.node (N.table links.old) (N.table links.new) root.old root.new (Some place ∷ []) [] }
-    ensures quiet { N.Quiet links.old links.new }
+    ensures keeps_links { N.KeepsLinks links.old links.new }
 {
     match side {
         Side::Left => delete_fixup_on(links, root, place, Side::Left),
@@ -149,7 +149,7 @@ pub(crate) fn delete_fixup_step<N: Nodes>(
 
 /// Repairs a tree that is one black short on this side of `parent`, in O(log n): RB-DELETE-FIXUP.
 #[inline(never)]
-pub(crate) fn delete_fixup<N: Nodes>(
+pub(crate) fn delete_fixup<N: NodeStore>(
     links: &mut N,
     root: &mut PlaceWord,
     parent: Option<Place>,
@@ -158,7 +158,7 @@ pub(crate) fn delete_fixup<N: Nodes>(
     requires { IsSafe N.node (N.table links.old) root.old (parent ∷ []) }
     ensures restored { FixesDeletion N.node (N.table links.old) (N.table links.new) root.old root.new parent side }
     ensures safe { StaysClosed N.node (N.table links.old) (N.table links.new) root.old root.new (parent ∷ []) [] }
-    ensures quiet { N.Quiet links.old links.new }
+    ensures keeps_links { N.KeepsLinks links.old links.new }
 {
     let mut parent = parent;
     let mut side = side;
@@ -175,7 +175,7 @@ pub(crate) fn delete_fixup<N: Nodes>(
 }
 
 // Repairs the colors where a member of this color was taken out, and its child hangs in its place, which gets its parent here.
-pub(crate) fn close_gap<N: Nodes>(
+pub(crate) fn close_gap<N: NodeStore>(
     links: &mut N,
     root: &mut PlaceWord,
     color: Color,
@@ -186,7 +186,7 @@ pub(crate) fn close_gap<N: Nodes>(
     requires { IsSafe N.node (N.table links.old) root.old (child ∷ parent ∷ []) }
     ensures closed { Closes N.node (N.table links.old) (N.table links.new) root.old root.new color child parent side }
     ensures safe { StaysClosed N.node (N.table links.old) (N.table links.new) root.old root.new (child ∷ parent ∷ []) [] }
-    ensures quiet { N.Quiet links.old links.new }
+    ensures keeps_links { N.KeepsLinks links.old links.new }
 {
     if let Some(child) = child {
         // A lone child is red, and so the member was black.
@@ -201,11 +201,11 @@ pub(crate) fn close_gap<N: Nodes>(
 
 // Takes out a member that has one child at most, which comes up in its place.
 #[inline(always)]
-pub(crate) fn splice_out<N: Nodes>(links: &mut N, root: &mut PlaceWord, place: Place)
+pub(crate) fn splice_out<N: NodeStore>(links: &mut N, root: &mut PlaceWord, place: Place)
     requires { IsSafe N.node (N.table links.old) root.old (Some place ∷ []) }
     ensures taken { SplicesOut N.node (N.table links.old) (N.table links.new) root.old root.new place }
     ensures safe { StaysClosed N.node (N.table links.old) (N.table links.new) root.old root.new (Some place ∷ []) [] }
-    ensures quiet { N.Quiet links.old links.new }
+    ensures keeps_links { N.KeepsLinks links.old links.new }
 {
     let child = only_child(&*links, place);
     let parent = links.parent(place);
@@ -216,11 +216,11 @@ pub(crate) fn splice_out<N: Nodes>(links: &mut N, root: &mut PlaceWord, place: P
 }
 
 // Takes a member out of the tree, and leaves it linked. One with two children changes places with the next.
-pub(crate) fn unlink<N: Nodes>(links: &mut N, root: &mut PlaceWord, place: Place)
+pub(crate) fn unlink<N: NodeStore>(links: &mut N, root: &mut PlaceWord, place: Place)
     requires { IsSafe N.node (N.table links.old) root.old (Some place ∷ []) }
     ensures taken { TakesAway N.node (N.table links.old) (N.table links.new) root.old root.new place }
     ensures safe { StaysClosed N.node (N.table links.old) (N.table links.new) root.old root.new (Some place ∷ []) [] }
-    ensures quiet { N.Quiet links.old links.new }
+    ensures keeps_links { N.KeepsLinks links.old links.new }
 {
     let Some(right) = second_child(&*links, place) else {
         splice_out(links, root, place);

@@ -1,27 +1,26 @@
 //! What writes children and parents: rotations, and a place in the place of another.
 
 ghost use Rattle.std.specs.Prelude.{◌≡◌, ◌≢◌, Option, Some, [], ◌∷◌};
-ghost use Rattle.ic_unsafe_ref.specs.declared.place.Place.{Place};
-ghost use Rattle.ic_link_ops.specs.Tables.{ChangesOnly};
+ghost use Rattle.ic_link_ops.specs.Prelude.{Place, ChangesOnly};
 ghost use Rattle.ic_link_ops.specs.RedBlackTree.{node_at};
 ghost use Rattle.ic_link_ops.specs.Frames.{with_child};
 ghost use Rattle.ic_rbtree.specs.Closed.{IsNode, IsNamed, IsSafe, IsSafeBut, StaysClosed, StaysClosedBut, ClosesAt};
 ghost use Rattle.ic_rbtree.specs.Transplants.{TakesPlace};
 ghost use Rattle.ic_rbtree.specs.Steps.{Adopts, ChangesChild, Rotates};
 
-use crate::nodes::Nodes;
+use crate::nodes::NodeStore;
 use crate::readings::{child, other, side_of};
 use ic_link_ops::{Color, PlaceWord, Side};
 use ic_unsafe_ref::Place;
 
-pub(crate) fn set_child<N: Nodes>(links: &mut N, place: Place, side: Side, to: Option<Place>)
+pub(crate) fn set_child<N: NodeStore>(links: &mut N, place: Place, side: Side, to: Option<Place>)
     requires linked { IsNode N.node (N.table links.old) place }
     requires named { IsNamed N.node (N.table links.old) to }
     ensures set { node_at N.node (N.table links.new) place
         ≡ with_child side (node_at N.node (N.table links.old) place) to }
     ensures frame { ChangesOnly (N.table links.old) (N.table links.new) place }
     ensures safe { (root : Option Place) → StaysClosedBut N.node (N.table links.old) (N.table links.new) root root (to ∷ []) }
-    ensures quiet { N.Quiet links.old links.new }
+    ensures keeps_links { N.KeepsLinks links.old links.new }
 {
     match side {
         Side::Left => links.set_left(place, to),
@@ -29,31 +28,31 @@ pub(crate) fn set_child<N: Nodes>(links: &mut N, place: Place, side: Side, to: O
     }
 }
 
-pub(crate) fn set_parent<N: Nodes>(links: &mut N, place: Place, parent: Option<Place>)
+pub(crate) fn set_parent<N: NodeStore>(links: &mut N, place: Place, parent: Option<Place>)
     requires linked { IsNode N.node (N.table links.old) place }
     requires named { IsNamed N.node (N.table links.old) parent }
     ensures set { node_at N.node (N.table links.new) place
         ≡ record (node_at N.node (N.table links.old) place) { parent = parent } }
     ensures frame { ChangesOnly (N.table links.old) (N.table links.new) place }
     ensures safe { (root : Option Place) → StaysClosedBut N.node (N.table links.old) (N.table links.new) root root (parent ∷ []) }
-    ensures quiet { N.Quiet links.old links.new }
+    ensures keeps_links { N.KeepsLinks links.old links.new }
 {
     links.set_parent(place, parent);
 }
 
-pub(crate) fn set_color<N: Nodes>(links: &mut N, place: Place, color: Color)
+pub(crate) fn set_color<N: NodeStore>(links: &mut N, place: Place, color: Color)
     requires { IsNode N.node (N.table links.old) place }
     ensures set { node_at N.node (N.table links.new) place
         ≡ record (node_at N.node (N.table links.old) place) { color = color } }
     ensures frame { ChangesOnly (N.table links.old) (N.table links.new) place }
     ensures safe { (root : Option Place) → StaysClosedBut N.node (N.table links.old) (N.table links.new) root root [] }
-    ensures quiet { N.Quiet links.old links.new }
+    ensures keeps_links { N.KeepsLinks links.old links.new }
 {
     links.set_color(place, color);
 }
 
 // The parent and the color, in one write.
-pub(crate) fn set_parent_and_color<N: Nodes>(
+pub(crate) fn set_parent_and_color<N: NodeStore>(
     links: &mut N,
     place: Place,
     parent: Option<Place>,
@@ -65,14 +64,14 @@ pub(crate) fn set_parent_and_color<N: Nodes>(
         ≡ record (node_at N.node (N.table links.old) place) { parent = parent; color = color } }
     ensures frame { ChangesOnly (N.table links.old) (N.table links.new) place }
     ensures safe { (root : Option Place) → StaysClosedBut N.node (N.table links.old) (N.table links.new) root root (parent ∷ []) }
-    ensures quiet { N.Quiet links.old links.new }
+    ensures keeps_links { N.KeepsLinks links.old links.new }
 {
     links.set_parent_and_color(place, parent, color);
 }
 
 // Both children, the parent and the color of a place that comes into a tree.
 #[inline]
-pub(crate) fn set_node<N: Nodes>(
+pub(crate) fn set_node<N: NodeStore>(
     links: &mut N,
     place: Place,
     left: Option<Place>,
@@ -88,7 +87,7 @@ pub(crate) fn set_node<N: Nodes>(
         ≡ record (node_at N.node (N.table links.old) place) { left = left; right = right; parent = parent; color = color } }
     ensures frame { ChangesOnly (N.table links.old) (N.table links.new) place }
     ensures safe { (root : Option Place) → ClosesAt N.node (N.table links.old) (N.table links.new) root root place (left ∷ right ∷ parent ∷ []) }
-    ensures quiet { N.Quiet links.old links.new }
+    ensures keeps_links { N.KeepsLinks links.old links.new }
 {
     links.set_left(place, left);
     links.set_right(place, right);
@@ -96,12 +95,12 @@ pub(crate) fn set_node<N: Nodes>(
 }
 
 // A subtree gets another parent.
-pub(crate) fn adopt<N: Nodes>(links: &mut N, child: Option<Place>, parent: Option<Place>)
+pub(crate) fn adopt<N: NodeStore>(links: &mut N, child: Option<Place>, parent: Option<Place>)
     requires child { IsNamed N.node (N.table links.old) child }
     requires parent { IsNamed N.node (N.table links.old) parent }
     ensures moved { Adopts N.node (N.table links.old) (N.table links.new) child parent }
     ensures safe { (root : Option Place) → StaysClosedBut N.node (N.table links.old) (N.table links.new) root root (parent ∷ []) }
-    ensures quiet { N.Quiet links.old links.new }
+    ensures keeps_links { N.KeepsLinks links.old links.new }
 {
     if let Some(child) = child {
         set_parent(links, child, parent);
@@ -109,7 +108,7 @@ pub(crate) fn adopt<N: Nodes>(links: &mut N, child: Option<Place>, parent: Optio
 }
 
 // Another subtree hangs below the parent, or as the root, where `was` hung.
-pub(crate) fn change_child<N: Nodes>(
+pub(crate) fn change_child<N: NodeStore>(
     links: &mut N,
     root: &mut PlaceWord,
     parent: Option<Place>,
@@ -120,7 +119,7 @@ pub(crate) fn change_child<N: Nodes>(
     requires named { IsNamed N.node (N.table links.old) to }
     ensures moved { ChangesChild N.node (N.table links.old) (N.table links.new) root.old root.new parent was to }
     ensures safe { StaysClosedBut N.node (N.table links.old) (N.table links.new) root.old root.new (to ∷ []) }
-    ensures quiet { N.Quiet links.old links.new }
+    ensures keeps_links { N.KeepsLinks links.old links.new }
 {
     if let Some(parent) = parent {
         let side = side_of(&*links, was, parent);
@@ -132,7 +131,7 @@ pub(crate) fn change_child<N: Nodes>(
 
 /// The place goes down on this side, and its child on the other side, `upper`, comes up. They get the colors `low` and `high`.
 #[inline(always)]
-pub(crate) fn rotate<N: Nodes>(
+pub(crate) fn rotate<N: NodeStore>(
     links: &mut N,
     root: &mut PlaceWord,
     place: Place,
@@ -144,7 +143,7 @@ pub(crate) fn rotate<N: Nodes>(
     requires { IsSafe N.node (N.table links.old) root.old (Some place ∷ Some upper ∷ []) }
     ensures rotated { Rotates N.node (N.table links.old) (N.table links.new) root.old root.new place upper side low high }
     ensures safe { StaysClosed N.node (N.table links.old) (N.table links.new) root.old root.new (Some place ∷ Some upper ∷ []) [] }
-    ensures quiet { N.Quiet links.old links.new }
+    ensures keeps_links { N.KeepsLinks links.old links.new }
 {
     let inner = child(&*links, upper, side);
     let parent = links.parent(place);
@@ -157,12 +156,17 @@ pub(crate) fn rotate<N: Nodes>(
 }
 
 /// In place of a member stands another place, which is on its own before.
-pub(crate) fn take_place<N: Nodes>(links: &mut N, root: &mut PlaceWord, place: Place, new: Place)
+pub(crate) fn take_place<N: NodeStore>(
+    links: &mut N,
+    root: &mut PlaceWord,
+    place: Place,
+    new: Place,
+)
     requires safe { IsSafeBut N.node (N.table links.old) root.old new (Some place ∷ Some new ∷ []) }
     requires apart { place ≢ new }
     ensures taken { TakesPlace N.node (N.table links.old) (N.table links.new) root.old root.new place new }
     ensures safe { ClosesAt N.node (N.table links.old) (N.table links.new) root.old root.new new (Some place ∷ Some new ∷ []) }
-    ensures quiet { N.Quiet links.old links.new }
+    ensures keeps_links { N.KeepsLinks links.old links.new }
 {
     let parent = links.parent(place);
     let left = links.left(place);

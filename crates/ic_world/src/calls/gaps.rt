@@ -1,31 +1,31 @@
-//! Calls that are meant for a gap: an object goes in, or the member behind it goes out.
+//! Calls that are meant for a gap: an object goes in, or the member after it goes out.
 //!
 //! ```text
-//! Put(Where::Back, place).run(&mut members, &mut links, &objects, adapter)?; // behind all members
-//! Take(Where::Front).run(&mut members, &mut links, &objects, adapter)?       // the first member, or none
+//! Put(Gap::Back, place).run(&mut members, &mut links, &objects, adapter)?; // after all members
+//! Take(Gap::Front).run(&mut members, &mut links, &objects, adapter)?       // the first member, or none
 //! ```
 
 ghost use Rattle.ic_world.specs.Calls as calls;
 ghost use Rattle.ic_world.specs.declared.calls.one_call.Call.TheVariants as one;
 
 use crate::call::Refusal;
-use crate::calls::one_call::{OneCall, Where, told};
-use ic_any_collection::{AnyCollection, AnyTable};
+use crate::calls::one_call::OneCall;
+use ic_any_collection::{AnyCollection, AnyTable, Gap};
 use ic_rbtree::KeyAdapter;
 use ic_unsafe_ref::{Objects, Place};
 use std::alloc::Allocator;
 
 /// An object goes into the gap. The cursor goes to null, if that is at an end.
 #[derive(Clone, Copy)]
-pub struct Put(pub Where, pub Place);
+pub struct Put(pub Gap, pub Place);
 
-/// The member behind the gap goes out, at the back the last one. A cursor that is on it goes on to the next member, and at an end to null.
+/// The member after the gap goes out, at the back the last one. A cursor that is on it goes on to the next member, and at an end to null.
 #[derive(Clone, Copy)]
-pub struct Take(pub Where);
+pub struct Take(pub Gap);
 
-/// An object takes the place of the member behind the gap. A cursor that is on that goes to the object.
+/// An object takes the place of the member after the gap. A cursor that is on that goes to the object.
 #[derive(Clone, Copy)]
-pub struct Swap(pub Where, pub Place);
+pub struct Swap(pub Gap, pub Place);
 
 impl<A: KeyAdapter> OneCall<A> for Put {
     type Answer = ();
@@ -49,12 +49,13 @@ impl<A: KeyAdapter> OneCall<A> for Put {
     ) -> Result<(), Refusal> {
         let _ = objects;
         let _ = adapter;
-        match self.0 {
-            Where::Front => told(members.push_front(links, self.1)),
-            Where::Back => told(members.push_back(links, self.1)),
-            Where::Before => told(members.insert_before(links, self.1)),
-            Where::After => told(members.insert_after(links, self.1)),
+        if !self.0.can_insert(members.kind()) {
+            return Err(Refusal::WrongKind);
         }
+        if !members.insert(links, self.0, self.1) {
+            return Err(Refusal::AlreadyLinked);
+        }
+        Ok(())
     }
 }
 
@@ -81,12 +82,10 @@ impl<A: KeyAdapter> OneCall<A> for Take {
     ) -> Result<Option<Place>, Refusal> {
         let _ = objects;
         let _ = adapter;
-        match self.0 {
-            Where::Front => told(members.pop_front(links)),
-            Where::Back => told(members.pop_back(links)),
-            Where::Before => told(members.remove(links)),
-            Where::After => told(members.remove_next(links)),
+        if !self.0.can_remove(members.kind()) {
+            return Err(Refusal::WrongKind);
         }
+        Ok(members.remove(links, self.0))
     }
 }
 
@@ -112,10 +111,16 @@ impl<A: KeyAdapter> OneCall<A> for Swap {
     ) -> Result<Place, Refusal> {
         let _ = objects;
         let _ = adapter;
-        match self.0 {
-            Where::Before => told(members.replace_with(links, self.1)),
-            Where::After => told(members.replace_next_with(links, self.1)),
-            Where::Front | Where::Back => Err(Refusal::WrongKind),
+        if !self.0.can_replace(members.kind()) {
+            return Err(Refusal::WrongKind);
         }
+        let (out, acquired) = members.replace(links, self.0, self.1);
+        let Some(out) = out else {
+            return Err(Refusal::NothingThere);
+        };
+        if !acquired {
+            return Err(Refusal::AlreadyLinked);
+        }
+        Ok(out)
     }
 }

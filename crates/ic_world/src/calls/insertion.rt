@@ -7,32 +7,29 @@
 
 ghost use Rattle.std.specs.Prelude.{◌≡◌};
 ghost use Rattle.ic_rbtree.specs.KeyProbe.{looks_of};
-ghost use Rattle.ic_world.specs.Replies.{told, with_looks};
+ghost use Rattle.ic_world.specs.Replies.{looked_if};
 
 use crate::call::Refusal;
 use crate::calls::kinds::is_tree;
-use crate::calls::one_call::{OneCall, told};
+use crate::calls::one_call::OneCall;
 use crate::calls::probes::own_probe;
-use ic_any_collection::{AnyCollection, AnyTable, EditError};
+use ic_any_collection::{AnyCollection, AnyTable};
 use ic_rbtree::{KeyAdapter, KeyProbe};
 use ic_unsafe_ref::{Objects, Place};
 use std::alloc::Allocator;
 
 // What an insert gave, as the world tells it: done, with how often its probe was asked, or refused.
 #[inline]
-fn looked<A: KeyAdapter>(
-    put: Result<(), EditError>,
-    probe: &KeyProbe<'_, A>,
-) -> Result<u64, Refusal>
-    ensures told { result ≡ with_looks (looks_of probe.now) (told put) }
+fn looked<A: KeyAdapter>(acquired: bool, probe: &KeyProbe<'_, A>) -> Result<u64, Refusal>
+    ensures { result ≡ looked_if (looks_of probe.now) acquired }
 {
-    match told(put) {
-        Ok(()) => Ok(probe.looks()),
-        Err(refusal) => Err(refusal),
+    if !acquired {
+        return Err(Refusal::AlreadyLinked);
     }
+    Ok(probe.looks())
 }
 
-/// An object goes where its own key belongs, behind members with the same key.
+/// An object goes where its own key belongs, after members with the same key.
 #[derive(Clone, Copy)]
 pub enum Insertion {
     /// The cursor goes to the object.
@@ -66,16 +63,19 @@ impl<A: KeyAdapter> OneCall<A> for Insertion {
         objects: &Objects<A::Value, M>,
         adapter: A,
     ) -> Result<u64, Refusal> {
+        if !is_tree(members.kind()) {
+            return Err(Refusal::WrongKind);
+        }
         match *self {
             Insertion::Insert(object) => {
                 let mut probe = own_probe(adapter, objects, object);
-                let put = members.insert_by(links, objects, &mut probe, object);
-                looked(put, &probe)
+                let acquired = members.insert_by(links, objects, &mut probe, object);
+                looked(acquired, &probe)
             }
             Insertion::CursorInsert(object) => {
                 let mut probe = own_probe(adapter, objects, object);
-                let put = members.cursor_insert_by(links, objects, &mut probe, object);
-                looked(put, &probe)
+                let acquired = members.cursor_insert_by(links, objects, &mut probe, object);
+                looked(acquired, &probe)
             }
         }
     }

@@ -10,6 +10,7 @@ use crate::World;
 use crate::call::{Command, Refusal};
 use crate::calls::insertion::{EntryAt, Insertion};
 use crate::calls::kinds::is_tree;
+use crate::calls::one_call::Call;
 use crate::calls::probes::{looks_in, probe_within};
 use crate::calls::search::Search;
 use ic_rbtree::{Bound, KeyAdapter};
@@ -28,7 +29,7 @@ where
     ///
     /// Refused: `NoSuchCollection`, `WrongKind` of a list.
     pub fn find(&mut self, collection: usize, key: A::Key) -> Result<(Option<Place>, u64), Refusal>
-        ensures { Step A.Key.cmp A.key_of self.old (Command.Find collection key) (reply_of (λ answer. found answer.0 answer.1) result) self.new }
+        ensures { Step A.Key.cmp A.key_of self.old (Command.On collection (Call.Search (Search.Find key))) (reply_of (λ answer. found answer.0 answer.1) result) self.new }
     {
         self.call(collection, &Search::Find(key))
     }
@@ -41,7 +42,7 @@ where
         collection: usize,
         bound: Bound<A::Key>,
     ) -> Result<(Option<Place>, u64), Refusal>
-        ensures { Step A.Key.cmp A.key_of self.old (Command.LowerBound collection bound) (reply_of (λ answer. found answer.0 answer.1) result) self.new }
+        ensures { Step A.Key.cmp A.key_of self.old (Command.On collection (Call.Search (Search.LowerBound bound))) (reply_of (λ answer. found answer.0 answer.1) result) self.new }
     {
         self.call(collection, &Search::LowerBound(bound))
     }
@@ -54,25 +55,25 @@ where
         collection: usize,
         bound: Bound<A::Key>,
     ) -> Result<(Option<Place>, u64), Refusal>
-        ensures { Step A.Key.cmp A.key_of self.old (Command.UpperBound collection bound) (reply_of (λ answer. found answer.0 answer.1) result) self.new }
+        ensures { Step A.Key.cmp A.key_of self.old (Command.On collection (Call.Search (Search.UpperBound bound))) (reply_of (λ answer. found answer.0 answer.1) result) self.new }
     {
         self.call(collection, &Search::UpperBound(bound))
     }
 
-    /// Puts an object where its key belongs, behind members with the same key, and the cursor on it. O(log n).
+    /// Puts an object where its key belongs, after members with the same key, and the cursor on it. O(log n).
     ///
     /// Refused: `NoSuchCollection`, `NoSuchObject`, `WrongKind` of a list, `AlreadyLinked`, all without a look.
     pub fn insert(&mut self, collection: usize, object: Place) -> Result<u64, Refusal>
-        ensures { Step A.Key.cmp A.key_of self.old (Command.Insert collection object) (reply_of (λ looks. looked looks) result) self.new }
+        ensures { Step A.Key.cmp A.key_of self.old (Command.On collection (Call.Insertion (Insertion.Insert object))) (reply_of (λ looks. looked looks) result) self.new }
     {
         self.call(collection, &Insertion::Insert(object))
     }
 
-    /// Puts an object where its key belongs, behind members with the same key. The cursor stays. O(log n).
+    /// Puts an object where its key belongs, after members with the same key. The cursor stays. O(log n).
     ///
     /// Refused: `NoSuchCollection`, `NoSuchObject`, `WrongKind` of a list, `AlreadyLinked`, all without a look.
     pub fn cursor_insert(&mut self, collection: usize, object: Place) -> Result<u64, Refusal>
-        ensures { Step A.Key.cmp A.key_of self.old (Command.CursorInsert collection object) (reply_of (λ looks. looked looks) result) self.new }
+        ensures { Step A.Key.cmp A.key_of self.old (Command.On collection (Call.Insertion (Insertion.CursorInsert object))) (reply_of (λ looks. looked looks) result) self.new }
     {
         self.call(collection, &Insertion::CursorInsert(object))
     }
@@ -87,7 +88,7 @@ where
         key: A::Key,
         object: Place,
     ) -> Result<(bool, Place, u64), Refusal>
-        ensures { Step A.Key.cmp A.key_of self.old (Command.Entry collection key object) (reply_of (λ e. entry e.0 e.1 e.2) result) self.new }
+        ensures { Step A.Key.cmp A.key_of self.old (Command.On collection (Call.Enter key object)) (reply_of (λ e. entry e.0 e.1 e.2) result) self.new }
     {
         match self.call(collection, &EntryAt { key, object }) {
             Ok(Some(answer)) => Ok(answer),

@@ -37,7 +37,7 @@ pub(crate) fn probe_within<'k, A: KeyAdapter>(
 /// How often the search within a bound was asked.
 #[inline]
 pub(crate) fn looks_in<A: KeyAdapter>(bound: &Bound<KeyProbe<'_, A>>) -> u64
-    ensures told { result ≡ looks_within bound.now }
+    ensures { result ≡ looks_within bound.now }
 {
     match bound {
         Bound::Included(probe) => probe.looks(),

@@ -7,10 +7,8 @@
 
 ghost use Rattle.std.specs.Prelude.{◌≡◌, true, Some};
 ghost use Rattle.std.specs.List.{list_all};
-ghost use Rattle.ic_unsafe_ref.specs.Objects.{is_placed as place_is_placed};
-ghost use Rattle.ic_link_ops.specs.Tables.{IsCovered};
-ghost use Rattle.ic_any_collection.specs.AnyTables.{look};
-ghost use Rattle.ic_link_ops.specs.Sequences.{IsAfter, IsBefore};
+ghost use Rattle.ic_link_ops.specs.Prelude.{is_placed as place_is_placed, IsAfter, IsBefore, IsCovered};
+ghost use Rattle.ic_any_collection.specs.AnyTables.{table_in};
 ghost use Rattle.ic_any_collection.specs.Edits.{AtGap};
 ghost use Rattle.ic_any_collection.specs.AnyCollection.{kind_in, members_in, Held};
 ghost use Rattle.ic_any_collection.specs.AnyCollection as kinds;
@@ -18,8 +16,8 @@ ghost use Rattle.ic_world.specs.Calls.{named_if, beside_of};
 ghost use Rattle.ic_world.specs.Seeks.{Sought};
 
 use crate::call::Refusal;
-use crate::calls::kinds::{has_pointer, is_xor, same_position};
-use crate::calls::one_call::{Direction, OneCall, told};
+use crate::calls::kinds::{has_before, has_pointer, is_xor, same_position};
+use crate::calls::one_call::{Direction, OneCall};
 use ic_any_collection::{AnyCollection, AnyTable};
 use ic_rbtree::KeyAdapter;
 use ic_unsafe_ref::{Objects, Place};
@@ -68,7 +66,12 @@ impl<A: KeyAdapter> OneCall<A> for Move {
         let _ = adapter;
         match self.0 {
             Direction::Next => Ok(members.move_next(links)),
-            Direction::Prev => told(members.move_prev(links)),
+            Direction::Prev => {
+                if !has_before(members.kind()) {
+                    return Err(Refusal::WrongKind);
+                }
+                Ok(members.move_prev(links))
+            }
         }
     }
 }
@@ -141,10 +144,10 @@ fn seek_on<T, M: Allocator>(
     links: &AnyTable<M>,
     object: Place,
 ) -> Result<(), Refusal>
-    requires held { Held (look links.now) members.old }
+    requires held { Held (table_in links.now) members.old }
     requires can { kinds.has_pointer (kind_in members.old) ≡ true }
-    requires covered { IsCovered (look links.now) object }
-    ensures { Sought (Seek.On object) object (look links.now) members.old result members.new }
+    requires covered { IsCovered (table_in links.now) object }
+    ensures { Sought (Seek.On object) object (table_in links.now) members.old result members.new }
 {
     // An unlinked object is no member, and nothing is walked.
     if !links.is_linked(object) {
@@ -157,7 +160,7 @@ fn seek_on<T, M: Allocator>(
     Ok(())
 }
 
-// The neighbor of a member that stands behind `prev`, none beyond an end.
+// The neighbor of a member that stands after `prev`, none beyond an end.
 #[inline]
 fn neighbor<T, M: Allocator>(
     members: &AnyCollection<T>,
@@ -166,9 +169,9 @@ fn neighbor<T, M: Allocator>(
     prev: Option<Place>,
     object: Place,
 ) -> Option<Place>
-    requires held { Held (look links.now) members.now }
-    requires member { AtGap (members_in (look links.now) members.now) (λ gap. IsAfter gap prev × IsBefore gap (Some object)) }
-    ensures { result ≡ beside_of way (members_in (look links.now) members.now) object }
+    requires held { Held (table_in links.now) members.now }
+    requires member { AtGap (members_in (table_in links.now) members.now) (λ gap. IsAfter gap prev × IsBefore gap (Some object)) }
+    ensures { result ≡ beside_of way (members_in (table_in links.now) members.now) object }
 {
     match way {
         Direction::Prev => prev,
@@ -184,9 +187,9 @@ fn seek_with<T, M: Allocator>(
     object: Place,
     beside: Option<Place>,
 ) -> Result<(), Refusal>
-    requires held { Held (look links.now) members.old }
-    requires covered { IsCovered (look links.now) object }
-    ensures { Sought (Seek.With way object beside) object (look links.now) members.old result members.new }
+    requires held { Held (table_in links.now) members.old }
+    requires covered { IsCovered (table_in links.now) object }
+    ensures { Sought (Seek.With way object beside) object (table_in links.now) members.old result members.new }
 {
     // An unlinked object is no member, and nothing is walked.
     if !links.is_linked(object) {

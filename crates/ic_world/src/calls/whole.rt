@@ -5,7 +5,8 @@
 //! ```
 
 use crate::call::Refusal;
-use crate::calls::one_call::{OneCall, told};
+use crate::calls::kinds::is_xor;
+use crate::calls::one_call::OneCall;
 use ic_any_collection::{AnyCollection, AnyTable};
 use ic_rbtree::KeyAdapter;
 use ic_unsafe_ref::Objects;
@@ -51,7 +52,13 @@ impl<A: KeyAdapter> OneCall<A> for Whole {
                 members.unlink_all(links);
                 Ok(())
             }
-            Whole::Reverse => told(members.reverse(links)),
+            Whole::Reverse => {
+                if !is_xor(members.kind()) {
+                    return Err(Refusal::WrongKind);
+                }
+                members.reverse(links);
+                Ok(())
+            }
         }
     }
 }

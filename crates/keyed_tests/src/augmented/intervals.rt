@@ -2,10 +2,9 @@
 //! overlap it, beside a plain count.
 
 ghost use Rattle.std.specs.Prelude.{◌≡◌, ◌<◌, List, filter, length};
-ghost use Rattle.ic_unsafe_ref.specs.declared.place.Place.{Place};
-ghost use Rattle.ic_link_ops.specs.Tables.{IsCovered};
+ghost use Rattle.ic_link_ops.specs.Prelude.{Place, IsCovered};
 ghost use Rattle.ic_rbtree.specs.Tree.{root_of};
-ghost use Rattle.ic_augmented.specs.Consistent.{ShowsSummed};
+ghost use Rattle.ic_augmented.specs.Consistent.{RepresentsSummed};
 ghost use Rattle.ic_augmented.specs.Greatest.{greatest, number_at};
 ghost use Rattle.ic_augmented.specs.Intervals.{start_in, overlaps};
 ghost use Rattle.ic_augmented.specs.Summed.{links_of, sums_of};
@@ -52,7 +51,7 @@ impl Random {
     }
 }
 
-// A hundred intervals: where each starts, and where it ends. The kernel has an end in its interval, and we the number in front of it.
+// A hundred intervals: where each starts, and where it ends. The kernel has an end in its interval, and we the number before it.
 fn random_intervals(random: &mut Random) -> ([u64; 100], [u64; 100]) {
     let mut starts = [0; 100];
     let mut ends = [0; 100];
@@ -101,7 +100,7 @@ fn count_overlaps<L: RBTreeOps + LinkValues<u64>>(
     to: u64,
 ) -> u64
     requires intervals { AreIntervals L.node L.table L.values tree.now summed.now }
-    ensures counted { (s : List Place) → ShowsSummed L.node (greatest (sums_of summed.now)) (L.table (links_of summed.now)) (root_of tree.now) s
+    ensures counted { (s : List Place) → RepresentsSummed L.node (greatest (sums_of summed.now)) (L.table (links_of summed.now)) (root_of tree.now) s
         → result ≡ length (filter (overlaps (start_in (L.values (links_of summed.now))) (number_at (sums_of summed.now)) from to) s) }
 {
     let mut count = 0;

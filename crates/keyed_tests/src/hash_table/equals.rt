@@ -1,9 +1,7 @@
 //! Objects of which several have one key: they stand side by side.
 
 ghost use Rattle.std.specs.Prelude.{◌≡◌, ◌<◌, All, true};
-ghost use Rattle.ic_unsafe_ref.specs.declared.place.Place.{Place};
-ghost use Rattle.ic_unsafe_ref.specs.Objects.{is_placed};
-ghost use Rattle.ic_unsafe_ref.specs.Places.{index_of};
+ghost use Rattle.ic_link_ops.specs.Prelude.{Place, index_of, is_placed};
 ghost use Rattle.ic_hash_table.specs.HashTable.{number};
 ghost use Rattle.ic_hash_table.specs.SideBySide.{HoldsSideBySide};
 

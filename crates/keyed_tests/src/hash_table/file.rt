@@ -31,7 +31,7 @@ fn named(index: usize) -> Option<Place>
     Some(place_at(index))
 }
 
-// Links each place in front of the one that a file names for it.
+// Links each place before the one that a file names for it.
 fn read_links(links: &mut LinkOps, pairs: &[(usize, usize)])
     requires covers { (table wide no_word links.old).extent.places ≡ 8 }
 {
@@ -80,7 +80,7 @@ fn write_found(
 }
 
 // 20 and 40 belong in chain 0, and 10 and 30 in chain 2. The word 7 names no place. The first table is one. In the others 10 is in chain 1, a
-// chain of 10 and 30 runs in a circle, 40 is behind 20 and behind 10, one member more is counted, the first member is not linked, and it is
+// chain of 10 and 30 runs in a circle, 40 is after 20 and after 10, one member more is counted, the first member is not linked, and it is
 // beyond all places.
 // Promise: a hash table of a file.
 #[test]

@@ -2,9 +2,7 @@
 
 ghost use Rattle.std.specs.Prelude.{◌≡◌, ◌<◌, ◌≤◌, None, length, true};
 ghost use Rattle.std.specs.List.{AllByRecursion};
-ghost use Rattle.ic_unsafe_ref.specs.declared.place.Place.{Place};
-ghost use Rattle.ic_unsafe_ref.specs.Objects.{is_placed};
-ghost use Rattle.ic_unsafe_ref.specs.Places.{index_of};
+ghost use Rattle.ic_link_ops.specs.Prelude.{Place, index_of, is_placed};
 
 use crate::asserts::assert_true;
 use crate::hash_table::{NUMBERS, OwnKey, put};

@@ -57,7 +57,10 @@ pub(crate) fn make<I: Index<Page, A>, A: Allocator>(
         Call::Insert(number, size) => match pages.insert(Page { number, size }) {
             Ok(()) => Answer::Nothing,
             Err(InsertError::KeyTaken(page)) => Answer::Taken(page.number, page.size),
-            Err(InsertError::NoRoom(page)) => Answer::NoRoom(page.number, page.size),
+            Err(refused) => {
+                let page = refused.into_value();
+                Answer::NoRoom(page.number, page.size)
+            }
         },
         Call::Put(number, size) => put(pages, Page { number, size }),
         Call::PutOver(number, size) => put_over(pages, Page { number, size }),

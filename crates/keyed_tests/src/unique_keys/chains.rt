@@ -7,8 +7,8 @@ use ic_link_ops::PlaceWord;
 
 type Pages = Keyed<Page, NarrowHashIndex<Page, Vec<PlaceWord>>>;
 
-// By the last bit of their hashes 2, 3, 6 and 7 belong in chain 0, and 1, 4 and 5 in chain 1. A new page stands in front of its chain.
-// Behind each row: the chains afterwards.
+// By the last bit of their hashes 2, 3, 6 and 7 belong in chain 0, and 1, 4 and 5 in chain 1. A new page stands before its chain.
+// After each row: the chains afterwards.
 const ROWS: &[(Call, Answer)] = &[
     (Call::Insert(2, 20), Answer::Nothing), // 2 and none
     (Call::Insert(1, 10), Answer::Nothing), // 2 and 1
@@ -43,6 +43,7 @@ const ROWS: &[(Call, Answer)] = &[
 fn looks_in_chains(rt: HostRuntime) {
     let buckets = empty_buckets(rt.alloc(), 2).expect(&rt, "memory for buckets");
     let mut pages: Pages = Keyed::with_index(rt.alloc(), HashIndex::with_words(buckets));
+    assert!(rt; pages.reserve(5).is_ok());
     for (call, wanted) in ROWS {
         assert!(rt; make(&mut pages, *call) == *wanted);
     }

@@ -68,7 +68,7 @@ impl<V, A: Allocator> JobQueue<V, A> {
         }
     }
 
-    /// Adds a job behind those of its priority. The reference cancels it. Where there is no room for it, the job comes back, and nothing
+    /// Adds a job after those of its priority. The reference cancels it. Where there is no room for it, the job comes back, and nothing
     /// has changed. O(1), and at most two requests for memory.
     pub fn push(
         &mut self,
@@ -87,7 +87,7 @@ impl<V, A: Allocator> JobQueue<V, A> {
         Ok(job)
     }
 
-    /// Gives a job another priority: it waits behind the jobs of that one, wherever it stood. `false`, and nothing has changed, where no job
+    /// Gives a job another priority: it waits after the jobs of that one, wherever it stood. `false`, and nothing has changed, where no job
     /// has this reference. O(1), and it takes no memory.
     pub fn reprioritize(&mut self, job: &UnsafeRef<Job<V>>, priority: Priority) -> bool
         ensures moved { OnTrue result ((value : V) × (was : Priority) × Renews lane_of_job job.now (job_of was value) (job_of priority value) self.old self.new) }

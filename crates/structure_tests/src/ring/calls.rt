@@ -1,8 +1,7 @@
 //! The calls that the rows make, on a first ring and a second one.
 
 ghost use Rattle.std.specs.Prelude.{◌≡◌, ◌<◌};
-ghost use Rattle.ic_unsafe_ref.specs.declared.place.Place.{Place};
-ghost use Rattle.ic_unsafe_ref.specs.Places.{index_of};
+ghost use Rattle.ic_link_ops.specs.Prelude.{Place, index_of};
 ghost use Rattle.ic_ring.specs.Rings.{InRing};
 ghost use Rattle.structure_tests.specs.TwoRings.{TwoRings};
 
@@ -55,7 +54,7 @@ pub(crate) enum Pair {
     MoveFirstToBack,
     /// Moves it to the front of the first ring: `list_move`
     MoveFirstToFront,
-    /// Moves what stands behind the first member of the first ring to the front of the second one: `list_cut_position`, the other way round
+    /// Moves what stands after the first member of the first ring to the front of the second one: `list_cut_position`, the other way round
     SplitAfterFirst,
     /// Moves all members of the second ring to the back of the first one: `list_splice_tail_init`
     SpliceBack,

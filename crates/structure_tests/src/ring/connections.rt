@@ -1,18 +1,14 @@
 //! Connections in queues: one that closes leaves its queue, and nobody has to know which that is.
 
 ghost use Rattle.std.specs.Prelude.{◌≡◌, ◌≢◌, ◌<◌, ◌∷◌, ◌++◌, List, [], IfSome, Some, true};
-ghost use Rattle.ic_unsafe_ref.specs.declared.place.Place.{Place};
-ghost use Rattle.ic_unsafe_ref.specs.Objects.{is_placed};
-ghost use Rattle.ic_unsafe_ref.specs.Places.{index_of};
-ghost use Rattle.ic_link_ops.specs.LinkSteps.{releases};
-ghost use Rattle.ic_link_ops.specs.Sequences.{IsMember, at_back, at_front, first, insert, remove};
-ghost use Rattle.ic_ring.specs.Rings.{InRing, Shows, ShowsBeside};
+ghost use Rattle.ic_link_ops.specs.Prelude.{Place, index_of, object_at, is_placed, IsMember, at_back, at_front, first, insert, remove, releases};
+ghost use Rattle.ic_ring.specs.Rings.{InRing, Represents, RepresentsBeside};
 
 use crate::ring::write_members;
 use ic_link_ops::LinkOps;
 use ic_link_ops::linked_list::LinkedListOps;
 use ic_ring::{Ring, remove};
-use ic_test_support::answers::{object, write_places};
+use ic_test_support::answers::{object, value, write_places};
 use ic_test_support::notes::{Answer, Text};
 use ic_unsafe_ref::{Objects, Place, UnsafeRef};
 
@@ -21,8 +17,8 @@ pub(crate) fn touch<L: LinkedListOps>(links: &mut L, idle: &Ring<u64>, connectio
     requires queued { InRing L.neighbors (L.table links.old) connection.now }
     requires idle { InRing L.neighbors (L.table links.old) idle.now }
     requires other { idle.now ≢ connection.now }
-    ensures touched { (s : List Place) → ShowsBeside L.neighbors (L.table links.old) connection.now idle.now s
-        → Shows L.neighbors (L.table links.new) idle.now (insert (at_back s) connection.now) }
+    ensures touched { (s : List Place) → RepresentsBeside L.neighbors (L.table links.old) connection.now idle.now s
+        → Represents L.neighbors (L.table links.new) idle.now (insert (at_back s) connection.now) }
     ensures extent { (L.table links.new).extent ≡ (L.table links.old).extent }
 {
     idle.move_to_back(links, connection);
@@ -31,9 +27,9 @@ pub(crate) fn touch<L: LinkedListOps>(links: &mut L, idle: &Ring<u64>, connectio
 /// The connection closes itself: it leaves its queue, whichever that is.
 pub(crate) fn close<L: LinkedListOps>(links: &mut L, connection: &UnsafeRef<u64>)
     requires queued { InRing L.neighbors (L.table links.old) connection.now }
-    ensures left { (queue : Place) (front back : List Place) → Shows L.neighbors (L.table links.old) queue (front ++ connection.now ∷ back)
-        → Shows L.neighbors (L.table links.new) queue (front ++ back) }
-    ensures unlinked { L.Does links.old links.new (releases connection.now ∷ []) }
+    ensures left { (queue : Place) (front back : List Place) → Represents L.neighbors (L.table links.old) queue (front ++ connection.now ∷ back)
+        → Represents L.neighbors (L.table links.new) queue (front ++ back) }
+    ensures unlinked { L.Trace links.old links.new (releases connection.now ∷ []) }
     ensures extent { (L.table links.new).extent ≡ (L.table links.old).extent }
 {
     remove(links, connection);
@@ -45,48 +41,51 @@ pub(crate) fn close_oldest<L: LinkedListOps>(
     idle: &Ring<u64>,
 ) -> Option<UnsafeRef<u64>>
     requires idle { InRing L.neighbors (L.table links.old) idle.now }
-    ensures oldest { (s : List Place) → Shows L.neighbors (L.table links.old) idle.now s → result ≡ first s }
-    ensures others { (s : List Place) → Shows L.neighbors (L.table links.old) idle.now s → Shows L.neighbors (L.table links.new) idle.now (remove (at_front s)) }
+    ensures oldest { (s : List Place) → Represents L.neighbors (L.table links.old) idle.now s → result ≡ first s }
+    ensures others { (s : List Place) → Represents L.neighbors (L.table links.old) idle.now s → Represents L.neighbors (L.table links.new) idle.now (remove (at_front s)) }
     ensures extent { (L.table links.new).extent ≡ (L.table links.old).extent }
-    ensures unlinked { IfSome result (λ connection. L.Does links.old links.new (releases connection ∷ [])) }
+    ensures unlinked { IfSome result (λ connection. L.Trace links.old links.new (releases connection ∷ [])) }
 {
     idle.pop_front(links)
 }
 
-// Closes the connection that is first in the queue, and says which is first then.
+// Closes the connection that is first in the queue, and says which is first then, and its number.
 fn close_first<L: LinkedListOps>(
     links: &mut L,
+    objects: &Objects<u64>,
     queue: &Ring<u64>,
-) -> (Option<UnsafeRef<u64>>, Option<Place>)
+) -> (Option<UnsafeRef<u64>>, Option<Place>, Option<u64>)
     requires queue { InRing L.neighbors (L.table links.old) queue.now }
-    ensures closed { (one : Place) (s : List Place) → Shows L.neighbors (L.table links.old) queue.now (one ∷ s)
-        → (result.0 ≡ Some one) × Shows L.neighbors (L.table links.new) queue.now s × (result.1 ≡ first s) }
+    ensures closed { (one : Place) (s : List Place) → Represents L.neighbors (L.table links.old) queue.now (one ∷ s)
+        → (result.0 ≡ Some one) × Represents L.neighbors (L.table links.new) queue.now s × (result.1 ≡ first s) }
+    ensures number { (one next : Place) (s : List Place) → Represents L.neighbors (L.table links.old) queue.now (one ∷ next ∷ s)
+        → result.2 ≡ object_at objects.now next }
     ensures queue { InRing L.neighbors (L.table links.new) queue.now }
     ensures extent { (L.table links.new).extent ≡ (L.table links.old).extent }
 {
     let mut cursor = queue.cursor_mut(links);
     cursor.move_next();
     let closed = cursor.remove();
-    (closed, cursor.get_ptr())
+    (closed, cursor.get_ptr(), cursor.get(objects).copied())
 }
 
-// Whether the connection is the last one in the queue: whether the head stands behind it.
+// Whether the connection is the last one in the queue: whether the head stands after it.
 fn is_last<L: LinkedListOps>(links: &L, queue: &Ring<u64>, connection: &UnsafeRef<u64>) -> bool
-    requires here { (r : List Place) × Shows L.neighbors (L.table links.now) queue.now r × IsMember connection.now (queue.now ∷ r) }
-    ensures last { (s : List Place) → Shows L.neighbors (L.table links.now) queue.now (s ++ connection.now ∷ []) → result ≡ true }
+    requires here { (r : List Place) × Represents L.neighbors (L.table links.now) queue.now r × IsMember connection.now (queue.now ∷ r) }
+    ensures last { (s : List Place) → Represents L.neighbors (L.table links.now) queue.now (s ++ connection.now ∷ []) → result ≡ true }
 {
     let mut cursor = queue.cursor_at(links, connection.place());
     cursor.move_next();
     cursor.is_null()
 }
 
-// Closes the connection, and says which stood behind it, and whether none did.
+// Closes the connection, and says which stood after it, and whether none did.
 fn close_here<L: LinkedListOps>(
     links: &mut L,
     queue: &Ring<u64>,
     connection: &UnsafeRef<u64>,
 ) -> (Option<Place>, bool)
-    requires here { (r : List Place) × Shows L.neighbors (L.table links.old) queue.now r × IsMember connection.now (queue.now ∷ r) }
+    requires here { (r : List Place) × Represents L.neighbors (L.table links.old) queue.now r × IsMember connection.now (queue.now ∷ r) }
     ensures queue { InRing L.neighbors (L.table links.new) queue.now }
     ensures extent { (L.table links.new).extent ≡ (L.table links.old).extent }
 {
@@ -95,7 +94,7 @@ fn close_here<L: LinkedListOps>(
     (cursor.as_cursor().get_ptr(), cursor.is_null())
 }
 
-// Closes the last connection of the queue, if there is one: whether it was the last, what stood behind it, and whether that was none.
+// Closes the last connection of the queue, if there is one: whether it was the last, what stood after it, and whether that was none.
 fn close_last<L: LinkedListOps>(links: &mut L, queue: &Ring<u64>) -> (bool, Option<Place>, bool)
     requires queue { InRing L.neighbors (L.table links.old) queue.now }
     ensures queue { InRing L.neighbors (L.table links.new) queue.now }
@@ -139,7 +138,7 @@ fn remove_first<L: LinkedListOps>(links: &mut L, ring: &Ring<u64>)
 /// Serves a queue, and notes what the calls return.
 ///
 /// The first connection is used, and the one that is first then closes itself; the members are noted. A cursor closes the next one, and says
-/// which is first then. Then the one that has been idle longest is closed, and last the last one.
+/// which is first then, and its number. Then the one that has been idle longest is closed, and last the last one.
 pub(crate) fn write_served<L: LinkedListOps>(
     notes: &mut Text,
     links: &mut L,
@@ -155,9 +154,10 @@ pub(crate) fn write_served<L: LinkedListOps>(
     rotate_left(links, queue);
     remove_first(links, queue);
     write_members(notes, &*links, objects, queue);
-    let (closed, first) = close_first(links, queue);
+    let (closed, first, number) = close_first(links, objects, queue);
     notes.add(object(closed), " ");
     write_places(notes, &[first]);
+    notes.add(value(number.as_ref()), " ");
     notes.add(object(close_oldest(links, queue)), " ");
     let (was_last, behind, is_none) = close_last(links, queue);
     notes.add(Answer::Truth(was_last), " ");

@@ -13,14 +13,14 @@ pub(crate) enum Row {
     Cursor(At, usize),
     /// A call of both rings.
     Both(Pair, usize),
-    /// Whether the first ring is empty, its first member and its last, and the places in front of its head and behind it.
+    /// Whether the first ring is empty, its first member and its last, and the places before its head and after it.
     Ends,
-    /// Whether a cursor at the head is on no member, and the second member of the first ring.
+    /// Whether a cursor at the head is on no member, and the second member of the first ring and the last one, and the object of the second one.
     Second,
 }
 
 /// The rows make each call at least once. Beside each call stand the object that comes back and the members of both rings: each ring has its
-/// members from the front, and the one that a walk from the back meets first. What `Ends` and `Second` note comes in front of these.
+/// members from the front, and the one that a walk from the back meets first. What `Ends` and `Second` note comes before these.
 pub(crate) const ROWS: &[(Row, &str)] = &[
     // Calls of one ring.
     (Ends, "yes none none 6 6 none none, none,"),
@@ -55,7 +55,7 @@ pub(crate) const ROWS: &[(Row, &str)] = &[
     ),
     (Cursor(At::LastReplaceWith, 4), "1 10 30 40 50 50, none,"),
     (Cursor(At::FirstRemove, 0), "0 30 40 50 50, none,"),
-    (Second, "yes 3 none 30 40 50 50, none,"),
+    (Second, "yes 3 4 40 none 30 40 50 50, none,"),
     // Calls by a cursor that move members from one ring to the other.
     (Ring(Call::Clear, 0), "none none, none,"),
     (Ring(Call::PushBack, 0), "none 10 10, none,"),
@@ -82,14 +82,14 @@ pub(crate) const ROWS: &[(Row, &str)] = &[
     ),
     (Both(Pair::SplitAfterFirst, 0), "none 40 40, 10 20 30 30,"),
     (Both(Pair::SpliceBack, 0), "none 40 10 20 30 30, none,"),
-    // The ring that the calls behind the rows start from.
+    // The ring that the calls after the rows start from.
     (Ring(Call::MoveLastToFront, 0), "none 30 40 10 20 20, none,"),
     (Ring(Call::PushFront, 4), "none 50 30 40 10 20 20, none,"),
 ];
 
-/// What is noted behind the rows: the first ring after its head and that of the second ring, which is empty, were exchanged, and what
+/// What is noted after the rows: the first ring after its head and that of the second ring, which is empty, were exchanged, and what
 /// [`write_served`] notes of it. Then the ring is printed, and its first member is bypassed and put back: which is first, each time.
 ///
 /// [`write_served`]: crate::ring::connections::write_served
 pub(crate) const LAST: &str =
-    "80 50 30 40 10 20 20,  30 40 10 20 80 80,  2 3  3  yes none yes  [10, 20]  1 0";
+    "80 50 30 40 10 20 20,  30 40 10 20 80 80,  2 3 40  3  yes none yes  [10, 20]  1 0";

@@ -15,6 +15,7 @@ pub(crate) enum Call {
     PeekOldest,
     PopOldest,
     Len,
+    IsEmpty,
 }
 
 /// What a call answers.
@@ -24,6 +25,7 @@ pub(crate) enum Answer {
     Entry(u64, u64),
     Value(u64),
     Count(u64),
+    Truth(bool),
     Refused(u64),
 }
 
@@ -47,6 +49,7 @@ pub(crate) fn make<I: Index<Entry<u64>, A>, A: Allocator>(
         },
         Call::PopOldest => entry(cache.pop_oldest()),
         Call::Len => Answer::Count(cache.len() as u64),
+        Call::IsEmpty => Answer::Truth(cache.is_empty()),
     }
 }
 

@@ -10,8 +10,9 @@ use std::alloc::{Allocator, Global};
 
 type Row = (Call, Answer);
 
-// Three keys in a cache of two entries. Behind each row: the keys afterwards, the one touched last in front.
+// Three keys in a cache of two entries. After each row: the keys afterwards, the one touched last first.
 const TWO: &[Row] = &[
+    (Call::IsEmpty, Answer::Truth(true)),
     (Call::PeekOldest, Answer::Nothing),
     (Call::PopOldest, Answer::Nothing),
     (Call::Looks(1), Answer::Count(0)),
@@ -32,7 +33,9 @@ const TWO: &[Row] = &[
     (Call::Insert(18446744073709551615, 40), Answer::Nothing), // the greatest key, and 2
     (Call::Get(2), Answer::Value(21)),
     (Call::PopOldest, Answer::Entry(18446744073709551615, 40)),
+    (Call::IsEmpty, Answer::Truth(false)),
     (Call::PopOldest, Answer::Entry(2, 21)),
+    (Call::IsEmpty, Answer::Truth(true)),
     (Call::Len, Answer::Count(0)),
 ];
 

@@ -7,7 +7,7 @@ use std::alloc::{Allocator, Global};
 
 type Row = (Call, Answer);
 
-// What is freed in pieces is one region in the end: the third piece joins one behind it, the last one on both sides.
+// What is freed in pieces is one region in the end: the third piece joins one after it, the last one on both sides.
 const JOINED: &[Row] = &[
     (Call::IsEmpty, Answer::Truth(true)),
     (Call::Allocate(1), Answer::Nothing),

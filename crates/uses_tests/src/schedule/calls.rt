@@ -1,8 +1,7 @@
 //! Calls of a scheduler of numbers and what they answer, as values.
 
 ghost use Rattle.std.specs.Prelude.{◌≡◌, ◌≢◌, ◌∷◌, ℕ, List};
-ghost use Rattle.ic_unsafe_ref.specs.declared.place.Place.{Place};
-ghost use Rattle.ic_link_ops.specs.Sequences.{IsAbsent};
+ghost use Rattle.ic_link_ops.specs.Prelude.{Place, IsAbsent};
 ghost use Rattle.scheduler.specs.Schedule.{places_at};
 
 use scheduler::{AddError, Queue, Scheduler};

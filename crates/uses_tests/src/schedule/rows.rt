@@ -38,8 +38,8 @@ const TICKS: &[Row] = &[
     (Call::Next(8), Answer::NoQueue),
 ];
 
-// What a later tick moves stands behind what an earlier one did, whatever the deadlines.
-// Promise: ticks behind one another.
+// What a later tick moves stands after what an earlier one did, whatever the deadlines.
+// Promise: ticks after one another.
 const TWO_TICKS: &[Row] = &[
     (Call::Add(7, 2, 16), Answer::Done),
     (Call::Tick(7), Answer::Moved(1)),

@@ -3,31 +3,15 @@
 //!
 //!     same_calls CALLS
 
-use ic::{Error, Link1, Link2, Link3, List, Stack, Tree, TreeEnds, XorList};
-use std::fmt::Write;
+use ic::{Error, Sum, SumKind};
+use made::World;
+use std::fmt::{Display, Write};
 
 mod made;
 
-const SLOTS: usize = 3;
-/// Of three hash tables the second has too few keys, as the second list and the second tree do, and the third has no buckets.
-const BUCKETS: [std::ops::Range<usize>; SLOTS] = [0..4, 4..7, 7..7];
-const FEW_KEYS: usize = 5;
-
-/// What all calls are made of.
-#[derive(Default)]
-struct World {
-    list_links: [Link2; made::LIST_PLACES],
-    stack_links: [Link1; made::STACK_PLACES],
-    xor_links: [Link1; made::XOR_PLACES],
-    tree_links: [Link3; made::TREE_PLACES],
-    lists: [List; SLOTS],
-    stacks: [Stack; SLOTS],
-    buckets: [Stack; 7],
-    xor_lists: [XorList; SLOTS],
-    trees: [Tree; SLOTS],
-    tree_ends: [TreeEnds; SLOTS],
-    keys: Vec<u64>,
-}
+/// Of three hash tables the second has too few keys, as the second list and the second tree do, also too few sums, and the third has no buckets.
+const BUCKETS: [std::ops::Range<usize>; 3] = [0..4, 4..7, 7..7];
+const FEW: usize = 5;
 
 /// The place of an argument, or none.
 fn gap(word: &str) -> Option<u32> {
@@ -46,12 +30,26 @@ fn slot(word: &str) -> usize {
     number(word) as usize
 }
 
-fn keys(all: &[u64], slot: usize) -> &[u64] {
+fn kind(word: &str) -> SumKind {
+    [SumKind::Sum, SumKind::Greatest][slot(word)]
+}
+
+/// How many of the keys or sums a call gets.
+fn count(all: usize, slot: usize) -> usize {
     if slot == 1 {
-        &all[..FEW_KEYS]
+        FEW
     } else {
         all
     }
+}
+
+fn some<T>(all: &[T], slot: usize) -> &[T] {
+    &all[..count(all.len(), slot)]
+}
+
+fn some_mut<T>(all: &mut [T], slot: usize) -> &mut [T] {
+    let count = count(all.len(), slot);
+    &mut all[..count]
 }
 
 /// Two of the lists, the first of which is edited, and the second handed to the call.
@@ -130,56 +128,49 @@ pub(crate) use walk_by_cursor;
 
 // ---- The words ----
 
+/// A word of 8 or of 4 bytes.
+trait Word: Display {
+    fn of(word: u64) -> Self;
+}
+
+impl Word for u64 {
+    fn of(word: u64) -> u64 {
+        word
+    }
+}
+
+impl Word for u32 {
+    fn of(word: u64) -> u32 {
+        word as u32
+    }
+}
+
+fn sum_words(of: &Sum) -> [u64; 2] {
+    [of.value, of.sum]
+}
+
+fn sum_of([value, sum]: [u64; 2]) -> Sum {
+    Sum { value, sum }
+}
+
 /// Writes one word of an array of links or lists.
-fn set<T, const N: usize>(
+fn set<T, W: Word, const N: usize>(
     all: &mut [T],
     at: usize,
     word: u64,
-    words: fn(&T) -> [u64; N],
-    from_words: fn([u64; N]) -> T,
+    words: fn(&T) -> [W; N],
+    from_words: fn([W; N]) -> T,
 ) {
     let mut them = words(&all[at / N]);
-    them[at % N] = word;
+    them[at % N] = W::of(word);
     all[at / N] = from_words(them);
 }
 
-fn line<T, const N: usize>(text: &mut String, all: &[T], words: fn(&T) -> [u64; N]) {
+fn line<T, W: Word, const N: usize>(text: &mut String, all: &[T], words: fn(&T) -> [W; N]) {
     for word in all.iter().flat_map(words) {
         write!(text, "{word} ").expect("a text");
     }
     text.push('\n');
-}
-
-impl World {
-    fn set(&mut self, part: u64, at: usize, word: u64) {
-        match part {
-            0 => set(&mut self.list_links, at, word, Link2::words, Link2::from_words),
-            1 => set(&mut self.lists, at, word, List::words, List::from_words),
-            2 => set(&mut self.stack_links, at, word, Link1::words, Link1::from_words),
-            3 => set(&mut self.stacks, at, word, Stack::words, Stack::from_words),
-            4 => set(&mut self.buckets, at, word, Stack::words, Stack::from_words),
-            5 => set(&mut self.xor_links, at, word, Link1::words, Link1::from_words),
-            6 => set(&mut self.xor_lists, at, word, XorList::words, XorList::from_words),
-            7 => set(&mut self.tree_links, at, word, Link3::words, Link3::from_words),
-            8 => set(&mut self.trees, at, word, Tree::words, Tree::from_words),
-            _ => set(&mut self.tree_ends, at, word, TreeEnds::words, TreeEnds::from_words),
-        }
-    }
-
-    fn show(&self) -> String {
-        let mut text = String::new();
-        line(&mut text, &self.list_links, Link2::words);
-        line(&mut text, &self.lists, List::words);
-        line(&mut text, &self.stack_links, Link1::words);
-        line(&mut text, &self.stacks, Stack::words);
-        line(&mut text, &self.buckets, Stack::words);
-        line(&mut text, &self.xor_links, Link1::words);
-        line(&mut text, &self.xor_lists, XorList::words);
-        line(&mut text, &self.tree_links, Link3::words);
-        line(&mut text, &self.trees, Tree::words);
-        line(&mut text, &self.tree_ends, TreeEnds::words);
-        text
-    }
 }
 
 fn main() {
@@ -193,6 +184,7 @@ fn main() {
             "reset" => world = World { keys: world.keys, ..World::default() },
             "show" => said += &world.show(),
             "keys" => world.keys = words.iter().map(|word| number(word)).collect(),
+            "values" => world.sums.iter_mut().zip(words).for_each(|(sum, word)| sum.value = number(word)),
             "word" => world.set(number(words[0]), slot(words[1]), number(words[2])),
             _ => {
                 said += &made::play(&mut world, name, &words);

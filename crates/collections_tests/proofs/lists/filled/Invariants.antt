@@ -1,9 +1,9 @@
 use Rattle.std.proofs.Common.{◌≡◌}
-use Rattle.ic_link_ops.specs.Chains.{ShowsSomeChain}
+use Rattle.ic_link_ops.specs.Chains.{RepresentsSomeChain}
 use Rattle.collections_tests.proofs.lists.filled.Given as goal
 
 abbrev pub invariant-loop-given : goal.invariant-loop-given
 invariant-loop-given g l = record {
   covers : (g.L.LinkOps.table l.links).extent.places ≡ 8;
-  shown : ShowsSomeChain g.K.ForwardLinks.Between g.K.ListKind.kept (g.L.LinkOps.table l.links) l.list;
+  shown : RepresentsSomeChain g.K.ForwardLinks.Between g.K.ListKind.kept (g.L.LinkOps.table l.links) l.list;
 }

@@ -1,5 +1,5 @@
-use Rattle.std.proofs.Common.{rules, refl, sym, ap, ◌∙◌}
-use Rattle.ic_any_collection.specs.TreeTables.{look}
+use Rattle.std.proofs.Common.{rules, refl, ap}
+use Rattle.ic_any_collection.specs.TreeTables.{table_in}
 use Rattle.ic_any_collection.proofs.KeyedEdits.{vacant_one, inserts_left, links_left}
 use Rattle.ic_any_collection.proofs.keyed.put_at_key.Goals as goal
 
@@ -16,12 +16,6 @@ or_insert-requires-clause-vacant g c =
     let b = rw one.1 at c.entry_by.ensures.vacant_borrows in
     rw one.1 (v.gap, rw (b.3, b.2, v.same) p.shown, rw b.3 v.is_at)
 
-pub unwrap-requires-in-Ok : goal.unwrap-requires-in-Ok
-unwrap-requires-in-Ok g c =
-    let one = vacant_one c.entry_by.result c.in_default.not-Occupied in
-    let put = rw one.1 at c.in-Ok.ensures.vacant in
-    rw (c.get_ptr-in-Ok.ensures, put.position) refl
-
 pub returns-in-Ok-clause-put : goal.returns-in-Ok-clause-put
 returns-in-Ok-clause-put g c s shown new =
     let one = vacant_one c.entry_by.result c.in_default.not-Occupied in
@@ -29,7 +23,7 @@ returns-in-Ok-clause-put g c s shown new =
     let b = rw one.1 at c.entry_by.ensures.vacant_borrows in
     let put = rw (one.1, c.new.ensures) at c.in-Ok.ensures.vacant in
     let names = put.borrows in
-    (v.gap, v.same, ((v.smaller, v.larger), inserts_left (ap look b.3) refl (put.inserted v.gap (rw (b.3, b.2, v.same) shown) (rw b.3 v.is_at)) (search rules) (search rules)))
+    (v.gap, v.same, ((v.smaller, v.larger), inserts_left (ap table_in b.3) refl (put.inserted v.gap (rw (b.3, b.2, v.same) shown) (rw b.3 v.is_at)) (search rules) (search rules)))
 
 pub returns-in-Ok-clause-links : goal.returns-in-Ok-clause-links
 returns-in-Ok-clause-links g c new =
@@ -37,8 +31,7 @@ returns-in-Ok-clause-links g c new =
     let b = rw one.1 at c.entry_by.ensures.vacant_borrows in
     let put = rw (one.1, c.new.ensures) at c.in-Ok.ensures.vacant in
     let names = put.borrows in
-    let there = sym c.unwrap-in-Ok.ensures ∙ c.get_ptr-in-Ok.ensures ∙ put.position in
-    (search rules, links_left (ap look b.3) refl put.acquired (search rules))
+    (refl, links_left (ap table_in b.3) refl put.acquired (search rules))
 
 pub returns-in-Err-clause-refused : goal.returns-in-Err-clause-refused
 returns-in-Err-clause-refused g c s shown =

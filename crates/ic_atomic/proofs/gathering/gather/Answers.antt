@@ -1,10 +1,8 @@
 use Rattle.std.proofs.Common.{◌≡◌, ◌<◌, ◌+◌, ◌∙◌, ◌++◌, [], ◌∷◌, ℕ, suc, List, refl, sym, ap, subst, arith, length, take}
 use Rattle.std.proofs.Math.Seq.{take-suc, take-length}
 use Rattle.std.proofs.lemmas.List.Elements.{All-get_or}
-use Rattle.ic_unsafe_ref.specs.declared.place.Place.{Place}
-use Rattle.ic_unsafe_ref.specs.Places.{index_of}
-use Rattle.ic_link_ops.specs.LinkedList.{Shows}
-use Rattle.ic_link_ops.specs.Tables.{Extent, IsCovered}
+use Rattle.ic_link_ops.specs.Prelude.{Place, index_of, Extent, IsCovered}
+use Rattle.ic_link_ops.specs.LinkedList.{Represents}
 use Rattle.ic_atomic.specs.AtomicLinks.{record_in, links_of}
 use Rattle.ic_atomic.proofs.AtomicTables.{had, not_had, as_it_was}
 use Rattle.ic_atomic.proofs.GatheredPlaces.{Gathered, none_gathered, gathered_one, gathered_none}
@@ -13,7 +11,7 @@ use Rattle.ic_atomic.proofs.gathering.gather.Goals as goal
 use Rattle.ic_atomic.proofs.gathering.gather.Goals.{then-is_ok, else-is_ok}
 
 pub loop-object-init : goal.loop-object-init
-loop-object-init g c = record { shown = c.requires.shown; gathered = none_gathered; claims = refl; few = omega arith; answered = refl; told = c.passed.ensures.told }
+loop-object-init g c = record { shown = c.requires.shown; gathered = none_gathered; claims = refl; few = omega arith; answered = refl; reported = c.passed.ensures.reported }
 
 pub push_back-requires-clause-covered : goal.push_back-requires-clause-covered
 push_back-requires-clause-covered g c =
@@ -44,8 +42,8 @@ loop-object-preserved g c =
       | then-is_ok w ↦
           let ok = sym c.is_ok.ensures.value ∙ w.if-is_ok.true in
           let gains = had r ok e.acquired in
-          let joins : (s : List Place) → Shows g.L.LinkedListOps.neighbors (g.L.LinkOps.table (links_of c.loop-object.links)) c.loop-object.list s
-          → Shows g.L.LinkedListOps.neighbors (g.L.LinkOps.table (links_of c.push_back.new.links)) c.push_back.new.self (s ++ c.new.result ∷ []) = λ s h. had r ok (e.inserted s h) in
+          let joins : (s : List Place) → Represents g.L.LinkedListOps.neighbors (g.L.LinkOps.table (links_of c.loop-object.links)) c.loop-object.list s
+          → Represents g.L.LinkedListOps.neighbors (g.L.LinkOps.table (links_of c.push_back.new.links)) c.push_back.new.self (s ++ c.new.result ∷ []) = λ s h. had r ok (e.inserted s h) in
           record {
             shown = (i.shown.0 ++ c.new.result ∷ [], joins i.shown.0 i.shown.1);
             gathered = subst (λ (seen : List Place). Gathered g.L.LinkedListOps.neighbors (g.L.LinkOps.table (links_of c.args.links.now)) (g.L.LinkOps.table (links_of c.push_back.new.links)) c.args.list.now c.push_back.new.self (record_in c.args.links.now) (record_in c.push_back.new.links) seen c.if-is_ok.pushed)
@@ -53,7 +51,7 @@ loop-object-preserved g c =
             claims = gains.claims ∙ i.claims;
             few = omega (arith, i.few, w.pushed-is);
             answered = ap (λ (m : ℕ). m + 1) i.answered;
-            told = c.passed-in-loop-object.ensures.told;
+            reported = c.passed-in-loop-object.ensures.reported;
           }
       | else-is_ok w ↦
           let err = sym c.is_ok.ensures.value ∙ w.if-is_ok.false in
@@ -66,7 +64,7 @@ loop-object-preserved g c =
             claims = fails.claims ∙ i.claims;
             few = omega (arith, i.few, w.pushed-is);
             answered = ap (λ (m : ℕ). m + 1) i.answered;
-            told = c.passed-in-loop-object.ensures.told;
+            reported = c.passed-in-loop-object.ensures.reported;
           }
     ]
 
@@ -89,7 +87,7 @@ returns-clause-claims g c = c.loop-object.invariant.claims
 pub returns-clause-frame : goal.returns-clause-frame
 returns-clause-frame g c = (all_seen g c).frame
 
-pub returns-clause-told : goal.returns-clause-told
-returns-clause-told g c =
+pub returns-clause-reported : goal.returns-clause-reported
+returns-clause-reported g c =
     let all : c.loop-object.answered ≡ length c.args.offered.now = omega (arith, c.loop-object.invariant.answered, c.loop-object.auto.object-index-end, c.loop-object-test.false) in
-    subst (λ n. g.G.Gate.Told c.args.gate.now c.args.worker n) all c.loop-object.invariant.told
+    subst (λ n. g.G.Gate.Reported c.args.gate.now c.args.worker n) all c.loop-object.invariant.reported

@@ -1,29 +1,28 @@
 use Rattle.std.proofs.Common.{◌∙◌, [], ◌∷◌, Bool, Option, sym, subst, None}
-use Rattle.ic_unsafe_ref.specs.declared.place.Place.{Place}
-use Rattle.ic_link_ops.specs.Sequences.{insert, join, IsDisjoint}
+use Rattle.ic_link_ops.specs.Prelude.{Place, insert, join, IsDisjoint}
 use Rattle.ic_link_ops.proofs.SequenceLemmas.{disjoint_insert, disjoint_sym}
-use Rattle.ic_link_ops.proofs.ShownTrees.{holds_out, one_sequence}
+use Rattle.ic_link_ops.proofs.RepresentedTrees.{holds_out, one_sequence}
 use Rattle.ic_rbtree.specs.Closed.{IsIn}
-use Rattle.ic_rbtree.proofs.ShownClosed.{with_place, among_there}
+use Rattle.ic_rbtree.proofs.RepresentedClosed.{with_place, among_there}
 use Rattle.ic_augmented.specs.Beside.{IsWrittenIn, IsSameBeside}
 use Rattle.ic_augmented.specs.MarkLaws.{written_still, marks_on}
 use Rattle.ic_augmented.proofs.BesideLemmas.{written_among, absent_out, absent_insert}
 use Rattle.ic_augmented.proofs.ConsistencyLemmas.{same_on}
 use Rattle.ic_augmented.proofs.FenceLemmas.{fence_is}
 use Rattle.ic_augmented.proofs.ChangeLemmas.{member_out}
-use Rattle.ic_augmented.proofs.EditLemmas.{all_fresh, attach_closed, attached_extent, attached_shows, attached_others, stale_with, refreshed_tree, others_consistent}
+use Rattle.ic_augmented.proofs.EditLemmas.{all_fresh, attach_closed, attached_extent, attached_represents, attached_others, stale_with, refreshed_tree, others_consistent}
 use Rattle.ic_augmented.proofs.edits.attach_fresh.Goals as goal
 
 pub attach_marking-edge-requires : goal.attach_marking-edge-requires
 attach_marking-edge-requires g c =
     let r = c.requires.hole in
-    let x = attach_closed g.N.Nodes.node _ _ c.args.parent c.args.side c.args.place r.0 r.1 r.2 r.3 r.4 in
+    let x = attach_closed g.N.NodeStore.node _ _ c.args.parent c.args.side c.args.place r.0 r.1 r.2 r.3 r.4 in
     record { closed = x.0; inside = x.1 }
 
 pub settle-requires-clause-member : goal.settle-requires-clause-member
 settle-requires-clause-member g c =
     let r = c.requires.hole in
-    (_, record { front = r.0.front; back = r.0.back; shown = attached_shows g.N.Nodes.node _ _ _ _ c.args.parent c.args.side c.args.place r.0 c.attach_marking-edge.ensures.attached r.1 r.2 r.3 r.4 })
+    (_, record { front = r.0.front; back = r.0.back; shown = attached_represents g.N.NodeStore.node _ _ _ _ c.args.parent c.args.side c.args.place r.0 c.attach_marking-edge.ensures.attached r.1 r.2 r.3 r.4 })
 
 pub settle-requires-clause-covered : goal.settle-requires-clause-covered
 settle-requires-clause-covered g c q is =
@@ -32,7 +31,7 @@ settle-requires-clause-covered g c q is =
 pub refresh_below-requires-clause-tree : goal.refresh_below-requires-clause-tree
 refresh_below-requires-clause-tree g c =
     let r = c.requires.hole in
-    let h = attached_shows g.N.Nodes.node _ _ _ _ c.args.parent c.args.side c.args.place r.0 c.attach_marking-edge.ensures.attached r.1 r.2 r.3 r.4 in
+    let h = attached_represents g.N.NodeStore.node _ _ _ _ c.args.parent c.args.side c.args.place r.0 c.attach_marking-edge.ensures.attached r.1 r.2 r.3 r.4 in
     (None, h.tree, h.held.entries, c.root-top.ensures ∙ h.starts)
 
 pub refresh_below-requires-clause-covered : goal.refresh_below-requires-clause-covered
@@ -41,9 +40,9 @@ refresh_below-requires-clause-covered g c q is =
 
 pub returns-clause-fresh : goal.returns-clause-fresh
 returns-clause-fresh g c gap linked out h hole =
-    let n = g.N.Nodes.node in
-    let v = g.N.Nodes.table c.args.summed.now.links in
-    let shown = attached_shows n v _ _ _ c.args.parent c.args.side c.args.place gap c.attach_marking-edge.ensures.attached linked out h.0 hole in
+    let n = g.N.NodeStore.node in
+    let v = g.N.NodeStore.table c.args.summed.now.links in
+    let shown = attached_represents n v _ _ _ c.args.parent c.args.side c.args.place gap c.attach_marking-edge.ensures.attached linked out h.0 hole in
     let kept = stale_with n v _ _ c.args.place gap c.invalidate_up.ensures.stale c.invalidate_up.ensures.consistent h.1 in
     let right = c.settle.ensures.consistent _ gap.front gap.back shown (c.attach_marking-edge.ensures.consistent (insert gap c.args.place) kept) in
     all_fresh n _ _ _ (insert gap c.args.place)
@@ -51,7 +50,7 @@ returns-clause-fresh g c gap linked out h hole =
 
 pub returns-clause-beside : goal.returns-clause-beside
 returns-clause-beside g c =
-    let n = g.N.Nodes.node in
+    let n = g.N.NodeStore.node in
     let p = c.args.place in
     let r = c.requires.hole in
     let z0 = g.M.Sums.sums c.args.summed.now.sums in
@@ -60,7 +59,7 @@ returns-clause-beside g c =
     let z3 = g.M.Sums.sums c.settle.new.sums in
     let z4 = g.M.Sums.sums c.refresh_below.new.sums in
     let done = c.attach_marking-edge.ensures.attached in
-    let tree = attached_shows n _ _ _ _ c.args.parent c.args.side p r.0 done r.1 r.2 r.3 r.4 in
+    let tree = attached_represents n _ _ _ _ c.args.parent c.args.side p r.0 done r.1 r.2 r.3 r.4 in
     let fresh = c.refresh_below.ensures.refreshed None tree.tree tree.held.entries (c.root-top.ensures ∙ tree.starts) in
     record {
       others = λ s t other shown apart h.

@@ -1,25 +1,24 @@
 use Rattle.std.proofs.Common.{◌∙◌, ◌∷◌, ◌++◌, Bool, sym, subst, None}
-use Rattle.ic_unsafe_ref.specs.declared.place.Place.{Place}
-use Rattle.ic_link_ops.specs.Sequences.{IsAbsent, IsDisjoint}
+use Rattle.ic_link_ops.specs.Prelude.{Place, IsAbsent, IsDisjoint}
 use Rattle.ic_link_ops.proofs.SequenceLemmas.{absent_right, absent_without, disjoint_remove, disjoint_right, disjoint_sym}
-use Rattle.ic_link_ops.proofs.ShownTrees.{holds_out, one_sequence, shows_frame}
+use Rattle.ic_link_ops.proofs.RepresentedTrees.{holds_out, one_sequence, represents_frame}
 use Rattle.ic_augmented.specs.Beside.{IsWrittenIn, IsSameBeside}
 use Rattle.ic_augmented.proofs.BesideLemmas.{written_among, absent_out}
 use Rattle.ic_augmented.proofs.ChangeLemmas.{member_out}
 use Rattle.ic_augmented.proofs.ConsistencyLemmas.{invalidated_same, same_on}
-use Rattle.ic_augmented.proofs.EditLemmas.{all_fresh, unchanged, unlink_closed, unlinked, unlinked_absent, unlinked_edge, without_member, refreshed, others_consistent, invalidated_shows, invalidated_summed}
+use Rattle.ic_augmented.proofs.EditLemmas.{all_fresh, unchanged, unlink_closed, unlinked, unlinked_absent, unlinked_edge, without_member, refreshed, others_consistent, invalidated_represents, invalidated_summed}
 use Rattle.ic_augmented.proofs.FenceLemmas.{members_are}
 use Rattle.ic_augmented.proofs.edits.unlink_fresh.Goals as goal
 
 pub unlink_marking-edge-requires : goal.unlink_marking-edge-requires
 unlink_marking-edge-requires g c =
     let m = c.requires.member in
-    let x = unlink_closed g.N.Nodes.node _ _ m.front c.args.place m.back m.shown in
+    let x = unlink_closed g.N.NodeStore.node _ _ m.front c.args.place m.back m.shown in
     record { closed = x.0; inside = x.1 }
 
 pub settle_without-requires-clause-member : goal.settle_without-requires-clause-member
 settle_without-requires-clause-member g c =
-    let n = g.N.Nodes.node in
+    let n = g.N.NodeStore.node in
     let p = c.args.place in
     let m = c.requires.member in
     (_, m.front ++ m.back, (unlinked n _ _ _ _ m.front p m.back c.unlink_marking-edge.ensures.taken m.shown (unchanged n _ p)).shows, unlinked_edge n _ _ _ m.front p m.back m.shown c.unlink_marking-edge.ensures.inside)
@@ -30,7 +29,7 @@ settle_without-requires-clause-covered g c q is = c.unlink_marking-edge.ensures.
 pub refresh_below-requires-clause-tree : goal.refresh_below-requires-clause-tree
 refresh_below-requires-clause-tree g c =
     let m = c.requires.member in
-    let h = (unlinked g.N.Nodes.node _ _ _ _ m.front c.args.place m.back c.unlink_marking-edge.ensures.taken m.shown (unchanged g.N.Nodes.node _ c.args.place)).shows in
+    let h = (unlinked g.N.NodeStore.node _ _ _ _ m.front c.args.place m.back c.unlink_marking-edge.ensures.taken m.shown (unchanged g.N.NodeStore.node _ c.args.place)).shows in
     (None, h.tree, h.held.entries, c.root-top.ensures ∙ h.starts)
 
 pub refresh_below-requires-clause-covered : goal.refresh_below-requires-clause-covered
@@ -39,9 +38,9 @@ refresh_below-requires-clause-covered g c q is =
 
 pub returns-clause-fresh : goal.returns-clause-fresh
 returns-clause-fresh g c front back h =
-    let n = g.N.Nodes.node in
+    let n = g.N.NodeStore.node in
     let p = c.args.place in
-    let w = g.N.Nodes.table c.unlink_marking-edge.new.summed.links in
+    let w = g.N.NodeStore.table c.unlink_marking-edge.new.summed.links in
     let taken = c.unlink_marking-edge.ensures.taken in
     let shown = (unlinked n _ _ _ _ front p back taken h.0 (unchanged n _ p)).shows in
     let but = c.unlink_marking-edge.ensures.consistent (front ++ p ∷ back) h.1 in
@@ -54,7 +53,7 @@ returns-clause-fresh g c front back h =
 
 pub returns-clause-beside : goal.returns-clause-beside
 returns-clause-beside g c =
-    let n = g.N.Nodes.node in
+    let n = g.N.NodeStore.node in
     let p = c.args.place in
     let m = c.requires.member in
     let z0 = g.M.Sums.sums c.args.summed.now.sums in
@@ -69,11 +68,11 @@ returns-clause-beside g c =
       others = λ s t other shown apart h.
           let from : IsDisjoint t (m.front ++ p ∷ m.back) = subst (IsDisjoint t) (one_sequence shown m.shown) apart in
           let both = disjoint_remove m.front m.back t p (disjoint_sym t (m.front ++ p ∷ m.back) from) in
-          let still = shows_frame h.0 from r.frame in
+          let still = represents_frame h.0 from r.frame in
           let out = (disjoint_sym t (p ∷ m.back) (disjoint_right t m.front (p ∷ m.back) from)).0 in
           let right = c.settle_without.ensures.others _ other (m.front ++ m.back) t r.shows edge still both out (c.unlink_marking-edge.ensures.consistent t h.1) in
           let renewed = others_consistent n _ _ _ other t fresh.join (λ q k. fresh.frame q (holds_out r.shows.held q (member_out q (m.front ++ m.back) t both k))) (still, right) in
-          invalidated_shows n _ _ _ other t p out c.invalidate.ensures.invalidated renewed;
+          invalidated_represents n _ _ _ other t p out c.invalidate.ensures.invalidated renewed;
       same = λ s shown within q absent.
           let out = absent_out q s absent in
           let written = written_among z0 s within in

@@ -4,4 +4,4 @@ use Rattle.ic_augmented.proofs.FenceLemmas.{members_of}
 use Rattle.ic_augmented.proofs.edits.unlink_fresh.Given as goal
 
 abbrev pub ghosts-unlink_marking : goal.ghosts-unlink_marking
-ghosts-unlink_marking g a = record { inside = members_of g.N.Nodes.node (g.N.Nodes.table (links_of a.summed.now)) (root_in g.E.TreeHead.kept a.tree.now) }
+ghosts-unlink_marking g a = record { inside = members_of g.N.NodeStore.node (g.N.NodeStore.table (links_of a.summed.now)) (root_in g.E.TreeHead.kept a.tree.now) }

@@ -1,17 +1,14 @@
 use Rattle.std.proofs.Common.{◌<◌, ◌∙◌, ap, refl, sym, subst, List}
-use Rattle.ic_unsafe_ref.specs.declared.place.Place.{Place}
-use Rattle.ic_unsafe_ref.specs.Places.{index_of}
-use Rattle.ic_link_ops.specs.Sequences.{join}
-use Rattle.ic_link_ops.specs.RedBlackTree.{Shows}
-use Rattle.ic_link_ops.specs.Tables.{Table, Extent}
+use Rattle.ic_link_ops.specs.Prelude.{Place, index_of, join, Table, Extent}
+use Rattle.ic_link_ops.specs.RedBlackTree.{Represents}
 use Rattle.ic_link_ops.proofs.SequenceLemmas.{disjoint_cons}
-use Rattle.ic_link_ops.proofs.ShownTrees.{free_absent}
+use Rattle.ic_link_ops.proofs.RepresentedTrees.{free_absent}
 use Rattle.ic_rbtree.specs.Kept.{alone, root_kept}
-use Rattle.ic_rbtree.proofs.InOrder.{ended_in_order, still_shown, fits_safe, fitted, own_is}
+use Rattle.ic_rbtree.proofs.InOrder.{ended_in_order, still_represented, fits_safe, fitted, own_is}
 use Rattle.ic_rbtree.proofs.KeptHeads.{shown}
 use Rattle.ic_rbtree.proofs.PlacedMembers.{members_placed}
-use Rattle.ic_augmented.specs.Consistent.{ShowsConsistent}
-use Rattle.ic_augmented.proofs.EditLemmas.{free_member, acquired_consistent, beside_shows, own_searched, inserts_fresh}
+use Rattle.ic_augmented.specs.Consistent.{RepresentsConsistent}
+use Rattle.ic_augmented.proofs.EditLemmas.{free_member, acquired_consistent, beside_represents, own_searched, inserts_fresh}
 use Rattle.ic_augmented.proofs.fresh.insert_fresh.Goals as goal
 
 pub descend-hole-requires-clause-placed : goal.descend-hole-requires-clause-placed
@@ -21,7 +18,7 @@ descend-hole-requires-clause-placed g c =
     let r = c.requires.shown in
     let l = g.met.L.LinkOps.does_replay _ _ _ c.if-not-acquire_link.ensures.acquired in
     members_placed g.L.RBTreeOps.node g.L.LinkOps.table g.L.Values.values alike g.met.L.LinkOps.linked_is_covered g.met.L.LinkValues.covered_has_value c.acquire_link.new.self
-    (r.0, still_shown n g.L.LinkOps.linked alike l.was l.is c.acquire_link.ensures.frame r.1)
+    (r.0, still_represented n g.L.LinkOps.linked alike l.was l.is c.acquire_link.ensures.frame r.1)
 
 pub attach_fresh-requires-clause-safe : goal.attach_fresh-requires-clause-safe
 attach_fresh-requires-clause-safe g c =
@@ -29,7 +26,7 @@ attach_fresh-requires-clause-safe g c =
     let alike = g.met.L.RBTreeOps.linked_alike in
     let r = c.requires.shown in
     let l = g.met.L.LinkOps.does_replay _ _ _ c.if-not-acquire_link.ensures.acquired in
-    let there = still_shown n g.L.LinkOps.linked alike l.was l.is c.acquire_link.ensures.frame r.1 in
+    let there = still_represented n g.L.LinkOps.linked alike l.was l.is c.acquire_link.ensures.frame r.1 in
     fits_safe n g.L.LinkOps.linked alike l.was l.is c.acquire_link.ensures.frame r.1 (ended_in_order n there (c.descend-hole.ensures.ends r.0 there) c.get.ensures)
 
 pub attach_fresh-requires-clause-hole : goal.attach_fresh-requires-clause-hole
@@ -38,9 +35,9 @@ attach_fresh-requires-clause-hole g c =
     let alike = g.met.L.RBTreeOps.linked_alike in
     let r = c.requires.shown in
     let l = g.met.L.LinkOps.does_replay _ _ _ c.if-not-acquire_link.ensures.acquired in
-    let there = still_shown n g.L.LinkOps.linked alike l.was l.is c.acquire_link.ensures.frame r.1 in
+    let there = still_represented n g.L.LinkOps.linked alike l.was l.is c.acquire_link.ensures.frame r.1 in
     let x = ended_in_order n there (c.descend-hole.ensures.ends r.0 there) c.get.ensures in
-    (x.gap, alike _ ∙ l.is, free_member n _ _ r.0 (join x.gap) c.place-place.result x.same r.1 (alike _ ∙ l.was), subst (λ (s : List Place). Shows n (g.L.LinkOps.table c.acquire_link.new.self) (root_kept (g.E.TreeHead.kept c.args.tree.now.head)) s) (sym x.same) there, x.hole)
+    (x.gap, alike _ ∙ l.is, free_member n _ _ r.0 (join x.gap) c.place-place.result x.same r.1 (alike _ ∙ l.was), subst (λ (s : List Place). Represents n (g.L.LinkOps.table c.acquire_link.new.self) (root_kept (g.E.TreeHead.kept c.args.tree.now.head)) s) (sym x.same) there, x.hole)
 
 pub attach_fresh-requires-clause-covered : goal.attach_fresh-requires-clause-covered
 attach_fresh-requires-clause-covered g c q is =
@@ -54,7 +51,7 @@ returns-clause-inserted g c s was =
     let alike = g.met.L.RBTreeOps.linked_alike in
     let l = g.met.L.LinkOps.does_replay _ _ _ c.if-not-acquire_link.ensures.acquired in
     let values = g.L.Values.values c.acquire_link.new.self in
-    let there = still_shown n g.L.LinkOps.linked alike l.was l.is c.acquire_link.ensures.frame was.0 in
+    let there = still_represented n g.L.LinkOps.linked alike l.was l.is c.acquire_link.ensures.frame was.0 in
     let x = ended_in_order n there (c.descend-hole.ensures.ends s there) c.get.ensures in
     let free = alike _ ∙ l.was in
     let fresh = c.attach_fresh.ensures.fresh x.gap (alike _ ∙ l.is) (free_member n _ _ s (join x.gap) c.place-place.result x.same was.0 free)
@@ -64,7 +61,7 @@ returns-clause-inserted g c s was =
     (c.new-probe.ensures.key ∙ (c.get_key.ensures ∙ ap (λ z. g.A.KeyAdapter.key_of z c.value.result.now) c.adapter-adapter.ensures)) refl c.value.ensures)
     (inserts_fresh n _ _ _ _ s c.place-place.result x.gap fresh
     (fitted n g.L.LinkOps.linked alike l.was l.is c.acquire_link.ensures.frame alone (root_kept (kept c.args.tree.now.head)) (root_kept (kept c.attach_fresh.new.tree.head)) was.0 x
-    c.attach_fresh.ensures.attached (λ gap below distinct told. tt)))
+    c.attach_fresh.ensures.attached (λ gap below distinct printed. tt)))
 
 pub returns-clause-kept : goal.returns-clause-kept
 returns-clause-kept g c s h =
@@ -73,7 +70,7 @@ returns-clause-kept g c s h =
     let alike = g.met.L.RBTreeOps.linked_alike in
     let l = g.met.L.LinkOps.does_replay _ _ _ c.if-not-acquire_link.ensures.acquired in
     let values = g.L.Values.values c.acquire_link.new.self in
-    let there = still_shown n g.L.LinkOps.linked alike l.was l.is c.acquire_link.ensures.frame (shown (kept c.args.tree.now.head) h) in
+    let there = still_represented n g.L.LinkOps.linked alike l.was l.is c.acquire_link.ensures.frame (shown (kept c.args.tree.now.head) h) in
     let x = ended_in_order n there (c.descend-hole.ensures.ends s there) c.get.ensures in
     own_searched g.A.Key.Ord.cmp (g.A.KeyAdapter.key_of c.args.tree.now.adapter) c.place-place.ensures (g.met.L.LinkValues.values_stay _ _ c.acquire_link.ensures.frame.extent)
     (own_is g.A.Key.Ord.cmp g.A.KeyAdapter.key_of values (c.new-probe.ensures.adapter ∙ c.adapter-adapter.ensures)
@@ -90,8 +87,8 @@ returns-clause-beside g c =
     record {
       others = λ s t other was apart h.
           let absent = free_absent h.0 (alike _ ∙ l.was) in
-          kept.others s t other (still_shown n g.L.LinkOps.linked alike l.was l.is only was) (disjoint_cons c.place-place.result t s absent apart) (beside_shows n _ _ _ other t c.place-place.result absent only h);
-      same = λ s was within q absent. kept.same s (still_shown n g.L.LinkOps.linked alike l.was l.is only was) (rw c.place-place.ensures within) q (rw c.place-place.ensures absent);
+          kept.others s t other (still_represented n g.L.LinkOps.linked alike l.was l.is only was) (disjoint_cons c.place-place.result t s absent apart) (beside_represents n _ _ _ other t c.place-place.result absent only h);
+      same = λ s was within q absent. kept.same s (still_represented n g.L.LinkOps.linked alike l.was l.is only was) (rw c.place-place.ensures within) q (rw c.place-place.ensures absent);
       join = kept.join;
       covers = kept.covers;
       extent = kept.extent ∙ only.extent;
@@ -103,7 +100,7 @@ returns-then-not-acquire_link-clause-beside g c =
     let stays = g.met.L.LinkOps.refused_keeps _ _ _ c.if-not-acquire_link.ensures.refused in
     record {
       others = λ s t other was apart h.
-          subst (λ (v : Table g.row.L-Entry.Denot). ShowsConsistent g.L.RBTreeOps.node (g.M.Sums.sums c.args.summed.now.sums) v other t) (sym stays) h;
+          subst (λ (v : Table g.row.L-Entry.Denot). RepresentsConsistent g.L.RBTreeOps.node (g.M.Sums.sums c.args.summed.now.sums) v other t) (sym stays) h;
       same = λ s was within q absent. record { fresh = refl; upper = refl };
       join = refl;
       covers = λ q h. h;

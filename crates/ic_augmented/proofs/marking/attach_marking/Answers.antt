@@ -8,8 +8,8 @@ attach_inside-requires-clause-closed g c = rw c.new-marking.ensures.borrows.1 c.
 
 pub returns-clause-consistent : goal.returns-clause-consistent
 returns-clause-consistent g c s h =
-    let n = g.N.Nodes.node in
-    let start : IsConsistentBut n (g.N.Nodes.table (links_in c.new-marking.result)) (g.M.Sums.sums (sums_in c.new-marking.result)) s (edge_in c.new-marking.result)
+    let n = g.N.NodeStore.node in
+    let start : IsConsistentBut n (g.N.NodeStore.table (links_in c.new-marking.result)) (g.M.Sums.sums (sums_in c.new-marking.result)) s (edge_in c.new-marking.result)
     = rw (c.new-marking.ensures.borrows.1, c.new-marking.ensures.edge) h in
-    let done = c.attach_inside.ensures.quiet.consistent s start in
+    let done = c.attach_inside.ensures.keeps_links.consistent s start in
     search rules

@@ -8,8 +8,8 @@ unlink_inside-requires-clause-closed g c = rw c.new-marked.ensures.borrows.1 c.r
 
 pub returns-clause-consistent : goal.returns-clause-consistent
 returns-clause-consistent g c s h =
-    let n = g.N.Nodes.node in
-    let start : IsConsistentBut n (g.N.Nodes.table (links_in c.new-marked.result)) (g.M.Sums.sums (sums_in c.new-marked.result)) s (edge_in c.new-marked.result)
+    let n = g.N.NodeStore.node in
+    let start : IsConsistentBut n (g.N.NodeStore.table (links_in c.new-marked.result)) (g.M.Sums.sums (sums_in c.new-marked.result)) s (edge_in c.new-marked.result)
     = rw (c.new-marked.ensures.borrows.1, c.new-marked.ensures.edge) h in
-    let done = c.unlink_inside.ensures.quiet.consistent s start in
+    let done = c.unlink_inside.ensures.keeps_links.consistent s start in
     search rules

@@ -3,22 +3,22 @@ use Rattle.ic_link_ops.specs.Frames.{after}
 use Rattle.ic_link_ops.specs.PlacedObjects.{ArePlaced}
 use Rattle.ic_link_ops.specs.Trees.{fork, in_order}
 use Rattle.ic_augmented.specs.Intervals.{start_in}
-use Rattle.ic_augmented.proofs.OverlapLemmas.{placed_left, placed_right, next_below, next_behind}
+use Rattle.ic_augmented.proofs.OverlapLemmas.{placed_left, placed_right, next_below, next_after}
 use Rattle.ic_augmented.proofs.SubtreeLemmas.{member_subtree, subtree_linked}
 use Rattle.ic_augmented.proofs.overlaps.next_overlap.Goals as goal
 
 pub right-right-requires : goal.right-right-requires
 right-right-requires g c =
-    let n = g.N.Nodes.node in
-    let v = g.N.Nodes.table c.args.summed.now.links in
+    let n = g.N.NodeStore.node in
+    let v = g.N.NodeStore.table c.args.summed.now.links in
     let r = c.requires in
     let x = member_subtree n v r.0 r.1 c.args.place r.2 r.3 in
     record { linked = subtree_linked n v x.fs (fork x.c x.a c.args.place x.b) c.args.place x.subtree refl }
 
 pub first_overlap_below-requires : goal.first_overlap_below-requires
 first_overlap_below-requires g c =
-    let n = g.N.Nodes.node in
-    let v = g.N.Nodes.table c.args.summed.now.links in
+    let n = g.N.NodeStore.node in
+    let v = g.N.NodeStore.table c.args.summed.now.links in
     let r = c.requires in
     let x = member_subtree n v r.0 r.1 c.args.place r.2 r.3 in
     let objects = g.O.Values.values c.args.starts.now in
@@ -27,13 +27,13 @@ first_overlap_below-requires g c =
 
 pub returns-then-from-total : goal.returns-then-from-total
 returns-then-from-total g c root front back h sorted =
-    next_below g.N.Nodes.node (g.N.Nodes.table c.args.summed.now.links) (start_in (g.O.Values.values c.args.starts.now)) c.args.summed.now.sums.cells.items c.args.from c.args.to root front c.args.place back
+    next_below g.N.NodeStore.node (g.N.NodeStore.table c.args.summed.now.links) (start_in (g.O.Values.values c.args.starts.now)) c.args.summed.now.sums.cells.items c.args.from c.args.to root front c.args.place back
     c.right-right.result c.total.result c.first_overlap_below.result c.right-right.ensures c.total.ensures c.if-from-total.true c.first_overlap_below.ensures h sorted
 
-pub first_overlap_behind-requires : goal.first_overlap_behind-requires
-first_overlap_behind-requires g c =
-    let n = g.N.Nodes.node in
-    let v = g.N.Nodes.table c.args.summed.now.links in
+pub first_overlap_after-requires : goal.first_overlap_after-requires
+first_overlap_after-requires g c =
+    let n = g.N.NodeStore.node in
+    let v = g.N.NodeStore.table c.args.summed.now.links in
     let r = c.requires in
     let x = member_subtree n v r.0 r.1 c.args.place r.2 r.3 in
     let objects = g.O.Values.values c.args.starts.now in
@@ -42,5 +42,5 @@ first_overlap_behind-requires g c =
 
 pub returns : goal.returns
 returns g c root front back h sorted =
-    next_behind g.N.Nodes.node (g.N.Nodes.table c.args.summed.now.links) (start_in (g.O.Values.values c.args.starts.now)) c.args.summed.now.sums.cells.items c.args.from c.args.to root front c.args.place back
-    c.right-right.result c.total.result c.first_overlap_behind.result c.right-right.ensures c.total.ensures c.if-from-total.false c.first_overlap_behind.ensures h sorted
+    next_after g.N.NodeStore.node (g.N.NodeStore.table c.args.summed.now.links) (start_in (g.O.Values.values c.args.starts.now)) c.args.summed.now.sums.cells.items c.args.from c.args.to root front c.args.place back
+    c.right-right.result c.total.result c.first_overlap_after.result c.right-right.ensures c.total.ensures c.if-from-total.false c.first_overlap_after.ensures h sorted

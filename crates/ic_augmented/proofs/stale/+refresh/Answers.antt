@@ -21,11 +21,11 @@ refresh_at-returns-clause-refreshed g t c u tree h e =
 pub renew-refresh_below-below_right-requires : goal.renew-refresh_below-below_right-requires
 renew-refresh_below-below_right-requires g t c κs within =
     let r = c.requires.tree in
-    let right = tree_right g.N.Nodes.node (g.N.Nodes.table c.args.links.now) r.0 c.args.here r.1 c.right-right.result r.2 r.3 c.right-right.ensures in
+    let right = tree_right g.N.NodeStore.node (g.N.NodeStore.table c.args.links.now) r.0 c.args.here r.1 c.right-right.result r.2 r.3 c.right-right.ensures in
     search rules
 
 pub renew-returns-clause-refreshed : goal.renew-returns-clause-refreshed
 renew-returns-clause-refreshed g t c u tree h e =
-    refreshes_joined g.N.Nodes.node (g.N.Nodes.table c.args.links.now) _ _ _ _ c.args.upper u c.args.here tree _ _ _ _ c.args.turns h e
+    refreshes_joined g.N.NodeStore.node (g.N.NodeStore.table c.args.links.now) _ _ _ _ c.args.upper u c.args.here tree _ _ _ _ c.args.turns h e
     c.left-left.ensures c.right-right.ensures c.refresh_below-below_left.ensures.refreshed c.refresh_below-below_right.ensures.refreshed
     c.refresh_below-below_left.ensures.summary c.refresh_below-below_right.ensures.summary c.write.ensures.written

@@ -15,8 +15,8 @@ returns-then-not-is_fresh-clause-writable g c = inl (stale_none _ (sym c.is_fres
 
 pub returns-in_default-clause-edge : goal.returns-in_default-clause-edge
 returns-in_default-clause-edge g c =
-    let n = g.N.Nodes.node in
-    let v = g.N.Nodes.table c.args.links.now in
+    let n = g.N.NodeStore.node in
+    let v = g.N.NodeStore.table c.args.links.now in
     let z = g.M.Sums.sums c.args.sums.now in
     record {
       consistent = λ s h. invalidated_starts n v z s (Some c.args.place) (invalidated_none n v z s c.args.edge c.in_default.is h);
@@ -26,8 +26,8 @@ returns-in_default-clause-edge g c =
 
 pub returns-clause-edge : goal.returns-clause-edge
 returns-clause-edge g c =
-    let n = g.N.Nodes.node in
-    let v = g.N.Nodes.table c.args.links.now in
+    let n = g.N.NodeStore.node in
+    let v = g.N.NodeStore.table c.args.links.now in
     let z = g.M.Sums.sums c.args.sums.now in
     record {
       consistent = λ s h. c.invalidate_up_to.ensures.edge.consistent s (subst (λ (o : Option Place). IsConsistentBut n v z s o) c.in-Some.is h);

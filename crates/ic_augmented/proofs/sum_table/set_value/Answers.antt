@@ -3,7 +3,7 @@ use Rattle.ic_unsafe_ref.specs.declared.place.Place.{Place}
 use Rattle.ic_link_ops.specs.Times.{times_in}
 use Rattle.ic_link_ops.proofs.Times.{absent_times}
 use Rattle.ic_link_ops.proofs.EntryLemmas.{others_same}
-use Rattle.ic_rbtree.proofs.ShownClosed.{among}
+use Rattle.ic_rbtree.proofs.RepresentedClosed.{among}
 use Rattle.ic_augmented.specs.declared.sum_table.Cell.{Cell}
 use Rattle.ic_augmented.specs.SumTables.{blank, joined_in}
 use Rattle.ic_augmented.proofs.BesideLemmas.{written_among, times_among, absent_out}
@@ -18,7 +18,7 @@ returns-clause-values g c q other =
 pub returns-clause-consistent : goal.returns-clause-consistent
 returns-clause-consistent g c s h =
     value_set g.V.Joins.join g.V.Joins.initial c.invalidate_up.new.sums.cells.items c.args.place c.index_mut-cell.result.now _ _ c.index.result c.index.ensures.value (c.invalidate_up.ensures.covers c.args.place c.requires.covered) c.index_mut-cell.ensures.value
-    g.N.Nodes.node (g.N.Nodes.table c.args.summed.now.links) s refl refl c.invalidate_up.ensures.stale (c.invalidate_up.ensures.consistent.consistent s h)
+    g.N.NodeStore.node (g.N.NodeStore.table c.args.summed.now.links) s refl refl c.invalidate_up.ensures.stale (c.invalidate_up.ensures.consistent.consistent s h)
 
 pub returns-clause-same : goal.returns-clause-same
 returns-clause-same g c s member within q absent =

@@ -1,7 +1,6 @@
 use Rattle.std.proofs.Common.{[], ◌∷◌, ◌∙◌}
 use Rattle.ic_link_ops.proofs.Covering.{frames_join}
-use Rattle.ic_link_ops.specs.Sequences.{insert, at_back}
-use Rattle.ic_link_ops.specs.LinkSteps.{releases}
+use Rattle.ic_link_ops.specs.Prelude.{insert, at_back, releases}
 use Rattle.ic_link_ops.proofs.SequenceLemmas.{last_of_push, but_last_of_push, absent_both}
 use Rattle.ic_link_ops.proofs.LinkedSets.{unlinked_again}
 use Rattle.ic_chain.proofs.laws.push_then_pop.Goals as goal

@@ -14,7 +14,7 @@ returns-clause-apart g c old split handed stands splits =
       rest = gap.back;
       shown = rw (append-nil gap.front) parts.keeps;
       after = splits.position ∙ stands.after;
-      other_shown = parts.hands_out;
+      other_represented = parts.hands_out;
       apart = rw (append-nil gap.front) (disjoint_sym gap.front gap.back (distinct_disjoint gap.front gap.back stands.shown.distinct));
     }
 
@@ -24,8 +24,8 @@ returns-clause-as_it_was g c old split new handed stands splits splices =
     let whole = laws.split_then_splice kind stands.gap stands.shown stands.after splits.split
     (λ gap s kept after given apart. splices.spliced gap s kept (splits.position ∙ after) given apart) in
     record {
-      sequence = λ s shown. rw (← laws.one_sequence_is_shown kind stands.shown shown) whole.0;
-      frame = λ s shown. rw (← laws.one_sequence_is_shown kind stands.shown shown) whole.1;
+      sequence = λ s shown. rw (← laws.one_sequence_is_represented kind stands.shown shown) whole.0;
+      frame = λ s shown. rw (← laws.one_sequence_is_represented kind stands.shown shown) whole.1;
       position = splices.position ∙ splits.position;
-      no_step = g.met.L.LinkOps.does_on _ _ _ _ _ splits.no_step splices.no_step;
+      trace_stays = g.met.L.LinkOps.does_on _ _ _ _ _ splits.trace_stays splices.trace_stays;
     }

@@ -1,6 +1,5 @@
 use Rattle.std.proofs.Common.{◌≡◌, Some, None, List, length}
-use Rattle.ic_unsafe_ref.specs.declared.place.Place.{Place}
-use Rattle.ic_link_ops.specs.Sequences.{last}
+use Rattle.ic_link_ops.specs.Prelude.{Place, last}
 use Rattle.ic_link_ops.specs.Chains.{IsStretch}
 use Rattle.ic_link_ops.specs.Walk.{walked}
 use Rattle.ic_chain.proofs.neighbors.last_from.Given as goal

@@ -1,7 +1,6 @@
 use Rattle.std.proofs.Common.{◌≡◌, ℕ, List, true, false, length, slice_index_or, refl, sym, ap, ◌∙◌, subst, arith}
-use Rattle.ic_unsafe_ref.specs.declared.place.Place.{Place}
-use Rattle.ic_link_ops.specs.Sequences.{at_front}
-use Rattle.ic_link_ops.proofs.ShownTrees.{one_sequence}
+use Rattle.ic_link_ops.specs.Prelude.{Place, at_front}
+use Rattle.ic_link_ops.proofs.RepresentedTrees.{one_sequence}
 use Rattle.ic_check.specs.WholeTables.{AreUnmarked, MarksAlso}
 use Rattle.ic_check.proofs.Marking.{here, marks_none, marks_met, marks_more, marks_all}
 use Rattle.ic_check.proofs.TreeWalks.{safe_null, member_linked, member_safe, member_next, member_marks}

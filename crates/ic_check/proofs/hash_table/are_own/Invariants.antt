@@ -1,16 +1,16 @@
 use Rattle.std.proofs.Common.{List, length}
 use Rattle.ic_unsafe_ref.specs.declared.place.Place.{Place}
 use Rattle.ic_link_ops.specs.SinglyLinkedList.{IsFollowed, members_from}
-use Rattle.ic_hash_table.specs.Chains.{ShowsFrom}
+use Rattle.ic_hash_table.specs.Chains.{RepresentsFrom}
 use Rattle.ic_hash_table.specs.HashTable.{number}
 use Rattle.ic_check.specs.HashTables.{IsPlacedIn}
 use Rattle.ic_check.proofs.HashTables.{Owns}
 use Rattle.ic_check.proofs.hash_table.are_own.Given as goal
 
--- whichever sequence is shown, the members before `current` are own ones
+-- whichever sequence is represented, the members before `current` are own ones
 abbrev pub invariant-loop-current : goal.invariant-loop-current
 invariant-loop-current g l = record {
-  owns : (s : List Place) → ShowsFrom g.L.SinglyLinkedListOps.successor (g.L.LinkOps.table l.links) l.fn.front s
+  owns : (s : List Place) → RepresentsFrom g.L.SinglyLinkedListOps.successor (g.L.LinkOps.table l.links) l.fn.front s
       → Owns (IsFollowed g.L.SinglyLinkedListOps.successor) (IsPlacedIn l.table.slots (number g.A.HashAdapter.key_of g.A.HashAdapter.hash_of l.table.adapter) (g.O.Values.values l.objects) l.at) (g.L.LinkOps.table l.links) s l.current;
 }
 

@@ -35,7 +35,7 @@ loop-current-preserved g c =
 pub returns-then-ends_with : goal.returns-then-ends_with
 returns-then-ends_with g c =
     let k = c.loop-current.invariant in
-    let all = checks_all (next_of g.K.ForwardLinks.step) (leads_on g.met.K.NamesItsNext.tells_behind g.met.K.ForwardLinks.leads) k c.in_default.is in
+    let all = checks_all (next_of g.K.ForwardLinks.step) (leads_on g.met.K.NamesItsNext.tells_after g.met.K.ForwardLinks.leads) k c.in_default.is in
     (k.done, record { distinct = all.0; chain = all.1; head = all.2; tail = c.ends_with.ensures.0 c.if-ends_with.true ∙ ap g.K.ListKind.kept k.ends }, sym k.counted)
 
 pub returns-else-ends_with : goal.returns-else-ends_with

@@ -1,7 +1,6 @@
 use Rattle.std.proofs.Common.{List}
-use Rattle.ic_unsafe_ref.specs.declared.place.Place.{Place}
-use Rattle.ic_link_ops.specs.PlacedObjects.{values_at}
-use Rattle.ic_link_ops.specs.RedBlackTree.{Shows}
+use Rattle.ic_link_ops.specs.Prelude.{Place, values_at}
+use Rattle.ic_link_ops.specs.RedBlackTree.{Represents}
 use Rattle.ic_rbtree.specs.Iter.{objects_left}
 use Rattle.ic_rbtree.specs.Tree.{root_of, adapter_of}
 use Rattle.ic_check.proofs.SortedTrees.{GoesOn}
@@ -12,5 +11,5 @@ invariant-loop-value g l =
     let i = goal.iterator-loop-value g in
     let left = objects_left g.L.RBTreeOps.node g.L.LinkOps.table g.O.Values.values in
     i.can_next l.walk × i.is_finite l.walk × i.can_next l.behind × i.is_finite l.behind
-    × ((s : List Place) → Shows g.L.RBTreeOps.node (g.L.LinkOps.table l.links) (root_of l.tree) s
+    × ((s : List Place) → Represents g.L.RBTreeOps.node (g.L.LinkOps.table l.links) (root_of l.tree) s
     → GoesOn g.A.Key.Ord.cmp (g.A.KeyAdapter.key_of (adapter_of l.tree)) (values_at (g.O.Values.values l.objects) s) (left l.behind) (left l.walk))

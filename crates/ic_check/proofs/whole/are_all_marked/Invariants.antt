@@ -1,7 +1,5 @@
 use Rattle.std.proofs.Common.{◌≡◌, ◌<◌, true}
-use Rattle.ic_unsafe_ref.specs.declared.place.Place.{Place}
-use Rattle.ic_unsafe_ref.specs.Places.{index_of}
-use Rattle.ic_link_ops.specs.Tables.{IsLinked}
+use Rattle.ic_link_ops.specs.Prelude.{Place, index_of, IsLinked}
 use Rattle.ic_check.specs.WholeTables.{is_marked}
 use Rattle.ic_check.proofs.whole.are_all_marked.Given as goal
 

@@ -1,8 +1,6 @@
 use Rattle.std.proofs.Common.{List, sym, subst}
-use Rattle.ic_unsafe_ref.specs.declared.place.Place.{Place}
-use Rattle.ic_link_ops.specs.Sequences.{IsMember}
-use Rattle.ic_link_ops.specs.Tables.{IsLinked}
-use Rattle.ic_check.specs.WholeTables.{ShowsAll}
+use Rattle.ic_link_ops.specs.Prelude.{Place, IsMember, IsLinked}
+use Rattle.ic_check.specs.WholeTables.{RepresentsAll}
 use Rattle.ic_check.proofs.Marking.{unmarked_all, each_one, only_members, not_only, only_linked, left_marked}
 use Rattle.ic_check.proofs.whole.check_all.Goals as goal
 
@@ -25,7 +23,7 @@ returns-then-are_all_marked-clause-shown g c =
 pub returns-else-are_all_marked-clause-shown : goal.returns-else-are_all_marked-clause-shown
 returns-else-are_all_marked-clause-shown g c s whole =
     let k = c.in-Some.ensures.gathered in
-    let same = each_one (λ x. g.C.Gather.Shows x (g.L.LinkOps.table c.args.links.now)) (λ x u r h j. g.met.C.Gather.shows_one x _ u r h j) c.args.collections.now k.0 s k.1.each whole.each in
+    let same = each_one (λ x. g.C.Gather.Represents x (g.L.LinkOps.table c.args.links.now)) (λ x u r h j. g.met.C.Gather.represents_one x _ u r h j) c.args.collections.now k.0 s k.1.each whole.each in
     not_only g.L.LinkOps.linked (g.L.LinkOps.table c.args.links.now) c.clear.ensures.cleared k.4
     (λ all. let met = c.are_all_marked.ensures.1 all in cc met)
     (subst (λ (x : List Place). (p : Place) → IsLinked g.L.LinkOps.linked (g.L.LinkOps.table c.args.links.now) p → IsMember p x) (sym same) whole.only)
@@ -43,7 +41,7 @@ pub returns-then-are_all_marked-clause-marked : goal.returns-then-are_all_marked
 returns-then-are_all_marked-clause-marked g c =
     let k = c.in-Some.ensures.gathered in
     left_marked c.clear.ensures.cleared c.clear.ensures.none k.4
-    (ShowsAll (λ x. g.C.Gather.Shows x (g.L.LinkOps.table c.args.links.now)) g.L.LinkOps.linked (g.L.LinkOps.table c.args.links.now) c.args.collections.now)
+    (RepresentsAll (λ x. g.C.Gather.Represents x (g.L.LinkOps.table c.args.links.now)) g.L.LinkOps.linked (g.L.LinkOps.table c.args.links.now) c.args.collections.now)
     (record {
       each = k.1.each;
       distinct = k.1.distinct;

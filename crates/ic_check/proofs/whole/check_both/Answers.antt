@@ -1,10 +1,8 @@
 use Rattle.std.proofs.Common.{◌≡◌, List, ◌++◌, length-append, refl, sym, ap, ◌∙◌, subst, arith}
-use Rattle.ic_unsafe_ref.specs.declared.place.Place.{Place}
-use Rattle.ic_link_ops.specs.Sequences.{IsDistinct, IsDisjoint, IsMember}
-use Rattle.ic_link_ops.specs.Tables.{IsLinked}
+use Rattle.ic_link_ops.specs.Prelude.{Place, IsDistinct, IsDisjoint, IsMember, IsLinked}
 use Rattle.ic_link_ops.proofs.SequenceLemmas.{distinct_left, distinct_right, distinct_disjoint, disjoint_sym}
 use Rattle.ic_link_ops.proofs.Walks.{few_places}
-use Rattle.ic_check.specs.WholeTables.{ShowsBoth}
+use Rattle.ic_check.specs.WholeTables.{RepresentsBoth}
 use Rattle.ic_check.proofs.Marking.{also_on, unmarked_all, unmarked_beside, unmarked_apart, distinct_both, each_one, only_members, not_only, only_linked, only_on, left_marked}
 use Rattle.ic_check.proofs.whole.check_both.Goals as goal
 
@@ -17,7 +15,7 @@ pub returns-in_default-gather_each-clause-shown : goal.returns-in_default-gather
 returns-in_default-gather_each-clause-shown g c s both =
     let k = c.in-Some.ensures.gathered in
     let parts = subst IsDistinct both.parts both.distinct in
-    let same = each_one (λ x. g.C.Gather.Shows x (g.L.LinkOps.table c.args.links.now)) (λ x u r h j. g.met.C.Gather.shows_one x _ u r h j) c.args.first.now k.0 both.front k.1.each both.each in
+    let same = each_one (λ x. g.C.Gather.Represents x (g.L.LinkOps.table c.args.links.now)) (λ x u r h j. g.met.C.Gather.represents_one x _ u r h j) c.args.first.now k.0 both.front k.1.each both.each in
     let apart : IsDisjoint both.back k.0 = subst (IsDisjoint both.back) (sym same) (disjoint_sym both.front both.back (distinct_disjoint both.front both.back parts)) in
     c.in_default-gather_each.ensures.gathered both.back (record { each = both.each_other; distinct = distinct_right both.front both.back parts })
     (unmarked_beside k.4 both.back apart (unmarked_all _ c.clear.ensures.cleared both.back))
@@ -50,8 +48,8 @@ pub returns-else-are_all_marked-clause-shown : goal.returns-else-are_all_marked-
 returns-else-are_all_marked-clause-shown g c s both =
     let k = c.in-Some.ensures.gathered in
     let m = c.in-Some-gather_each.ensures.gathered in
-    let front = each_one (λ x. g.C.Gather.Shows x (g.L.LinkOps.table c.args.links.now)) (λ x u r h j. g.met.C.Gather.shows_one x _ u r h j) c.args.first.now k.0 both.front k.1.each both.each in
-    let back = each_one (λ x. g.D.Gather.Shows x (g.L.LinkOps.table c.args.links.now)) (λ x u r h j. g.met.D.Gather.shows_one x _ u r h j) c.args.second.now m.0 both.back m.1.each both.each_other in
+    let front = each_one (λ x. g.C.Gather.Represents x (g.L.LinkOps.table c.args.links.now)) (λ x u r h j. g.met.C.Gather.represents_one x _ u r h j) c.args.first.now k.0 both.front k.1.each both.each in
+    let back = each_one (λ x. g.D.Gather.Represents x (g.L.LinkOps.table c.args.links.now)) (λ x u r h j. g.met.D.Gather.represents_one x _ u r h j) c.args.second.now m.0 both.back m.1.each both.each_other in
     let same : s ≡ k.0 ++ m.0 = both.parts ∙ ap (λ (x : List Place). x ++ both.back) (sym front) ∙ ap (λ (x : List Place). k.0 ++ x) (sym back) in
     not_only g.L.LinkOps.linked (g.L.LinkOps.table c.args.links.now) c.clear.ensures.cleared (also_on k.4 m.4)
     (λ all. let met = c.are_all_marked.ensures.1 all in cc met)
@@ -74,7 +72,7 @@ returns-then-are_all_marked-clause-marked g c =
     let k = c.in-Some.ensures.gathered in
     let m = c.in-Some-gather_each.ensures.gathered in
     left_marked c.clear.ensures.cleared c.clear.ensures.none (also_on k.4 m.4)
-    (ShowsBoth (λ x. g.C.Gather.Shows x (g.L.LinkOps.table c.args.links.now)) (λ x. g.D.Gather.Shows x (g.L.LinkOps.table c.args.links.now)) g.L.LinkOps.linked (g.L.LinkOps.table c.args.links.now) c.args.first.now c.args.second.now)
+    (RepresentsBoth (λ x. g.C.Gather.Represents x (g.L.LinkOps.table c.args.links.now)) (λ x. g.D.Gather.Represents x (g.L.LinkOps.table c.args.links.now)) g.L.LinkOps.linked (g.L.LinkOps.table c.args.links.now) c.args.first.now c.args.second.now)
     (record {
       front = k.0;
       back = m.0;

@@ -1,10 +1,10 @@
-use Rattle.ic_link_ops.specs.Chains.{ShowsChain}
+use Rattle.ic_link_ops.specs.Chains.{RepresentsChain}
 use Rattle.ic_check.proofs.Marking.{left_gathered, only_linked}
 use Rattle.ic_check.proofs.whole.check_marking.Goals as goal
 
 pub returns-clause-marked : goal.returns-clause-marked
 returns-clause-marked g c =
-    left_gathered (ShowsChain g.K.ForwardLinks.Between g.K.ListKind.kept (g.L.LinkOps.table c.args.links.now) c.args.list.now) c.clear.new.marks c.gather.new.marks c.clear.ensures.cleared c.clear.ensures.none
+    left_gathered (RepresentsChain g.K.ForwardLinks.Between g.K.ListKind.kept (g.L.LinkOps.table c.args.links.now) c.args.list.now) c.clear.new.marks c.gather.new.marks c.clear.ensures.cleared c.clear.ensures.none
     c.gather.result c.gather.ensures.gathered
 
 pub returns-clause-only : goal.returns-clause-only

@@ -1,9 +1,10 @@
-use Rattle.ic_link_ops.specs.LinkedList.{members}
-use Rattle.ic_link_ops.proofs.DoublyLists.{doubly_lists}
-use Rattle.ic_container.proofs.EditLemmas.{moved}
+use Rattle.std.proofs.Common.{[], ◌++◌, sym, append-nil}
+use Rattle.ic_container.proofs.EditLemmas.{moved_linked}
 use Rattle.ic_container.proofs.lists.move_to_back.Goals as goal
 
 pub returns : goal.returns
 returns g c =
-    let e = c.remove.ensures in
-    (e.0, e.1, members g.L.LinkedListOps.neighbors (g.L.LinkOps.table c.remove.new.links) c.remove.new.list, moved (doubly_lists g.met.L.LinkedListOps.linked_alike) e.2 c.push_back.ensures)
+    let e = rw c.new.ensures at c.move_to_back.ensures in
+    let m = c.requires.member in
+    let keeps = g.met.L.LinkOps.does_replay c.args.links.now c.move_to_back.new.links [] e.trace_stays in
+    (m.front, m.back, m.front ++ m.back, moved_linked m (sym (append-nil (m.front ++ m.back))) (e.moved m.front m.back m.shown) keeps e.frame)

@@ -4,12 +4,12 @@ use Rattle.ic_link_ops.specs.SinglyLinkedList.{IsFollowed, members_from}
 use Rattle.ic_hash_table.specs.Searches.{matches}
 use Rattle.ic_hash_table.proofs.ChainWalks.{HasPassed}
 use Rattle.ic_hash_table.proofs.chain_search.find_in_chain.Given as goal
-use Rattle.ic_hash_table.specs.Chains.{ShowsFrom}
+use Rattle.ic_hash_table.specs.Chains.{RepresentsFrom}
 
--- whichever sequence is shown, no member before `current` equals what is searched, and each of these was looked at once
+-- whichever sequence is represented, no member before `current` equals what is searched, and each of these was looked at once
 abbrev pub invariant-loop-current : goal.invariant-loop-current
 invariant-loop-current g l = record {
-  passed : (s : List Place) → ShowsFrom g.L.SinglyLinkedListOps.successor (g.L.LinkOps.table l.fn.links) l.fn.front s
+  passed : (s : List Place) → RepresentsFrom g.L.SinglyLinkedListOps.successor (g.L.LinkOps.table l.fn.links) l.fn.front s
       → (k : HasPassed (IsFollowed g.L.SinglyLinkedListOps.successor) (matches (g.P.Probe.equal l.fn.probe) (g.O.Values.values l.fn.objects)) (g.L.LinkOps.table l.fn.links) s l.before l.current)
       × (g.P.Probe.count l.probe ≡ g.P.Probe.count l.fn.probe + length k.walk.done);
   same : g.P.Probe.equal l.probe ≡ g.P.Probe.equal l.fn.probe;

@@ -4,12 +4,12 @@ use Rattle.ic_link_ops.specs.SinglyLinkedList.{IsFollowed, members_from}
 use Rattle.ic_hash_table.specs.Searches.{is_place}
 use Rattle.ic_hash_table.proofs.ChainWalks.{HasPassed}
 use Rattle.ic_hash_table.proofs.chain_search.find_place_in_chain.Given as goal
-use Rattle.ic_hash_table.specs.Chains.{ShowsFrom}
+use Rattle.ic_hash_table.specs.Chains.{RepresentsFrom}
 
--- whichever sequence is shown, the place is no member before `current`
+-- whichever sequence is represented, the place is no member before `current`
 abbrev pub invariant-loop-current : goal.invariant-loop-current
 invariant-loop-current g l = record {
-  passed : (s : List Place) → ShowsFrom g.L.SinglyLinkedListOps.successor (g.L.LinkOps.table l.fn.links) l.fn.front s
+  passed : (s : List Place) → RepresentsFrom g.L.SinglyLinkedListOps.successor (g.L.LinkOps.table l.fn.links) l.fn.front s
       → HasPassed (IsFollowed g.L.SinglyLinkedListOps.successor) (is_place l.fn.place) (g.L.LinkOps.table l.fn.links) s l.before l.current;
 }
 

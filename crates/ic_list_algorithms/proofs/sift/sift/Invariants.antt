@@ -1,8 +1,6 @@
 use Rattle.std.proofs.Common.{None, IsSome, List, length}
-use Rattle.ic_unsafe_ref.specs.declared.place.Place.{Place}
-use Rattle.ic_unsafe_ref.specs.Objects.{object_at}
-use Rattle.ic_link_ops.specs.Chains.{ShowsChain}
-use Rattle.ic_link_ops.specs.PlacedObjects.{ArePlaced}
+use Rattle.ic_link_ops.specs.Prelude.{Place, object_at, ArePlaced}
+use Rattle.ic_link_ops.specs.Chains.{RepresentsChain}
 use Rattle.ic_link_ops.specs.Walk.{walked}
 use Rattle.ic_list_algorithms.specs.Asked.{AsksBeside}
 use Rattle.ic_list_algorithms.specs.Sifts.{keep_at}
@@ -14,9 +12,9 @@ abbrev pub invariant-loop-current : goal.invariant-loop-current
 invariant-loop-current g l = record {
   ready : g.S.Keeps.ready l.keep;
   obeys : (test : _) → g.S.Keeps.obeys l.fn.keep test → g.S.Keeps.obeys l.keep test;
-  sifts : (s : List Place) (test : _) → ShowsChain g.K.ForwardLinks.Between g.K.ListKind.kept (g.L.LinkOps.table l.fn.links) l.fn.list s
+  sifts : (s : List Place) (test : _) → RepresentsChain g.K.ForwardLinks.Between g.K.ListKind.kept (g.L.LinkOps.table l.fn.links) l.fn.list s
       → ArePlaced (g.O.Values.values l.objects) s
-      → (k : Sifting g.K.ForwardLinks.Between g.K.ListKind.kept g.L.LinkOps.table g.L.LinkOps.Does (λ p. IsSome (object_at (g.O.Values.values l.objects) p))
+      → (k : Sifting g.K.ForwardLinks.Between g.K.ListKind.kept g.L.LinkOps.table g.L.LinkOps.Trace (λ p. IsSome (object_at (g.O.Values.values l.objects) p))
       (g.S.Keeps.obeys l.fn.keep test) (keep_at test (g.O.Values.values l.objects)) l.fn.links l.links l.list s l.prev l.current)
       × AskedSoFar (AsksBeside (g.O.Values.values l.objects) g.S.Keeps.asks) l.fn.keep s k.done k.rest l.prev l.keep;
 }

@@ -16,8 +16,8 @@ loop-current-init g c = record {
       (k.0, (λ lt h. rw k.2 refl), ordered_begins (AsksAfter (g.O.Values.values c.args.objects.now) g.C.Precedes.asks) c.args.order.now s k.0.rest k.2);
 }
 
-pub may_stand_behind-requires : goal.may_stand_behind-requires
-may_stand_behind-requires g c =
+pub may_stand_after-requires : goal.may_stand_after-requires
+may_stand_after-requires g c =
     let p = c.requires.placed in
     let k = c.loop-current.invariant.passed p.members p.shown in
     record {
@@ -37,24 +37,24 @@ loop-current-smaller g c =
     walk_fewer g.K.ForwardLinks.step g.met.K.ForwardLinks.leads (g.L.LinkOps.table c.args.links.now)
     (λ q b a h. g.met.L.LinkOps.linked_is_covered _ q (g.met.K.ForwardLinks.between_linked _ b a h)) c.requires.placed.shown.distinct k.0 c.in-Some.is c.next-current.ensures
 
-pub returns-then-not-may_stand_behind-clause-neighbors : goal.returns-then-not-may_stand_behind-clause-neighbors
-returns-then-not-may_stand_behind-clause-neighbors g c s lt shown h =
+pub returns-then-not-may_stand_after-clause-neighbors : goal.returns-then-not-may_stand_after-clause-neighbors
+returns-then-not-may_stand_after-clause-neighbors g c s lt shown h =
     let k = c.loop-current.invariant.passed s shown in
     order_breaks (less_at lt (g.O.Values.values c.args.objects.now)) c.loop-current.prev (k.1 lt h) (walk_at k.0 c.in-Some.is).0
-    (sym (c.if-not-may_stand_behind.ensures.answer lt (c.loop-current.invariant.obeys lt h)))
+    (sym (c.if-not-may_stand_after.ensures.answer lt (c.loop-current.invariant.obeys lt h)))
 
-pub returns-then-not-may_stand_behind-clause-ordered : goal.returns-then-not-may_stand_behind-clause-ordered
-returns-then-not-may_stand_behind-clause-ordered g c s lt shown law =
+pub returns-then-not-may_stand_after-clause-ordered : goal.returns-then-not-may_stand_after-clause-ordered
+returns-then-not-may_stand_after-clause-ordered g c s lt shown law =
     let k = c.loop-current.invariant.passed s shown in
     tells_order (less_at lt (g.O.Values.values c.args.objects.now)) (places_are_ordered lt (g.O.Values.values c.args.objects.now) law.1) s
     (order_breaks (less_at lt (g.O.Values.values c.args.objects.now)) c.loop-current.prev (k.1 lt law.0) (walk_at k.0 c.in-Some.is).0
-    (sym (c.if-not-may_stand_behind.ensures.answer lt (c.loop-current.invariant.obeys lt law.0))))
+    (sym (c.if-not-may_stand_after.ensures.answer lt (c.loop-current.invariant.obeys lt law.0))))
 
-pub returns-then-not-may_stand_behind-clause-asked : goal.returns-then-not-may_stand_behind-clause-asked
-returns-then-not-may_stand_behind-clause-asked g c s shown =
+pub returns-then-not-may_stand_after-clause-asked : goal.returns-then-not-may_stand_after-clause-asked
+returns-then-not-may_stand_after-clause-asked g c s shown =
     let k = c.loop-current.invariant.passed s shown in
     ordered_stops (AsksAfter (g.O.Values.values c.args.objects.now) g.C.Precedes.asks) c.args.order.now s k.0.rest c.loop-current.prev c.loop-current.order k.2
-    c.may_stand_behind.new.order c.in-Some.member (drop 1 k.0.rest) (walk_at k.0 c.in-Some.is).0 c.if-not-may_stand_behind.ensures.asked
+    c.may_stand_after.new.order c.in-Some.member (drop 1 k.0.rest) (walk_at k.0 c.in-Some.is).0 c.if-not-may_stand_after.ensures.asked
 
 pub returns-clause-asked : goal.returns-clause-asked
 returns-clause-asked g c s shown =
@@ -64,8 +64,8 @@ returns-clause-asked g c s shown =
 
 pub loop-current-preserved : goal.loop-current-preserved
 loop-current-preserved g c = record {
-  ready = c.may_stand_behind.ensures.again;
-  obeys = λ lt h. c.may_stand_behind.ensures.obeys lt (c.loop-current.invariant.obeys lt h);
+  ready = c.may_stand_after.ensures.again;
+  obeys = λ lt h. c.may_stand_after.ensures.obeys lt (c.loop-current.invariant.obeys lt h);
   passed = λ s shown.
       let k = c.loop-current.invariant.passed s shown in
       let m = walk_goes g.K.ForwardLinks.step g.met.K.ForwardLinks.leads k.0 c.in-Some.is c.next-current.ensures in (
@@ -73,10 +73,10 @@ loop-current-preserved g c = record {
         (
             λ lt h.
             order_goes (less_at lt (g.O.Values.values c.args.objects.now)) c.loop-current.prev (k.1 lt h) m.1
-            (sym (c.if-not-may_stand_behind.ensures.answer lt (c.loop-current.invariant.obeys lt h)))
+            (sym (c.if-not-may_stand_after.ensures.answer lt (c.loop-current.invariant.obeys lt h)))
             ),
         ordered_turns (AsksAfter (g.O.Values.values c.args.objects.now) g.C.Precedes.asks) c.args.order.now s k.0.rest c.loop-current.prev c.loop-current.order k.2
-            c.may_stand_behind.new.order c.in-Some.member m.0.rest m.1 c.if-not-may_stand_behind.ensures.asked,
+            c.may_stand_after.new.order c.in-Some.member m.0.rest m.1 c.if-not-may_stand_after.ensures.asked,
       );
 }
 

@@ -1,6 +1,6 @@
 use Rattle.std.proofs.Common.{◌≡◌, None, List, length}
 use Rattle.ic_unsafe_ref.specs.declared.place.Place.{Place}
-use Rattle.ic_link_ops.specs.Chains.{ShowsChain}
+use Rattle.ic_link_ops.specs.Chains.{RepresentsChain}
 use Rattle.ic_link_ops.specs.Walk.{walked}
 use Rattle.ic_list_algorithms.proofs.AskedLemmas.{OrderedSoFar}
 use Rattle.ic_list_algorithms.proofs.WalkLemmas.{WalksTo}
@@ -13,7 +13,7 @@ abbrev pub invariant-loop-current : goal.invariant-loop-current
 invariant-loop-current g l = record {
   ready : g.C.Precedes.ready l.order;
   obeys : (lt : _) → g.C.Precedes.obeys l.fn.order lt → g.C.Precedes.obeys l.order lt;
-  passed : (s : List Place) → ShowsChain g.K.ForwardLinks.Between g.K.ListKind.kept (g.L.LinkOps.table l.fn.links) l.fn.list s
+  passed : (s : List Place) → RepresentsChain g.K.ForwardLinks.Between g.K.ListKind.kept (g.L.LinkOps.table l.fn.links) l.fn.list s
       → (k : WalksTo g.K.ForwardLinks.Between (g.L.LinkOps.table l.fn.links) s l.prev l.current)
       × ((lt : _) → g.C.Precedes.obeys l.fn.order lt
       → are_neighbors_ordered (less_at lt (g.O.Values.values l.objects)) s ≡ ordered_from (less_at lt (g.O.Values.values l.objects)) l.prev k.rest)

@@ -1,6 +1,6 @@
 use Rattle.std.proofs.Common.{[], inl, refl, sym, ◌∙◌, append-nil}
 use Rattle.ic_link_ops.specs.Sequences.{at_back}
-use Rattle.ic_link_ops.proofs.ShownLists.{last_linked, gap_behind_linked}
+use Rattle.ic_link_ops.proofs.RepresentedLists.{last_linked, gap_after_linked}
 use Rattle.ic_chain.proofs.Standing.{last_kept}
 use Rattle.ic_list_algorithms.proofs.whole.append.Goals as goal
 
@@ -11,7 +11,7 @@ splice_between-requires-clause-before g c q e =
 
 pub splice_between-requires-clause-first : goal.splice_between-requires-clause-first
 splice_between-requires-clause-first g c names q e =
-    let p = c.requires.two in gap_behind_linked g.met.K.ForwardLinks.between_linked [] p.second p.other (sym (rw c.take-given.ensures.whole at e) ∙ p.other.head)
+    let p = c.requires.two in gap_after_linked g.met.K.ForwardLinks.between_linked [] p.second p.other (sym (rw c.take-given.ensures.whole at e) ∙ p.other.head)
 
 pub splice_between-requires-clause-end : goal.splice_between-requires-clause-end
 splice_between-requires-clause-end g c q e =

@@ -1,6 +1,6 @@
 use Rattle.std.proofs.Common.{[], None, inr, refl, sym, ◌∙◌, append-nil, subst}
 use Rattle.ic_link_ops.specs.Sequences.{at_back, last}
-use Rattle.ic_link_ops.proofs.ShownLists.{last_linked, gap_behind_linked}
+use Rattle.ic_link_ops.proofs.RepresentedLists.{last_linked, gap_after_linked}
 use Rattle.ic_chain.specs.Walk.{WalkEnds}
 use Rattle.ic_link_ops.proofs.Naming.{end_named}
 use Rattle.ic_list_algorithms.proofs.whole.append_walking.Goals as goal
@@ -11,12 +11,12 @@ splice_between-requires-clause-before g c q e =
 
 pub splice_between-requires-clause-first : goal.splice_between-requires-clause-first
 splice_between-requires-clause-first g c names q e =
-    let p = c.requires.two in gap_behind_linked g.met.K.ForwardLinks.between_linked [] p.second p.other (sym (rw c.take-given.ensures.whole at e) ∙ p.other.head)
+    let p = c.requires.two in gap_after_linked g.met.K.ForwardLinks.between_linked [] p.second p.other (sym (rw c.take-given.ensures.whole at e) ∙ p.other.head)
 
 pub splice_between-requires-clause-given : goal.splice_between-requires-clause-given
 splice_between-requires-clause-given g c =
     let p = c.requires.two in
-    end_named _ _ (λ q e. g.met.L.LinkOps.covered_has_name _ q (g.met.L.LinkOps.linked_is_covered _ q (gap_behind_linked g.met.K.ForwardLinks.between_linked [] p.second p.other (sym (rw c.take-given.ensures.whole at e) ∙ p.other.head))))
+    end_named _ _ (λ q e. g.met.L.LinkOps.covered_has_name _ q (g.met.L.LinkOps.linked_is_covered _ q (gap_after_linked g.met.K.ForwardLinks.between_linked [] p.second p.other (sym (rw c.take-given.ensures.whole at e) ∙ p.other.head))))
 
 pub returns-clause-appended : goal.returns-clause-appended
 returns-clause-appended g c s u shown other apart =

@@ -1,8 +1,7 @@
 use Rattle.std.proofs.Common.{◌≡◌, Bool, true, false, Result, Ok, Err, OnOk, OnErr, List, ◌∷◌, ◌∙◌, subst, sym}
-use Rattle.ic_unsafe_ref.specs.declared.place.Place.{Place}
-use Rattle.ic_link_ops.specs.Tables.{KeepsBeside}
+use Rattle.ic_link_ops.specs.Prelude.{Place, ChangesOnlyIn}
 use Rattle.ic_rbtree.specs.Tree.{adapter_of}
-use Rattle.ic_link_ops.proofs.ShownTrees.{one_sequence}
+use Rattle.ic_link_ops.proofs.RepresentedTrees.{one_sequence}
 use Rattle.ic_plain.specs.SortedTrees.{IsInOrder}
 use Rattle.ic_plain.proofs.KeyOrder.{inserted, inserted_in_order}
 use Rattle.ic_plain.proofs.rbtree.insert.Goals as goal
@@ -35,7 +34,7 @@ pub returns-clause-frame : goal.returns-clause-frame
 returns-clause-frame g c s shown =
     let e = c.insert.ensures in
     let x = accepted c.insert.result (g.met.L.AcceptsUnlinked.refused_is_linked _ _ _) c.requires.unlinked e.refused (e.inserted s shown) in
-    subst (λ (u : List Place). KeepsBeside (g.L.LinkOps.table c.args.links.now) (g.L.LinkOps.table c.insert.new.links) (c.args.object ∷ u)) x.same x.inserted.frame
+    subst (λ (u : List Place). ChangesOnlyIn (g.L.LinkOps.table c.args.links.now) (g.L.LinkOps.table c.insert.new.links) (c.args.object ∷ u)) x.same x.inserted.frame
 
 pub returns-clause-shows : goal.returns-clause-shows
 unfolding IsInOrder

@@ -1,5 +1,5 @@
 use Rattle.ic_rbtree.specs.Tree.{adapter_of}
-use Rattle.ic_link_ops.proofs.ShownTrees.{one_sequence}
+use Rattle.ic_link_ops.proofs.RepresentedTrees.{one_sequence}
 use Rattle.ic_plain.specs.SortedTrees.{IsInOrder}
 use Rattle.ic_plain.proofs.KeyOrder.{bounded}
 use Rattle.ic_plain.proofs.rbtree.lower_bound.Goals as goal

@@ -1,6 +1,6 @@
 use Rattle.std.proofs.Common.{Some, [], drop, ap, ◌∙◌, subst}
 use Rattle.ic_link_ops.proofs.SequenceLemmas.{first_is}
-use Rattle.ic_link_ops.specs.RedBlackTree.{Shows}
+use Rattle.ic_link_ops.specs.RedBlackTree.{Represents}
 use Rattle.ic_rbtree.specs.Tree.{root_of}
 use Rattle.ic_plain.proofs.KeyOrder.{first_member}
 use Rattle.ic_plain.proofs.rbtree.pop_front.Goals as goal
@@ -11,4 +11,4 @@ remove-requires g c =
 
 pub returns-clause-shown : goal.returns-clause-shown
 returns-clause-shown g c s shown =
-    c.remove.ensures.shown [] (drop 1 s) (subst (Shows g.L.RBTreeOps.node (g.L.LinkOps.table c.args.links.now) (root_of c.args.tree.now)) (first_is s (ap Some c.new-object.ensures ∙ c.in_ok-first.ensures.first s shown)) shown)
+    c.remove.ensures.shown [] (drop 1 s) (subst (Represents g.L.RBTreeOps.node (g.L.LinkOps.table c.args.links.now) (root_of c.args.tree.now)) (first_is s (ap Some c.new-object.ensures ∙ c.in_ok-first.ensures.first s shown)) shown)

@@ -1,7 +1,13 @@
 -- Each call by its name and what it reads, and by its slot.
 use Rattle.std.proofs.Common.{codes, refl, rules}
 use Rattle.ic_world.specs.declared.call.Command.TheVariants as call
-use Rattle.ic_program.specs.Grammar.{calls, number_in, place_in, kind_in, bound_in, neighbor_in, one, two, three}
+use Rattle.ic_world.specs.declared.calls.one_call.Call.TheVariants.{Seek, Whole, Search, Insertion, Enter}
+use Rattle.ic_world.specs.declared.calls.one_call.Direction.TheVariants.{Next, Prev}
+use Rattle.ic_world.specs.declared.calls.seek.Seek.TheVariants.{On, With}
+use Rattle.ic_world.specs.declared.calls.whole.Whole.TheVariants.{Clear, Reverse}
+use Rattle.ic_world.specs.declared.calls.search.Search.TheVariants.{Find, LowerBound, UpperBound}
+use Rattle.ic_world.specs.declared.calls.insertion.Insertion.TheVariants.{Insert, CursorInsert}
+use Rattle.ic_program.specs.Grammar.{calls, number_in, place_in, kind_in, bound_in, neighbor_in, one, two, three, on, on_with, on_with_two}
 use Rattle.ic_program.specs.Slots.{slots}
 use Rattle.ic_program.proofs.CallLemmas.{is_call, no_call, neither_call, no_other}
 use Rattle.ic_program.proofs.line.call_at.Goals as goal
@@ -56,11 +62,11 @@ returns-in_err-collection-in-15-clause-none c = no_call _ _ 15 c.in-15.is (codes
 
 pub returns-in_ok-collection-in-0-clause-said : goal.returns-in_ok-collection-in-0-clause-said
 unfolding calls
-returns-in_ok-collection-in-0-clause-said c = is_call (codes "clear ") (one number_in call.Clear) c.args.text.now _ _ (c.in_ok-collection-in-0.ensures.said call.Clear) refl
+returns-in_ok-collection-in-0-clause-said c = is_call (codes "clear ") (one number_in (on (Whole Clear))) c.args.text.now _ _ (c.in_ok-collection-in-0.ensures.said (on (Whole Clear))) refl
 
 pub returns-in_err-collection-in-0-clause-none : goal.returns-in_err-collection-in-0-clause-none
 unfolding calls slots
-returns-in_err-collection-in-0-clause-none c = no_call _ _ 0 c.in-0.is (codes "clear ") (one number_in call.Clear) c.args.text.now refl (c.in_err-collection-in-0.ensures.none call.Clear)
+returns-in_err-collection-in-0-clause-none c = no_call _ _ 0 c.in-0.is (codes "clear ") (one number_in (on (Whole Clear))) c.args.text.now refl (c.in_err-collection-in-0.ensures.none (on (Whole Clear)))
 
 pub returns-in_ok-collection-in-36-clause-said : goal.returns-in_ok-collection-in-36-clause-said
 unfolding calls
@@ -96,24 +102,24 @@ returns-in_err-collection-in-28-clause-none c = no_call _ _ 28 c.in-28.is (codes
 
 pub returns-in_ok-collection-in-9-clause-said : goal.returns-in_ok-collection-in-9-clause-said
 unfolding calls
-returns-in_ok-collection-in-9-clause-said c = is_call (codes "seek ") (two number_in place_in call.Seek) c.args.text.now _ _ (c.in_ok-collection-in-9.ensures.said call.Seek) refl
+returns-in_ok-collection-in-9-clause-said c = is_call (codes "seek ") (two number_in place_in (on_with (λ p. Seek (On p)))) c.args.text.now _ _ (c.in_ok-collection-in-9.ensures.said (on_with (λ p. Seek (On p)))) refl
 
 pub returns-in_err-collection-in-9-clause-none : goal.returns-in_err-collection-in-9-clause-none
 unfolding calls slots
-returns-in_err-collection-in-9-clause-none c = no_call _ _ 9 c.in-9.is (codes "seek ") (two number_in place_in call.Seek) c.args.text.now refl (c.in_err-collection-in-9.ensures.none call.Seek)
+returns-in_err-collection-in-9-clause-none c = no_call _ _ 9 c.in-9.is (codes "seek ") (two number_in place_in (on_with (λ p. Seek (On p)))) c.args.text.now refl (c.in_err-collection-in-9.ensures.none (on_with (λ p. Seek (On p))))
 
 pub returns-in-Some-clause-said : goal.returns-in-Some-clause-said
 unfolding calls
-returns-in-Some-clause-said c = is_call (codes "seek_with_prev ") (three number_in place_in neighbor_in call.SeekWithPrev) c.args.text.now _ _ (c.in-Some.ensures.said call.SeekWithPrev) refl
+returns-in-Some-clause-said c = is_call (codes "seek_with_prev ") (three number_in place_in neighbor_in (on_with_two (λ p beside. Seek (With Prev p beside)))) c.args.text.now _ _ (c.in-Some.ensures.said (on_with_two (λ p beside. Seek (With Prev p beside)))) refl
 
 pub returns-in_ok-collection-in-None-clause-said : goal.returns-in_ok-collection-in-None-clause-said
 unfolding calls
-returns-in_ok-collection-in-None-clause-said c = is_call (codes "seek_with_next ") (three number_in place_in neighbor_in call.SeekWithNext) c.args.text.now _ _ (c.in_ok-collection-in-None.ensures.said call.SeekWithNext) refl
+returns-in_ok-collection-in-None-clause-said c = is_call (codes "seek_with_next ") (three number_in place_in neighbor_in (on_with_two (λ p beside. Seek (With Next p beside)))) c.args.text.now _ _ (c.in_ok-collection-in-None.ensures.said (on_with_two (λ p beside. Seek (With Next p beside)))) refl
 
 pub returns-in_err-collection-in-None-clause-none : goal.returns-in_err-collection-in-None-clause-none
 unfolding calls slots
 returns-in_err-collection-in-None-clause-none c =
-    neither_call _ _ 27 c.in-27.is (codes "seek_with_prev ") (codes "seek_with_next ") (three number_in place_in neighbor_in call.SeekWithPrev) (three number_in place_in neighbor_in call.SeekWithNext) c.args.text.now refl (c.in-None.ensures.none call.SeekWithPrev) (c.in_err-collection-in-None.ensures.none call.SeekWithNext)
+    neither_call _ _ 27 c.in-27.is (codes "seek_with_prev ") (codes "seek_with_next ") (three number_in place_in neighbor_in (on_with_two (λ p beside. Seek (With Prev p beside)))) (three number_in place_in neighbor_in (on_with_two (λ p beside. Seek (With Next p beside)))) c.args.text.now refl (c.in-None.ensures.none (on_with_two (λ p beside. Seek (With Prev p beside)))) (c.in_err-collection-in-None.ensures.none (on_with_two (λ p beside. Seek (With Next p beside))))
 
 pub returns-in_ok-collection-in-26-clause-said : goal.returns-in_ok-collection-in-26-clause-said
 unfolding calls
@@ -149,35 +155,35 @@ returns-in_err-collection-in-50-clause-none c = no_call _ _ 50 c.in-50.is (codes
 
 pub returns-in_ok-collection-in-62-clause-said : goal.returns-in_ok-collection-in-62-clause-said
 unfolding calls
-returns-in_ok-collection-in-62-clause-said c = is_call (codes "reverse ") (one number_in call.Reverse) c.args.text.now _ _ (c.in_ok-collection-in-62.ensures.said call.Reverse) refl
+returns-in_ok-collection-in-62-clause-said c = is_call (codes "reverse ") (one number_in (on (Whole Reverse))) c.args.text.now _ _ (c.in_ok-collection-in-62.ensures.said (on (Whole Reverse))) refl
 
 pub returns-in_err-collection-in-62-clause-none : goal.returns-in_err-collection-in-62-clause-none
 unfolding calls slots
-returns-in_err-collection-in-62-clause-none c = no_call _ _ 62 c.in-62.is (codes "reverse ") (one number_in call.Reverse) c.args.text.now refl (c.in_err-collection-in-62.ensures.none call.Reverse)
+returns-in_err-collection-in-62-clause-none c = no_call _ _ 62 c.in-62.is (codes "reverse ") (one number_in (on (Whole Reverse))) c.args.text.now refl (c.in_err-collection-in-62.ensures.none (on (Whole Reverse)))
 
 pub returns-in_ok-collection-in-35-clause-said : goal.returns-in_ok-collection-in-35-clause-said
 unfolding calls
-returns-in_ok-collection-in-35-clause-said c = is_call (codes "find ") (two number_in number_in call.Find) c.args.text.now _ _ (c.in_ok-collection-in-35.ensures.said call.Find) refl
+returns-in_ok-collection-in-35-clause-said c = is_call (codes "find ") (two number_in number_in (on_with (λ key. Search (Find key)))) c.args.text.now _ _ (c.in_ok-collection-in-35.ensures.said (on_with (λ key. Search (Find key)))) refl
 
 pub returns-in_err-collection-in-35-clause-none : goal.returns-in_err-collection-in-35-clause-none
 unfolding calls slots
-returns-in_err-collection-in-35-clause-none c = no_call _ _ 35 c.in-35.is (codes "find ") (two number_in number_in call.Find) c.args.text.now refl (c.in_err-collection-in-35.ensures.none call.Find)
+returns-in_err-collection-in-35-clause-none c = no_call _ _ 35 c.in-35.is (codes "find ") (two number_in number_in (on_with (λ key. Search (Find key)))) c.args.text.now refl (c.in_err-collection-in-35.ensures.none (on_with (λ key. Search (Find key))))
 
 pub returns-in_ok-collection-in-43-clause-said : goal.returns-in_ok-collection-in-43-clause-said
 unfolding calls
-returns-in_ok-collection-in-43-clause-said c = is_call (codes "lower_bound ") (two number_in bound_in call.LowerBound) c.args.text.now _ _ (c.in_ok-collection-in-43.ensures.said call.LowerBound) refl
+returns-in_ok-collection-in-43-clause-said c = is_call (codes "lower_bound ") (two number_in bound_in (on_with (λ bound. Search (LowerBound bound)))) c.args.text.now _ _ (c.in_ok-collection-in-43.ensures.said (on_with (λ bound. Search (LowerBound bound)))) refl
 
 pub returns-in_err-collection-in-43-clause-none : goal.returns-in_err-collection-in-43-clause-none
 unfolding calls slots
-returns-in_err-collection-in-43-clause-none c = no_call _ _ 43 c.in-43.is (codes "lower_bound ") (two number_in bound_in call.LowerBound) c.args.text.now refl (c.in_err-collection-in-43.ensures.none call.LowerBound)
+returns-in_err-collection-in-43-clause-none c = no_call _ _ 43 c.in-43.is (codes "lower_bound ") (two number_in bound_in (on_with (λ bound. Search (LowerBound bound)))) c.args.text.now refl (c.in_err-collection-in-43.ensures.none (on_with (λ bound. Search (LowerBound bound))))
 
 pub returns-in_ok-collection-in-58-clause-said : goal.returns-in_ok-collection-in-58-clause-said
 unfolding calls
-returns-in_ok-collection-in-58-clause-said c = is_call (codes "upper_bound ") (two number_in bound_in call.UpperBound) c.args.text.now _ _ (c.in_ok-collection-in-58.ensures.said call.UpperBound) refl
+returns-in_ok-collection-in-58-clause-said c = is_call (codes "upper_bound ") (two number_in bound_in (on_with (λ bound. Search (UpperBound bound)))) c.args.text.now _ _ (c.in_ok-collection-in-58.ensures.said (on_with (λ bound. Search (UpperBound bound)))) refl
 
 pub returns-in_err-collection-in-58-clause-none : goal.returns-in_err-collection-in-58-clause-none
 unfolding calls slots
-returns-in_err-collection-in-58-clause-none c = no_call _ _ 58 c.in-58.is (codes "upper_bound ") (two number_in bound_in call.UpperBound) c.args.text.now refl (c.in_err-collection-in-58.ensures.none call.UpperBound)
+returns-in_err-collection-in-58-clause-none c = no_call _ _ 58 c.in-58.is (codes "upper_bound ") (two number_in bound_in (on_with (λ bound. Search (UpperBound bound)))) c.args.text.now refl (c.in_err-collection-in-58.ensures.none (on_with (λ bound. Search (UpperBound bound))))
 
 pub returns-in_ok-collection-in-52-clause-said : goal.returns-in_ok-collection-in-52-clause-said
 unfolding calls
@@ -189,27 +195,27 @@ returns-in_err-collection-in-52-clause-none c = no_call _ _ 52 c.in-52.is (codes
 
 pub returns-in_ok-collection-in-42-clause-said : goal.returns-in_ok-collection-in-42-clause-said
 unfolding calls
-returns-in_ok-collection-in-42-clause-said c = is_call (codes "insert ") (two number_in place_in call.Insert) c.args.text.now _ _ (c.in_ok-collection-in-42.ensures.said call.Insert) refl
+returns-in_ok-collection-in-42-clause-said c = is_call (codes "insert ") (two number_in place_in (on_with (λ p. Insertion (Insert p)))) c.args.text.now _ _ (c.in_ok-collection-in-42.ensures.said (on_with (λ p. Insertion (Insert p)))) refl
 
 pub returns-in_err-collection-in-42-clause-none : goal.returns-in_err-collection-in-42-clause-none
 unfolding calls slots
-returns-in_err-collection-in-42-clause-none c = no_call _ _ 42 c.in-42.is (codes "insert ") (two number_in place_in call.Insert) c.args.text.now refl (c.in_err-collection-in-42.ensures.none call.Insert)
+returns-in_err-collection-in-42-clause-none c = no_call _ _ 42 c.in-42.is (codes "insert ") (two number_in place_in (on_with (λ p. Insertion (Insert p)))) c.args.text.now refl (c.in_err-collection-in-42.ensures.none (on_with (λ p. Insertion (Insert p))))
 
 pub returns-in_ok-collection-in-7-clause-said : goal.returns-in_ok-collection-in-7-clause-said
 unfolding calls
-returns-in_ok-collection-in-7-clause-said c = is_call (codes "cursor_insert ") (two number_in place_in call.CursorInsert) c.args.text.now _ _ (c.in_ok-collection-in-7.ensures.said call.CursorInsert) refl
+returns-in_ok-collection-in-7-clause-said c = is_call (codes "cursor_insert ") (two number_in place_in (on_with (λ p. Insertion (CursorInsert p)))) c.args.text.now _ _ (c.in_ok-collection-in-7.ensures.said (on_with (λ p. Insertion (CursorInsert p)))) refl
 
 pub returns-in_err-collection-in-7-clause-none : goal.returns-in_err-collection-in-7-clause-none
 unfolding calls slots
-returns-in_err-collection-in-7-clause-none c = no_call _ _ 7 c.in-7.is (codes "cursor_insert ") (two number_in place_in call.CursorInsert) c.args.text.now refl (c.in_err-collection-in-7.ensures.none call.CursorInsert)
+returns-in_err-collection-in-7-clause-none c = no_call _ _ 7 c.in-7.is (codes "cursor_insert ") (two number_in place_in (on_with (λ p. Insertion (CursorInsert p)))) c.args.text.now refl (c.in_err-collection-in-7.ensures.none (on_with (λ p. Insertion (CursorInsert p))))
 
 pub returns-in_ok-collection-in-3-clause-said : goal.returns-in_ok-collection-in-3-clause-said
 unfolding calls
-returns-in_ok-collection-in-3-clause-said c = is_call (codes "entry ") (three number_in number_in place_in call.Entry) c.args.text.now _ _ (c.in_ok-collection-in-3.ensures.said call.Entry) refl
+returns-in_ok-collection-in-3-clause-said c = is_call (codes "entry ") (three number_in number_in place_in (on_with_two Enter)) c.args.text.now _ _ (c.in_ok-collection-in-3.ensures.said (on_with_two Enter)) refl
 
 pub returns-in_err-collection-in-3-clause-none : goal.returns-in_err-collection-in-3-clause-none
 unfolding calls slots
-returns-in_err-collection-in-3-clause-none c = no_call _ _ 3 c.in-3.is (codes "entry ") (three number_in number_in place_in call.Entry) c.args.text.now refl (c.in_err-collection-in-3.ensures.none call.Entry)
+returns-in_err-collection-in-3-clause-none c = no_call _ _ 3 c.in-3.is (codes "entry ") (three number_in number_in place_in (on_with_two Enter)) c.args.text.now refl (c.in_err-collection-in-3.ensures.none (on_with_two Enter))
 
 pub returns-in_ok-field-in-32-clause-said : goal.returns-in_ok-field-in-32-clause-said
 unfolding calls

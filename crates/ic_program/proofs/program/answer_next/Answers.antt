@@ -5,7 +5,7 @@ use Rattle.std.proofs.BufReadLemmas.{Consumes_shown}
 use Rattle.std.proofs.Math.Seq.{take-length}
 use Rattle.ic_program.proofs.AnsweredLemmas.{passed_far, reading_first}
 use Rattle.ic_program.proofs.ReadAhead.{read_on, read_stop, read_none, stop_end}
-use Rattle.ic_program.proofs.RunEnds.{none_shown}
+use Rattle.ic_program.proofs.RunEnds.{none_represented}
 use Rattle.ic_program.proofs.program.answer_next.Goals as goal
 
 pub returns-in_err-answer_all-in-Ok-clause-answered : goal.returns-in_err-answer_all-in-Ok-clause-answered
@@ -34,5 +34,5 @@ returns-in_err-answer_lines-in-Ok-empty-clause-answered g c =
     let none : length c.in-Ok-empty.field-0.now ≡ 0 = omega (arith, c.in-Ok-empty.len_below) in
     passed_far _ stop _ _ _ _ _ _ _ _ c.from_residual.ensures
     (stop_end _ _ _ _ stop _ _ (g.R.Read.remaining c.args.reader.now) c.args.cut.now.items c.deref.result.now c.deref.ensures.value
-    (none_shown (g.R.Read.remaining c.args.reader.now) c.fill_buf.result c.in-Ok-empty.field-0 (λ s. length s.now ≡ 0) c.in-Ok-empty.is none c.fill_buf.ensures.end)
+    (none_represented (g.R.Read.remaining c.args.reader.now) c.fill_buf.result c.in-Ok-empty.field-0 (λ s. length s.now ≡ 0) c.in-Ok-empty.is none c.fill_buf.ensures.end)
     c.in_err-answer_lines-in-Ok-empty.ensures)

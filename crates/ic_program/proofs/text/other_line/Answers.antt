@@ -1,12 +1,12 @@
 use Rattle.std.proofs.Common.{Some, None}
-use Rattle.ic_program.proofs.TextLemmas.{line_behind}
-use Rattle.ic_program.proofs.LinesLemmas.{behind_drop}
+use Rattle.ic_program.proofs.TextLemmas.{line_after}
+use Rattle.ic_program.proofs.LinesLemmas.{after_drop}
 use Rattle.ic_program.proofs.text.other_line.Goals as goal
 
 pub returns-in-Some-clause-end : goal.returns-in-Some-clause-end
 returns-in-Some-clause-end c =
-    let behind = line_behind c.args.text.now c.without_spaces.result.now (Some c.in-Some.rest) c.without_spaces.ensures c.in-Some.ensures in
-    (behind.0, behind_drop c.args.text.now c.in-Some.rest.now c.saturating_sub.result behind.1 c.saturating_sub.ensures)
+    let behind = line_after c.args.text.now c.without_spaces.result.now (Some c.in-Some.rest) c.without_spaces.ensures c.in-Some.ensures in
+    (behind.0, after_drop c.args.text.now c.in-Some.rest.now c.saturating_sub.result behind.1 c.saturating_sub.ensures)
 
 pub returns-in-None-clause-end : goal.returns-in-None-clause-end
-returns-in-None-clause-end c = line_behind c.args.text.now c.without_spaces.result.now None c.without_spaces.ensures c.in-None.ensures
+returns-in-None-clause-end c = line_after c.args.text.now c.without_spaces.result.now None c.without_spaces.ensures c.in-None.ensures

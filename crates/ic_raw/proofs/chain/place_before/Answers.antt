@@ -1,10 +1,9 @@
 use Rattle.std.proofs.Common.{◌≡◌, ◌++◌, ◌∷◌, Option, Some, refl, sym, ap, subst, ◌∙◌, eqb-true, arith, eq-eqb}
-use Rattle.ic_unsafe_ref.specs.Places.{same_word}
+use Rattle.ic_link_ops.specs.Prelude.{Place, same_word}
 use Rattle.ic_link_ops.proofs.SequenceLemmas.{none_not, some_same}
 use Rattle.ic_raw.proofs.Gaps.{never}
 use Rattle.ic_raw.proofs.Singly.{covered}
-use Rattle.ic_raw.proofs.HashWalks.{comes_first, comes_linked, comes_on, comes_over, met, met_behind, not_missed}
-use Rattle.ic_unsafe_ref.specs.declared.place.Place.{Place}
+use Rattle.ic_raw.proofs.HashWalks.{comes_first, comes_linked, comes_on, comes_over, met, met_after, not_missed}
 use Rattle.ic_raw.proofs.Own.{past_none, goes_past, is_first}
 use Rattle.ic_raw.proofs.chain.place_before.Goals as goal
 
@@ -29,7 +28,7 @@ pub returns-then-eq-clause-found : goal.returns-then-eq-clause-found
 returns-then-eq-clause-found c ahead back shown =
     let k = rw c.in-Some.is at (c.loop-left.invariant.comes (ahead ++ c.args.member ∷ back) shown) in
     let same : c.in-Some.place ≡ c.args.member = same_word c.in-Some.place c.args.member (eqb-true _ _ (sym c.eq.ensures ∙ c.if-eq.true)) in
-    ap Some (met_behind c.args.member ahead back shown.distinct k same)
+    ap Some (met_after c.args.member ahead back shown.distinct k same)
 
 pub returns-then-eq-clause-member : goal.returns-then-eq-clause-member
 returns-then-eq-clause-member c s b shown is =

@@ -2,20 +2,21 @@ use Rattle.std.proofs.Common.{◌≡◌, List}
 use Rattle.ic_unsafe_ref.specs.declared.place.Place.{Place}
 use Rattle.ic_link_ops.specs.SinglyLinkedList.{list_from}
 use Rattle.ic_hash_table.specs.Searches.{is_place}
-use Rattle.ic_raw.specs.Gaps.{Stands}
-use Rattle.ic_raw.specs.Singly.{Shows, lent_table, next_from}
+use Rattle.ic_raw.specs.Gaps.{IsNoneOrLinked}
+use Rattle.ic_raw.specs.Singly.{Represents, lent_table, next_from}
 use Rattle.ic_raw.specs.Words.{is_linked_one}
 use Rattle.ic_raw.proofs.HashWalks.{Comes}
 use Rattle.ic_raw.proofs.Own.{IsPast}
 use Rattle.ic_raw.proofs.chain.place_before.Given as goal
 
--- what is behind is linked and leads here, the walk knows whether it has left the front, and in each sequence that is shown it has come past other members
+-- what is after is linked and leads here, the walk knows whether it has left the front, and in each sequence that is represented it has come past
+-- other members
 abbrev pub invariant-loop-left : goal.invariant-loop-left
 invariant-loop-left l = record {
-  stands : Stands is_linked_one (lent_table l.fn.links) l.before;
+  stands : IsNoneOrLinked is_linked_one (lent_table l.fn.links) l.before;
   leads : next_from (lent_table l.fn.links) (list_from l.fn.front) l.before ≡ l.current;
   past : IsPast l.fn.front l.current l.before l.fn.member;
-  comes : (s : List Place) → Shows (lent_table l.fn.links) (list_from l.fn.front) s → Comes (is_place l.fn.member) (lent_table l.fn.links) s l.before l.current l.left;
+  comes : (s : List Place) → Represents (lent_table l.fn.links) (list_from l.fn.front) s → Comes (is_place l.fn.member) (lent_table l.fn.links) s l.before l.current l.left;
 }
 
 abbrev pub decreases-loop-left : goal.decreases-loop-left

@@ -7,7 +7,7 @@ use Rattle.ic_raw.proofs.HashChecks.{own_none, own_more, own_ended, own_there, s
 use Rattle.ic_raw.proofs.HashWalks.{comes_first, comes_on}
 use Rattle.ic_raw.proofs.Lists.{kept}
 use Rattle.ic_raw.proofs.Singly.{covered}
-use Rattle.ic_raw.proofs.Views.{viewed, shown_back}
+use Rattle.ic_raw.proofs.Views.{viewed, represented_back}
 use Rattle.ic_raw.proofs.check_calls.own_members.Goals as goal
 
 pub loop-current-init : goal.loop-current-init
@@ -37,4 +37,4 @@ loop-current-preserved c =
 pub returns : goal.returns
 returns c =
     let k = own_ended (rw c.in_default.is at c.loop-current.invariant.walks) in
-    (k.0, record { shown = shown_back no_word kept c.args.links.now refl k.1; own = k.2 }, k.3)
+    (k.0, record { shown = represented_back no_word kept c.args.links.now refl k.1; own = k.2 }, k.3)

@@ -1,6 +1,5 @@
 use Rattle.std.proofs.Common.{◌≡◌, ◌≢◌, true, ◌+◌, ◌-◌, ◌++◌, ◌∷◌, refl, sym, ap, ◌∙◌, subst, arith}
-use Rattle.ic_unsafe_ref.specs.declared.place.Place.{Place}
-use Rattle.ic_unsafe_ref.specs.Places.{index_of}
+use Rattle.ic_link_ops.specs.Prelude.{Place, index_of}
 use Rattle.ic_link_ops.specs.EntryLaws.{linked_in_range}
 use Rattle.ic_link_ops.specs.Widths.{HasRoom, nameable, nameable_has_room}
 use Rattle.ic_link_ops.proofs.Naming.{end_named}
@@ -9,7 +8,7 @@ use Rattle.ic_raw.specs.Fills.{IsFreeRun}
 use Rattle.ic_raw.specs.Tables.{nameable_table, raw_entries}
 use Rattle.ic_raw.proofs.Gaps.{never}
 use Rattle.ic_raw.proofs.Lists.{inserted}
-use Rattle.ic_raw.proofs.Runs.{number_small, none_left, not_refused, run_behind, Fills, fills_none, fills_more, fills_all, LinksRun, links_none, links_more, touches_run, turns_run}
+use Rattle.ic_raw.proofs.Runs.{number_small, none_left, not_refused, run_after, Fills, fills_none, fills_more, fills_all, LinksRun, links_none, links_more, touches_run, turns_run}
 use Rattle.ic_raw.proofs.Touches.{links_first}
 use Rattle.ic_raw.proofs.fill.link_run.Goals as goal
 
@@ -35,7 +34,7 @@ pub returns-in_default-clause-touched : goal.returns-in_default-clause-touched
 returns-in_default-clause-touched g c outermost free =
     absurd (not_refused (c.loop-left.invariant.links free).0 (omega (arith, c.loop-left-test.true)) c.place_of.ensures c.acquire.ensures.accepted c.in_default.is)
 
--- the place behind the gap is linked, so words have room for its name
+-- the place after the gap is linked, so words have room for its name
 pub insert_linked-requires-clause-next : goal.insert_linked-requires-clause-next
 insert_linked-requires-clause-next g c =
     let width = g.W.Words.width in
@@ -62,8 +61,8 @@ loop-left-preserved g c =
     let put = c.insert_linked.ensures in
     let named = sym c.place_of.ensures ∙ c.acquire.ensures.same _ taken in
     let small = number_small number p named was.small in
-    let also = links_first free' (c.acquire.ensures.linked _ taken) only put.no_step in
-    let rest = λ (r : IsFreeRun linked old number c.loop-left.left). run_behind p named small (put.extent ∙ only.extent) also.others r (omega (arith, c.loop-left-test.true)) in
+    let also = links_first free' (c.acquire.ensures.linked _ taken) only put.trace_stays in
+    let rest = λ (r : IsFreeRun linked old number c.loop-left.left). run_after p named small (put.extent ∙ only.extent) also.others r (omega (arith, c.loop-left-test.true)) in
     record {
       small = small;
       extent = put.extent ∙ only.extent ∙ was.extent;

@@ -1,26 +1,25 @@
 use Rattle.std.proofs.Common.{◌≡◌, ◌<◌, true, Option}
-use Rattle.ic_unsafe_ref.specs.declared.place.Place.{Place}
-use Rattle.ic_link_ops.specs.Sequences.{Cut, join}
-use Rattle.ic_link_ops.specs.Chains.{ShowsChain}
+use Rattle.ic_link_ops.specs.Prelude.{Place, Cut, join}
+use Rattle.ic_link_ops.specs.Chains.{RepresentsChain}
 use Rattle.ic_raw.specs.Fills.{IsFreeRun}
-use Rattle.ic_raw.specs.Gaps.{Stands, gap_of}
+use Rattle.ic_raw.specs.Gaps.{IsNoneOrLinked, gap_of}
 use Rattle.ic_raw.specs.Tables.{nameable_table}
 use Rattle.ic_raw.proofs.Runs.{Fills, LinksRun}
 use Rattle.ic_raw.proofs.fill.link_run.Given as goal
 
--- what stands beside the gap is linked, and of a run that is free those in front of the number are linked, and are in the list
+-- what stands beside the gap is linked, and of a run that is free those before the number are linked, and are in the list
 abbrev pub invariant-loop-left : goal.invariant-loop-left
 invariant-loop-left g l = record {
   small : l.number < 4294967296;
   extent : (nameable_table g.W.Words.width g.W.Words.unlinked l.links).extent ≡ (nameable_table g.W.Words.width g.W.Words.unlinked l.fn.links).extent;
-  before : Stands g.W.Words.is_linked (nameable_table g.W.Words.width g.W.Words.unlinked l.links) l.before;
-  behind : Stands g.W.Words.is_linked (nameable_table g.W.Words.width g.W.Words.unlinked l.links) l.fn.gap.behind;
+  before : IsNoneOrLinked g.W.Words.is_linked (nameable_table g.W.Words.width g.W.Words.unlinked l.links) l.before;
+  behind : IsNoneOrLinked g.W.Words.is_linked (nameable_table g.W.Words.width g.W.Words.unlinked l.links) l.fn.gap.behind;
   links : (free : IsFreeRun g.W.Words.is_linked (nameable_table g.W.Words.width g.W.Words.unlinked l.fn.links) l.fn.first l.fn.count)
       → (rest : IsFreeRun g.W.Words.is_linked (nameable_table g.W.Words.width g.W.Words.unlinked l.links) l.number l.left)
       × LinksRun g.W.Words.is_linked g.K.ListKind.kept g.K.ForwardLinks.NamesPrev (nameable_table g.W.Words.width g.W.Words.unlinked l.fn.links) (nameable_table g.W.Words.width g.W.Words.unlinked l.links) l.fn.list l.list
       l.fn.gap l.before free.run rest.run;
   fills : ((e : g.row.W.Denot) (b a : Option Place) → g.K.ForwardLinks.Between e b a → g.W.Words.is_linked e ≡ true) → (cut : Cut) (free : IsFreeRun g.W.Words.is_linked (nameable_table g.W.Words.width g.W.Words.unlinked l.fn.links) l.fn.first l.fn.count)
-      → ShowsChain g.K.ForwardLinks.Between g.K.ListKind.kept (nameable_table g.W.Words.width g.W.Words.unlinked l.fn.links) l.fn.list (join cut) → l.fn.gap ≡ gap_of cut
+      → RepresentsChain g.K.ForwardLinks.Between g.K.ListKind.kept (nameable_table g.W.Words.width g.W.Words.unlinked l.fn.links) l.fn.list (join cut) → l.fn.gap ≡ gap_of cut
       → (rest : IsFreeRun g.W.Words.is_linked (nameable_table g.W.Words.width g.W.Words.unlinked l.links) l.number l.left)
       × Fills g.K.ForwardLinks.Between g.K.ListKind.kept (nameable_table g.W.Words.width g.W.Words.unlinked l.fn.links) (nameable_table g.W.Words.width g.W.Words.unlinked l.links) l.list cut l.before free.run rest.run;
 }

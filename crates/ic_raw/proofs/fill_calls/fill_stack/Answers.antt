@@ -1,7 +1,7 @@
 use Rattle.std.proofs.Common.{None, refl, sym, ap, ◌∙◌, rules}
 use Rattle.ic_link_ops.specs.Sequences.{at_front}
 use Rattle.ic_raw.specs.Words.{no_word, is_linked_one, place_of}
-use Rattle.ic_raw.specs.Singly.{Shows, lent_table}
+use Rattle.ic_raw.specs.Singly.{Represents, lent_table}
 use Rattle.ic_raw.specs.declared.gap.Gap.{Gap}
 use Rattle.ic_link_ops.specs.Chains.{end_of}
 use Rattle.ic_link_ops.proofs.SequenceLemmas.{none_not}
@@ -28,16 +28,16 @@ pub returns-then-status-ne-OK : goal.returns-then-status-ne-OK
 returns-then-status-ne-OK c = record {
   filled = λ s shown free.
       let view = c.new-links.ensures.1 in
-      let seen : Shows (lent_table c.new-links.result) c.stack_of-edited.result s = rw c.stack_of-edited.ensures (viewed no_word kept c.new-links.result view shown) in
+      let seen : Represents (lent_table c.new-links.result) c.stack_of-edited.result s = rw c.stack_of-edited.ensures (viewed no_word kept c.new-links.result view shown) in
       let gap = c.gap_after-gap.ensures.shown (at_front s) seen refl in
       absurd (c.if-status-ne-OK.true (c.fill-status.ensures.filled law (at_front s) (run_viewed is_linked_one no_word c.new-links.result view free) seen gap).0);
   nothing = search rules;
   accepted = λ some. (
     (λ ok. absurd (c.if-status-ne-OK.true ok)),
-    (λ told.
+    (λ links_back.
         let view = c.new-links.ensures.1 in
-        let gap = (gap_same c.new-links.result view c.stack_of-edited.ensures {at = None} refl).1 ((λ q e. absurd (none_not q e)), told.1) in
-        absurd (c.if-status-ne-OK.true (c.fill-status.ensures.accepted (run_viewed is_linked_one no_word c.new-links.result view told.0)
+        let gap = (gap_same c.new-links.result view c.stack_of-edited.ensures {at = None} refl).1 ((λ q e. absurd (none_not q e)), links_back.1) in
+        absurd (c.if-status-ne-OK.true (c.fill-status.ensures.accepted (run_viewed is_linked_one no_word c.new-links.result view links_back.0)
         (λ none. none_not _ (sym none ∙ c.gap_after-gap.ensures.found gap))))),
   );
   own = search rules;
@@ -53,16 +53,16 @@ unfolding run_viewed
 returns c = record {
   filled = λ s shown free.
       let view = c.new-links.ensures.1 in
-      let seen : Shows (lent_table c.new-links.result) c.stack_of-edited.result s = rw c.stack_of-edited.ensures (viewed no_word kept c.new-links.result view shown) in
+      let seen : Represents (lent_table c.new-links.result) c.stack_of-edited.result s = rw c.stack_of-edited.ensures (viewed no_word kept c.new-links.result view shown) in
       let gap = c.gap_after-gap.ensures.shown (at_front s) seen refl in
       let done = (c.fill-status.ensures.filled law (at_front s) (run_viewed is_linked_one no_word c.new-links.result view free) seen gap).1 in
       record { accepted = refl; done = spliced_back no_word kept c.new-links.result c.fill-status.new.links view (search rules) (search rules) done };
   nothing = search rules;
   accepted = λ some.
       let gap = c.fill-status.ensures.gap c.if-status-ne-OK.false in
-      let told = (gap_same c.new-links.result c.new-links.ensures.1 c.stack_of-edited.ensures {at = None} refl).0 (c.gap_after-gap.ensures.told gap.0 gap.1) in
+      let links_back = (gap_same c.new-links.result c.new-links.ensures.1 c.stack_of-edited.ensures {at = None} refl).0 (c.gap_after-gap.ensures.links_back gap.0 gap.1) in
       let free = run_back is_linked_one no_word c.new-links.result c.new-links.ensures.1 (c.fill-status.ensures.free c.if-status-ne-OK.false) in
-      ((λ ok. (free, told.1)), (λ told. refl));
+      ((λ ok. (free, links_back.1)), (λ links_back. refl));
   own = λ made some.
       let gap = c.fill-status.ensures.gap c.if-status-ne-OK.false in
       let front = c.gap_after-gap.ensures.is gap.0 gap.1 in

@@ -1,7 +1,7 @@
 use Rattle.std.proofs.Common.{None, refl, ap, subst, ◌∙◌, rules}
 use Rattle.ic_link_ops.specs.Sequences.{at_back, join}
 use Rattle.ic_raw.specs.Words.{no_word, is_linked_one}
-use Rattle.ic_raw.specs.Xor.{Shows, TellsGap}
+use Rattle.ic_raw.specs.Xor.{Represents, TellsGap}
 use Rattle.ic_raw.specs.Singly.{lent_table, table_of}
 use Rattle.ic_raw.specs.Doubly.{ends_of}
 use Rattle.ic_link_ops.specs.Chains.{Ends}
@@ -18,7 +18,7 @@ returns-then-count-eq0 c = record {
   filled = λ s shown free. record { accepted = refl; done = splices_none (at_back s) shown (none_left is_linked_one _ c.args.first c.args.count free c.if-count-eq0.true) };
   free = λ made. free_none c.if-count-eq0.true;
   nothing = search rules;
-  told = search rules;
+  links_back = search rules;
   own = search rules;
   touched = λ made free. touches_no_run c.if-count-eq0.true free;
   words = search rules;
@@ -31,12 +31,12 @@ pub returns-then-status-ne-OK : goal.returns-then-status-ne-OK
 returns-then-status-ne-OK c = record {
   filled = λ s shown free.
       let view = c.new-links.ensures.1 in
-      let seen : Shows (lent_table c.new-links.result) c.list_of-edited.result (join (at_back s)) = rw c.list_of-edited.ensures (viewed no_word kept c.new-links.result view shown) in
-      let gap = c.gap_behind_last_of_xor-gap.ensures.shown s seen in
+      let seen : Represents (lent_table c.new-links.result) c.list_of-edited.result (join (at_back s)) = rw c.list_of-edited.ensures (viewed no_word kept c.new-links.result view shown) in
+      let gap = c.gap_after_last_of_xor-gap.ensures.shown s seen in
       absurd (c.if-status-ne-OK.true (c.fill-status.ensures.filled joined_linked (at_back s) (run_viewed is_linked_one no_word c.new-links.result view free) seen gap).0);
   free = search rules;
   nothing = search rules;
-  told = search rules;
+  links_back = search rules;
   own = search rules;
   touched = search rules;
   words = search rules;
@@ -50,27 +50,27 @@ unfolding run_viewed
 returns c = record {
   filled = λ s shown free.
       let view = c.new-links.ensures.1 in
-      let seen : Shows (lent_table c.new-links.result) c.list_of-edited.result (join (at_back s)) = rw c.list_of-edited.ensures (viewed no_word kept c.new-links.result view shown) in
-      let gap = c.gap_behind_last_of_xor-gap.ensures.shown s seen in
+      let seen : Represents (lent_table c.new-links.result) c.list_of-edited.result (join (at_back s)) = rw c.list_of-edited.ensures (viewed no_word kept c.new-links.result view shown) in
+      let gap = c.gap_after_last_of_xor-gap.ensures.shown s seen in
       let done = (c.fill-status.ensures.filled joined_linked (at_back s) (run_viewed is_linked_one no_word c.new-links.result view free) seen gap).1 in
       record { accepted = refl; done = spliced_back no_word kept c.new-links.result c.fill-status.new.links view (search rules) (search rules) done };
   free = λ made. run_back is_linked_one no_word c.new-links.result c.new-links.ensures.1 (c.fill-status.ensures.free c.if-status-ne-OK.false);
   nothing = search rules;
-  told = λ made some.
+  links_back = λ made some.
       let gap = c.fill-status.ensures.gap c.if-status-ne-OK.false in
       let there : TellsGap (lent_table c.new-links.result) (ends_of c.args.list.now) (ends_of c.args.list.now).tail None =
-      subst (λ (list : Ends). TellsGap (lent_table c.new-links.result) list list.tail None) c.list_of-edited.ensures (c.gap_behind_last_of_xor-gap.ensures.told gap.0 gap.1) in
+      subst (λ (list : Ends). TellsGap (lent_table c.new-links.result) list list.tail None) c.list_of-edited.ensures (c.gap_after_last_of_xor-gap.ensures.links_back gap.0 gap.1) in
       subst (λ es. TellsGap (table_of es) (ends_of c.args.list.now) (ends_of c.args.list.now).tail None) c.new-links.ensures.1 there;
   own = λ made some.
       let gap = c.fill-status.ensures.gap c.if-status-ne-OK.false in
-      let behind = c.gap_behind_last_of_xor-gap.ensures.is gap.0 gap.1 ∙ ap (λ (l : Ends). gap_between l.tail None) c.list_of-edited.ensures in
+      let behind = c.gap_after_last_of_xor-gap.ensures.is gap.0 gap.1 ∙ ap (λ (l : Ends). gap_between l.tail None) c.list_of-edited.ensures in
       turns_back behind c.list_of-edited.ensures c.write_back.ensures.set (c.fill-status.ensures.ends c.if-status-ne-OK.false some gap.0 gap.1);
   touched = λ made free.
       run_touched is_linked_one no_word c.new-links.result c.fill-status.new.links c.new-links.ensures.1 (search rules) (c.fill-status.ensures.touched c.if-status-ne-OK.false)
       (c.fill-status.ensures.gap c.if-status-ne-OK.false)
       (λ g is. (
-        ap (λ (x : Gap). x.before) (c.gap_behind_last_of_xor-gap.ensures.is g is) ∙ ap (λ (l : Ends). l.tail) c.list_of-edited.ensures,
-        (λ _. ap (λ (x : Gap). x.behind) (c.gap_behind_last_of_xor-gap.ensures.is g is)),
+        ap (λ (x : Gap). x.before) (c.gap_after_last_of_xor-gap.ensures.is g is) ∙ ap (λ (l : Ends). l.tail) c.list_of-edited.ensures,
+        (λ _. ap (λ (x : Gap). x.behind) (c.gap_after_last_of_xor-gap.ensures.is g is)),
       )) free;
   words = search rules;
   refused = search rules;

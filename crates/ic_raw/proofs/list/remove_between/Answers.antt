@@ -1,13 +1,14 @@
-use Rattle.std.proofs.Common.{◌∷◌, Some, sym, ap, ◌∙◌}
+use Rattle.std.proofs.Common.{◌∷◌, Some, sym, ap, ◌∙◌, refl}
 use Rattle.ic_raw.proofs.Doubly.{first_kept, last_kept}
 use Rattle.ic_raw.proofs.Lists.{removed}
 use Rattle.ic_raw.proofs.Own.{end_stays}
 use Rattle.ic_raw.specs.Touches.{sides}
 use Rattle.ic_raw.proofs.Touches.{touches_remove, touches_same}
+use Rattle.ic_raw.proofs.LinkViews.{link_words, end_has_room, linked_has_room}
 use Rattle.ic_raw.proofs.list.remove_between.Goals as goal
 
 pub returns-clause-removed : goal.returns-clause-removed
-returns-clause-removed c front back made shown =
+returns-clause-removed g c front back made shown =
     let member = c.args.member in
     let found = c.in-Some.is in
     let gap = c.between.ensures.shown _ _ front back found shown in
@@ -31,13 +32,13 @@ returns-clause-removed c front back made shown =
     )
 
 pub returns-clause-before : goal.returns-clause-before
-returns-clause-before c made = c.between.ensures.before _ c.args.list.now c.in-Some.is
+returns-clause-before g c made = c.between.ensures.before _ c.args.list.now c.in-Some.is
 
 pub returns-clause-behind : goal.returns-clause-behind
-returns-clause-behind c made = c.between.ensures.behind _ c.args.list.now c.in-Some.is
+returns-clause-behind g c made = c.between.ensures.behind _ c.args.list.now c.in-Some.is
 
 pub returns-clause-own : goal.returns-clause-own
-returns-clause-own c made =
+returns-clause-own g c made =
     let found = c.in-Some.is in
     let sides = c.between.ensures.sides _ c.args.list.now found in
     record {
@@ -46,8 +47,18 @@ returns-clause-own c made =
     }
 
 pub returns-clause-touched : goal.returns-clause-touched
-returns-clause-touched c made =
+returns-clause-touched g c made =
     let found = c.between.ensures.sides _ c.args.list.now c.in-Some.is in
     let off = c.bypass.ensures in
     let released = c.release_link.ensures in
-    touches_same (λ k. Some c.args.member ∷ sides (found k)) (touches_remove off.no_step off.others released.released released.frame)
+    touches_same (λ k. Some c.args.member ∷ sides (found k)) (touches_remove off.trace_stays off.others released.released released.frame)
+
+pub bypass-requires-clause-next : goal.bypass-requires-clause-next
+bypass-requires-clause-next g c =
+    let words = link_words g.W.Words g.W.NextWord g.W.PrevPlace in
+    end_has_room words g.met.W.Words.starts_unlinked c.args.links.now c.in-Some.gap.behind (c.between.ensures.stands _ c.in-Some.is).1
+
+pub bypass-requires-clause-out : goal.bypass-requires-clause-out
+bypass-requires-clause-out g c =
+    let words = link_words g.W.Words g.W.NextWord g.W.PrevPlace in
+    linked_has_room words g.met.W.Words.starts_unlinked c.args.links.now c.args.member (c.between.ensures.member _ c.in-Some.is _ refl)

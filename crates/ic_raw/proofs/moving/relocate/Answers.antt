@@ -1,19 +1,37 @@
 use Rattle.std.proofs.Common.{refl, ap}
-use Rattle.ic_raw.specs.Doubly.{lent_table}
 use Rattle.ic_raw.proofs.Lists.{moved}
 use Rattle.ic_raw.proofs.Own.{put_in, taken_out}
 use Rattle.ic_raw.proofs.Touches.{touches_move}
+use Rattle.ic_raw.specs.LinkWords.{lent_table}
+use Rattle.ic_raw.proofs.LinkViews.{link_words, end_has_room, linked_has_room}
 use Rattle.ic_raw.proofs.moving.relocate.Goals as goal
 
 pub returns-clause-moved : goal.returns-clause-moved
-returns-clause-moved c front back cut shown same from to =
+returns-clause-moved g c front back cut shown same from to =
     let off = c.bypass.ensures in
     let put = c.insert_linked.ensures in
     moved front c.args.member back cut (ap (λ g. g.before) from) (ap (λ g. g.behind) from) (ap (λ g. g.before) to) (ap (λ g. g.behind) to) same shown off.shows off.extent off.others
     put.shows put.extent put.others
 
 pub returns-clause-touched : goal.returns-clause-touched
-returns-clause-touched c = touches_move (lent_table c.bypass.new.links) c.bypass.ensures.no_step c.insert_linked.ensures.no_step c.bypass.ensures.others c.insert_linked.ensures.others
+returns-clause-touched g c =
+    let words = link_words g.W.Words g.W.NextWord g.W.PrevPlace in
+    touches_move (lent_table words c.bypass.new.links) c.bypass.ensures.trace_stays c.insert_linked.ensures.trace_stays c.bypass.ensures.others c.insert_linked.ensures.others
 
 pub returns-clause-own : goal.returns-clause-own
-returns-clause-own c = (c.bypass.new.self, taken_out refl c.bypass.ensures.ends, put_in refl refl c.insert_linked.ensures.ends)
+returns-clause-own g c = (c.bypass.new.self, taken_out refl c.bypass.ensures.ends, put_in refl refl c.insert_linked.ensures.ends)
+
+pub bypass-requires-clause-next : goal.bypass-requires-clause-next
+bypass-requires-clause-next g c =
+    let words = link_words g.W.Words g.W.NextWord g.W.PrevPlace in
+    end_has_room words g.met.W.Words.starts_unlinked c.args.links.now c.args.from.behind c.requires.from.1
+
+pub bypass-requires-clause-out : goal.bypass-requires-clause-out
+bypass-requires-clause-out g c =
+    let words = link_words g.W.Words g.W.NextWord g.W.PrevPlace in
+    linked_has_room words g.met.W.Words.starts_unlinked c.args.links.now c.args.member (c.requires.member _ refl)
+
+pub insert_linked-requires-clause-next : goal.insert_linked-requires-clause-next
+insert_linked-requires-clause-next g c =
+    let words = link_words g.W.Words g.W.NextWord g.W.PrevPlace in
+    end_has_room words g.met.W.Words.starts_unlinked c.args.links.now c.args.to.behind c.requires.to.1

@@ -16,8 +16,8 @@ returns-in_default-beside-clause-tells g c r circle =
     let words = link_words g.W.Words g.W.NextWord g.W.PrevPlace in
     let x = circle_tells words (lent_table words c.args.links.now) r circle After in absurd (none_not x.0 (sym c.in_default-beside.is ∙ c.beside-2.ensures.tells x.0 x.1 x.2))
 
-pub returns-clause-told : goal.returns-clause-told
-returns-clause-told g c x is =
-    let a = c.beside.ensures.told c.in-Some.before c.in-Some.is in
-    let b = c.beside-2.ensures.told c.in-Some-beside.behind c.in-Some-beside.is in
+pub returns-clause-links_back : goal.returns-clause-links_back
+returns-clause-links_back g c x is =
+    let a = c.beside.ensures.links_back c.in-Some.before c.in-Some.is in
+    let b = c.beside-2.ensures.links_back c.in-Some-beside.behind c.in-Some-beside.is in
     rw (sym (some_same is)) (rw a.1 at a.0, rw b.1 at b.0)

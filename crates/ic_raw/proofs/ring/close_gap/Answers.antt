@@ -32,17 +32,17 @@ returns-clause-joined g c =
     let before = c.args.before in
     let behind = c.args.behind in
     record {
-      linked = c.set_prev.ensures.no_step before ∙ c.set_next.ensures.no_step before ∙ c.requires.before;
+      linked = c.set_prev.ensures.trace_stays before ∙ c.set_next.ensures.trace_stays before ∙ c.requires.before;
       next = keeps_next words c.set_prev.ensures.frame c.set_prev.ensures.set before ∙ ap (λ x. x.next) c.set_next.ensures.set;
-      stands = c.set_prev.ensures.no_step behind ∙ c.set_next.ensures.no_step behind ∙ c.requires.behind;
+      stands = c.set_prev.ensures.trace_stays behind ∙ c.set_next.ensures.trace_stays behind ∙ c.requires.behind;
       prev = ap (λ x. x.prev) c.set_prev.ensures.set;
     }
 
-pub returns-clause-told : goal.returns-clause-told
-returns-clause-told g c x y from to k =
+pub returns-clause-links_back : goal.returns-clause-links_back
+returns-clause-links_back g c x y from to k =
     let words = link_words g.W.Words g.W.NextWord g.W.PrevPlace in record {
-      linked = c.set_prev.ensures.no_step x ∙ c.set_next.ensures.no_step x ∙ k.linked;
+      linked = c.set_prev.ensures.trace_stays x ∙ c.set_next.ensures.trace_stays x ∙ k.linked;
       next = keeps_next words c.set_prev.ensures.frame c.set_prev.ensures.set x ∙ ap (λ e. (neighbors words e).next) (c.set_next.ensures.frame.others x from) ∙ k.next;
-      stands = c.set_prev.ensures.no_step y ∙ c.set_next.ensures.no_step y ∙ k.stands;
+      stands = c.set_prev.ensures.trace_stays y ∙ c.set_next.ensures.trace_stays y ∙ k.stands;
       prev = ap (λ e. (neighbors words e).prev) (c.set_prev.ensures.frame.others y to) ∙ keeps_prev words c.set_next.ensures.frame c.set_next.ensures.set y ∙ k.prev;
     }

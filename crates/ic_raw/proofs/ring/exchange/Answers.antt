@@ -41,35 +41,35 @@ returns-in_default-beside-clause-cuts g c (x ∷ r) (y ∷ s) circle last_r last
     ∙ c.beside-2.ensures.tells (c.args.other, x) (part_tells words (lent_table words c.args.links.now) y s x r (rotated {n = neighbors words} (x ∷ r) (y ∷ s) circle) last_s) refl))
 
 pub cross-requires-clause-first : goal.cross-requires-clause-first
-cross-requires-clause-first g c = (c.beside.ensures.told c.in-Some.first c.in-Some.is).0
+cross-requires-clause-first g c = (c.beside.ensures.links_back c.in-Some.first c.in-Some.is).0
 
 pub cross-requires-clause-second : goal.cross-requires-clause-second
-cross-requires-clause-second g c = (c.beside-2.ensures.told c.in-Some-beside.second c.in-Some-beside.is).0
+cross-requires-clause-second g c = (c.beside-2.ensures.links_back c.in-Some-beside.second c.in-Some-beside.is).0
 
 pub returns-clause-joins : goal.returns-clause-joins
 returns-clause-joins g c r s circle ring apart last_r last_s =
-    let a = c.beside.ensures.told c.in-Some.first c.in-Some.is in
-    let b = c.beside-2.ensures.told c.in-Some-beside.second c.in-Some-beside.is in
+    let a = c.beside.ensures.links_back c.in-Some.first c.in-Some.is in
+    let b = c.beside-2.ensures.links_back c.in-Some-beside.second c.in-Some-beside.is in
     (refl, c.cross.ensures.joins r s circle ring apart (last_r ∙ ap Some (sym a.1)) (last_s ∙ ap Some (sym b.1)))
 
 pub returns-clause-cuts : goal.returns-clause-cuts
 returns-clause-cuts g c r s circle last_r last_s =
-    let a = c.beside.ensures.told c.in-Some.first c.in-Some.is in
-    let b = c.beside-2.ensures.told c.in-Some-beside.second c.in-Some-beside.is in
+    let a = c.beside.ensures.links_back c.in-Some.first c.in-Some.is in
+    let b = c.beside-2.ensures.links_back c.in-Some-beside.second c.in-Some-beside.is in
     (refl, c.cross.ensures.cuts r s circle (last_r ∙ ap Some (sym a.1)) (last_s ∙ ap Some (sym b.1)))
 
-pub returns-clause-told : goal.returns-clause-told
-returns-clause-told g c made = let a = c.beside.ensures.told c.in-Some.first c.in-Some.is in (c.in-Some.first.1, rw a.1 at a.0)
+pub returns-clause-links_back : goal.returns-clause-links_back
+returns-clause-links_back g c made = let a = c.beside.ensures.links_back c.in-Some.first c.in-Some.is in (c.in-Some.first.1, rw a.1 at a.0)
 
 pub returns-clause-other : goal.returns-clause-other
-returns-clause-other g c made = let b = c.beside-2.ensures.told c.in-Some-beside.second c.in-Some-beside.is in (c.in-Some-beside.second.1, rw b.1 at b.0)
+returns-clause-other g c made = let b = c.beside-2.ensures.links_back c.in-Some-beside.second c.in-Some-beside.is in (c.in-Some-beside.second.1, rw b.1 at b.0)
 
 pub returns-clause-touched : goal.returns-clause-touched
 returns-clause-touched g c made =
     let words = link_words g.W.Words g.W.NextWord g.W.PrevPlace in
-    let a = c.beside.ensures.told c.in-Some.first c.in-Some.is in
-    let b = c.beside-2.ensures.told c.in-Some-beside.second c.in-Some-beside.is in record {
-      steps_are = c.cross.ensures.no_step;
+    let a = c.beside.ensures.links_back c.in-Some.first c.in-Some.is in
+    let b = c.beside-2.ensures.links_back c.in-Some-beside.second c.in-Some-beside.is in record {
+      steps_are = c.cross.ensures.trace_stays;
       others = λ q out.
           let one = apart_beside words After c.in-Some.first a.0 a.1 out.0 out.1.0 in
           let two = apart_beside words After c.in-Some-beside.second b.0 b.1 out.1.1.0 out.1.1.1.0 in

@@ -9,12 +9,12 @@ use Rattle.ic_raw.proofs.ring.link_between.Goals as goal
 pub set_prev-requires-clause-prev : goal.set_prev-requires-clause-prev
 set_prev-requires-clause-prev g c =
     let words = link_words g.W.Words g.W.NextWord g.W.PrevPlace in
-    linked_has_room words g.met.W.Words.starts_unlinked c.args.links.now c.args.pair.0 c.requires.told.linked
+    linked_has_room words g.met.W.Words.starts_unlinked c.args.links.now c.args.pair.0 c.requires.links_back.linked
 
 pub set_next-requires-clause-next : goal.set_next-requires-clause-next
 set_next-requires-clause-next g c =
     let words = link_words g.W.Words g.W.NextWord g.W.PrevPlace in
-    linked_has_room words g.met.W.Words.starts_unlinked c.args.links.now c.args.pair.1 c.requires.told.stands
+    linked_has_room words g.met.W.Words.starts_unlinked c.args.links.now c.args.pair.1 c.requires.links_back.stands
 
 pub turn_to-requires-clause-place : goal.turn_to-requires-clause-place
 turn_to-requires-clause-place g c =
@@ -25,14 +25,14 @@ pub returns-clause-inserted : goal.returns-clause-inserted
 returns-clause-inserted g c side at r own circle out =
     let words = link_words g.W.Words g.W.NextWord g.W.PrevPlace in
     let pair = c.args.pair in
-    let told = c.requires.told in
+    let links_back = c.requires.links_back in
     let old = lent_table words c.args.links.now in
     let mid = lent_table words c.set_next.new.self in
     let same : (q : Place) → q ≢ c.args.place → mid.entry q ≡ old.entry q = λ q other. c.set_next.ensures.frame.others q other ∙ c.set_prev.ensures.frame.others q other in
-    let apart = not_beside words side old r circle pair told own c.args.place out in
+    let apart = not_beside words side old r circle pair links_back own c.args.place out in
     let kept = circle_beside {n = neighbors words} c.args.place circle out same in
-    let next = ap (λ e. (neighbors words e).next) (same pair.0 (λ e. apart.0 (sym e))) ∙ told.next in
-    let prev = ap (λ e. (neighbors words e).prev) (same pair.1 (λ e. apart.1 (sym e))) ∙ told.prev in
+    let next = ap (λ e. (neighbors words e).next) (same pair.0 (λ e. apart.0 (sym e))) ∙ links_back.next in
+    let prev = ap (λ e. (neighbors words e).prev) (same pair.1 (λ e. apart.1 (sym e))) ∙ links_back.prev in
     put_beside words side mid (lent_table words c.turn_to.new.links) r pair own next kept out
     (λ u ring away. c.turn_to.ensures.filled (pair.1 ∷ u) ring away (sym prev ∙ ring.chain.0.prev) refl (record {
       linked = ap (λ x. x.linked) c.set_next.ensures.set ∙ ap (λ x. x.linked) c.set_prev.ensures.set ∙ c.requires.held;

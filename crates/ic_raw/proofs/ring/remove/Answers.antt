@@ -10,43 +10,43 @@ pub returns-in_default-clause-removed : goal.returns-in_default-clause-removed
 returns-in_default-clause-removed g c r circle = absurd (some_there c.in_default.is (c.around.ensures.tells r circle))
 
 pub bypass-requires-clause-before : goal.bypass-requires-clause-before
-bypass-requires-clause-before g c = (c.around.ensures.told c.in-Some.pair c.in-Some.is).0.linked
+bypass-requires-clause-before g c = (c.around.ensures.links_back c.in-Some.pair c.in-Some.is).0.linked
 
 pub bypass-requires-clause-behind : goal.bypass-requires-clause-behind
-bypass-requires-clause-behind g c = (c.around.ensures.told c.in-Some.pair c.in-Some.is).1.stands
+bypass-requires-clause-behind g c = (c.around.ensures.links_back c.in-Some.pair c.in-Some.is).1.stands
 
 pub release_link-requires : goal.release_link-requires
-release_link-requires g c = record { linked = c.bypass.ensures.no_step c.args.place ∙ (c.around.ensures.told c.in-Some.pair c.in-Some.is).1.linked }
+release_link-requires g c = record { linked = c.bypass.ensures.trace_stays c.args.place ∙ (c.around.ensures.links_back c.in-Some.pair c.in-Some.is).1.linked }
 
 pub returns-clause-removed : goal.returns-clause-removed
 returns-clause-removed g c r circle =
     let words = link_words g.W.Words g.W.NextWord g.W.PrevPlace in
-    let told = c.around.ensures.told c.in-Some.pair c.in-Some.is in
-    let off = circle_taken {n = neighbors words} told.0.prev told.1.next (c.bypass.ensures.closed c.args.place) r circle in (
+    let links_back = c.around.ensures.links_back c.in-Some.pair c.in-Some.is in
+    let off = circle_taken {n = neighbors words} links_back.0.prev links_back.1.next (c.bypass.ensures.closed c.args.place) r circle in (
       refl,
       record {
         circle = circle_beside {n = neighbors words} c.args.place off circle.distinct.0 c.release_link.ensures.frame.others;
         frame = record {
           extent = c.release_link.ensures.frame.extent ∙ c.bypass.ensures.extent;
-          others = ring_frame {n = neighbors words} r circle told.0.prev told.1.next (λ q np nq nn. c.release_link.ensures.frame.others q nq ∙ c.bypass.ensures.others q np nn);
+          others = ring_frame {n = neighbors words} r circle links_back.0.prev links_back.1.next (λ q np nq nn. c.release_link.ensures.frame.others q nq ∙ c.bypass.ensures.others q np nn);
         };
       },
     )
 
 pub returns-clause-before : goal.returns-clause-before
-returns-clause-before g c made = (c.in-Some.pair.0, (c.around.ensures.told c.in-Some.pair c.in-Some.is).0)
+returns-clause-before g c made = (c.in-Some.pair.0, (c.around.ensures.links_back c.in-Some.pair c.in-Some.is).0)
 
 pub returns-clause-behind : goal.returns-clause-behind
-returns-clause-behind g c made = (c.in-Some.pair.1, (c.around.ensures.told c.in-Some.pair c.in-Some.is).1)
+returns-clause-behind g c made = (c.in-Some.pair.1, (c.around.ensures.links_back c.in-Some.pair c.in-Some.is).1)
 
 pub returns-clause-touched : goal.returns-clause-touched
 returns-clause-touched g c made =
     let words = link_words g.W.Words g.W.NextWord g.W.PrevPlace in
-    let told = c.around.ensures.told c.in-Some.pair c.in-Some.is in
+    let links_back = c.around.ensures.links_back c.in-Some.pair c.in-Some.is in
     let off = c.release_link.ensures in record {
-      steps_are = unlinks_last c.bypass.ensures.no_step off.released;
+      steps_are = unlinks_last c.bypass.ensures.trace_stays off.released;
       others = λ q out.
-          let apart = apart_around words told.0 told.1 out.1.0 out.1.1.0 in off.frame.others q (other_place out.0) ∙ c.bypass.ensures.others q apart.0 apart.1;
+          let apart = apart_around words links_back.0 links_back.1 out.1.0 out.1.1.0 in off.frame.others q (other_place out.0) ∙ c.bypass.ensures.others q apart.0 apart.1;
     }
 
 pub returns-clause-extent : goal.returns-clause-extent

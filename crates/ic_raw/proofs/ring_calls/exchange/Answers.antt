@@ -23,8 +23,8 @@ returns-then-not-exchange g c =
           absurd (never c.if-not-exchange.true (c.exchange.ensures.cuts r s (circle_viewed words c.new-links.result c.new-links.ensures.1 circle)
           (last_r ∙ ap Some (sym one)) (last_s ∙ ap Some (sym other))).0);
       null = search rules;
-      told = search rules;
-      told_other = search rules;
+      links_back = search rules;
+      links_back_other = search rules;
       touched = search rules;
       refused = search rules;
       why = search rules;
@@ -48,11 +48,11 @@ returns g c =
           let done = (c.exchange.ensures.cuts r s (circle_viewed words c.new-links.result view circle) (last_r ∙ ap Some (sym one)) (last_s ∙ ap Some (sym other))).1 in
           record { accepted = refl; done = makes_two_back words c.new-links.result c.exchange.new.links view (search rules) done };
       null = search rules;
-      told = λ x is_one made.
-          let k = c.exchange.ensures.told c.if-not-exchange.false in
+      links_back = λ x is_one made.
+          let k = c.exchange.ensures.links_back c.if-not-exchange.false in
           let one : c.in-Some.first ≡ x = some_same (sym c.in-Some.is ∙ c.place_of.ensures ∙ is_one) in
           (k.0, rw one at (told_back words c.new-links.result c.new-links.ensures.1 k.1));
-      told_other = λ y is_other made.
+      links_back_other = λ y is_other made.
           let k = c.exchange.ensures.other c.if-not-exchange.false in
           let other : c.in-Some-place_of.second ≡ y = some_same (sym c.in-Some-place_of.is ∙ c.place_of-2.ensures ∙ is_other) in
           (k.0, rw other at (told_back words c.new-links.result c.new-links.ensures.1 k.1));

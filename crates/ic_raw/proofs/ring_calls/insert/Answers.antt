@@ -18,7 +18,7 @@ returns-then-not-insert g c =
       free = search rules;
       no_place = search rules;
       null = search rules;
-      told = search rules;
+      links_back = search rules;
       touched = search rules;
       refused = search rules;
       why = search rules;
@@ -38,9 +38,9 @@ returns g c =
       free = search rules;
       no_place = search rules;
       null = search rules;
-      told = λ h is_at made.
-          let told = c.insert.ensures.told c.if-not-insert.false in
-          (told.0, told_back words c.new-links.result c.new-links.ensures.1 told.1, told.2 ∙ some_same (sym c.in-Some.is ∙ c.place_of.ensures ∙ is_at));
+      links_back = λ h is_at made.
+          let links_back = c.insert.ensures.links_back c.if-not-insert.false in
+          (links_back.0, told_back words c.new-links.result c.new-links.ensures.1 links_back.1, links_back.2 ∙ some_same (sym c.in-Some.is ∙ c.place_of.ensures ∙ is_at));
       touched = λ h p is_at is_place made.
           let view = c.new-links.ensures.1 in
           let same : c.in-Some.member ≡ h = some_same (sym c.in-Some.is ∙ c.place_of.ensures ∙ is_at) in

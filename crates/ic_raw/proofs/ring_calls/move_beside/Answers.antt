@@ -37,7 +37,7 @@ returns g c =
           let here : IsCircle words (lent_table words links) (member ∷ r) = rw place (circle_viewed words links view circle) in
           let got = (c.move_beside.ensures.itself r (to ∙ sym place) here).1 in
           record { accepted = refl; done = same_back words links c.move_beside.new.links view (search rules) got };
-      told = λ p is ok.
+      links_back = λ p is ok.
           let place : member ≡ p = some_same (sym c.in-Some-place_of.is ∙ c.place_of-2.ensures ∙ is) in
           rw place at (amid_back words links view (c.move_beside.ensures.before c.if-not-move_beside.false) (c.move_beside.ensures.behind c.if-not-move_beside.false));
       linked = λ h is ok.

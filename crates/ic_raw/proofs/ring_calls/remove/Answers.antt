@@ -15,7 +15,7 @@ returns-then-not-remove g c =
           let here : IsCircle words (lent_table words c.new-links.result) (c.in-Some.member ∷ r) = rw same (circle_viewed words c.new-links.result c.new-links.ensures.1 circle) in
           absurd (never c.if-not-remove.true (c.remove.ensures.removed r here).0);
       null = search rules;
-      told = search rules;
+      links_back = search rules;
       touched = search rules;
       refused = search rules;
       why = search rules;
@@ -40,7 +40,7 @@ returns g c =
             );
           };
       null = search rules;
-      told = λ p is made.
+      links_back = λ p is made.
           let same : c.in-Some.member ≡ p = some_same (sym c.in-Some.is ∙ c.place_of.ensures ∙ is) in
           rw same at (amid_back words c.new-links.result c.new-links.ensures.1 (c.remove.ensures.before c.if-not-remove.false) (c.remove.ensures.behind c.if-not-remove.false));
       touched = λ p is made.

@@ -19,7 +19,7 @@ returns-then-not-replace g c =
           absurd (never c.if-not-replace.true (c.replace.ensures.replaced p r (c.place_of-2.ensures ∙ is_place) (free_viewed words links view free) here).0);
       free = search rules;
       no_place = search rules;
-      told = search rules;
+      links_back = search rules;
       touched = search rules;
       null = search rules;
       refused = search rules;
@@ -45,7 +45,7 @@ returns g c =
           };
       free = search rules;
       no_place = search rules;
-      told = λ h is ok.
+      links_back = λ h is ok.
           let same : c.in-Some.member ≡ h = some_same (sym c.in-Some.is ∙ c.place_of.ensures ∙ is) in
           rw same at (amid_back words links view (c.replace.ensures.before c.if-not-replace.false) (c.replace.ensures.behind c.if-not-replace.false));
       touched = λ h p is_at is_place ok.

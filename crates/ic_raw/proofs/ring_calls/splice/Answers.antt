@@ -24,7 +24,7 @@ returns g c =
           let got = (c.splice.ensures.spliced r s there here far).1 in
           let named : MakesTwo words (lent_table words links) (lent_table words c.splice.new.links) (h ∷ r ++ g ∷ s) (all_put_in c.args.side h r s) (g ∷ []) = rw (to, from) at got in
           record { accepted = refl; done = makes_two_back words links c.splice.new.links view (search rules) named };
-      told = λ g is ok.
+      links_back = λ g is ok.
           let from : given ≡ g = some_same (sym c.in-Some-place_of.is ∙ c.place_of-2.ensures ∙ is) in
           rw from at (amid_back words links view (c.splice.ensures.before c.if-not-splice.false) (c.splice.ensures.behind c.if-not-splice.false));
       linked = λ h is ok.

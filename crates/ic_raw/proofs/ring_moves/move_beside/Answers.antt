@@ -27,7 +27,7 @@ returns-then-eq-clause-within g c r s circle =
 
 pub returns-then-eq-clause-linked : goal.returns-then-eq-clause-linked
 returns-then-eq-clause-linked g c made =
-    rw (tested_same c.args.at c.args.place (sym c.eq.ensures ∙ c.if-eq.true)) (c.around.ensures.told c.in-Some.from c.in-Some.is).0.stands
+    rw (tested_same c.args.at c.args.place (sym c.eq.ensures ∙ c.if-eq.true)) (c.around.ensures.links_back c.in-Some.from c.in-Some.is).0.stands
 
 pub returns-in_default-beside-clause-apart : goal.returns-in_default-beside-clause-apart
 returns-in_default-beside-clause-apart g c r s circle ring away =
@@ -47,37 +47,37 @@ returns-in_default-beside-clause-itself g c r same circle = absurd (tested_other
 pub returns-then-eq-2-clause-apart : goal.returns-then-eq-2-clause-apart
 returns-then-eq-2-clause-apart g c r s circle ring away =
     let words = link_words g.W.Words g.W.NextWord g.W.PrevPlace in
-    let told = c.beside.ensures.told c.in-Some-beside.to c.in-Some-beside.is in
-    let apart = not_beside words c.args.side (lent_table words c.args.links.now) s ring c.in-Some-beside.to told.0 told.1 c.args.place away.0 in
+    let links_back = c.beside.ensures.links_back c.in-Some-beside.to c.in-Some-beside.is in
+    let apart = not_beside words c.args.side (lent_table words c.args.links.now) s ring c.in-Some-beside.to links_back.0 links_back.1 c.args.place away.0 in
     absurd (neighbor_not c.args.side c.in-Some-beside.to apart (sym c.neighbor_on.ensures ∙ tested_same _ _ (sym c.eq-2.ensures ∙ c.if-eq-2.true)))
 
 pub returns-then-eq-2-clause-within : goal.returns-then-eq-2-clause-within
 returns-then-eq-2-clause-within g c r s circle =
     let words = link_words g.W.Words g.W.NextWord g.W.PrevPlace in
-    let told = c.beside.ensures.told c.in-Some-beside.to c.in-Some-beside.is in
+    let links_back = c.beside.ensures.links_back c.in-Some-beside.to c.in-Some-beside.is in
     let there = sym c.neighbor_on.ensures ∙ tested_same _ _ (sym c.eq-2.ensures ∙ c.if-eq-2.true) in
-    (refl, record { circle = put_already words c.args.side (lent_table words c.args.links.now) c.args.at c.args.place r s circle c.in-Some-beside.to told.0 told.1 there; frame = record { extent = refl; others = λ q out. refl } })
+    (refl, record { circle = put_already words c.args.side (lent_table words c.args.links.now) c.args.at c.args.place r s circle c.in-Some-beside.to links_back.0 links_back.1 there; frame = record { extent = refl; others = λ q out. refl } })
 
 pub returns-then-eq-2-clause-itself : goal.returns-then-eq-2-clause-itself
 returns-then-eq-2-clause-itself g c r same circle = absurd (tested_other _ _ (sym c.eq.ensures ∙ c.if-eq.false) same)
 
 pub close_gap-requires-clause-before : goal.close_gap-requires-clause-before
-close_gap-requires-clause-before g c = (c.around.ensures.told c.in-Some.from c.in-Some.is).0.linked
+close_gap-requires-clause-before g c = (c.around.ensures.links_back c.in-Some.from c.in-Some.is).0.linked
 
 pub close_gap-requires-clause-behind : goal.close_gap-requires-clause-behind
-close_gap-requires-clause-behind g c = (c.around.ensures.told c.in-Some.from c.in-Some.is).1.stands
+close_gap-requires-clause-behind g c = (c.around.ensures.links_back c.in-Some.from c.in-Some.is).1.stands
 
 pub link_between-requires-clause-held : goal.link_between-requires-clause-held
-link_between-requires-clause-held g c = c.close_gap.ensures.no_step c.args.place ∙ (c.around.ensures.told c.in-Some.from c.in-Some.is).1.linked
+link_between-requires-clause-held g c = c.close_gap.ensures.trace_stays c.args.place ∙ (c.around.ensures.links_back c.in-Some.from c.in-Some.is).1.linked
 
-pub link_between-requires-clause-told : goal.link_between-requires-clause-told
-link_between-requires-clause-told g c =
+pub link_between-requires-clause-links_back : goal.link_between-requires-clause-links_back
+link_between-requires-clause-links_back g c =
     let words = link_words g.W.Words g.W.NextWord g.W.PrevPlace in
-    let from = c.around.ensures.told c.in-Some.from c.in-Some.is in
-    let to = c.beside.ensures.told c.in-Some-beside.to c.in-Some-beside.is in
+    let from = c.around.ensures.links_back c.in-Some.from c.in-Some.is in
+    let to = c.beside.ensures.links_back c.in-Some-beside.to c.in-Some-beside.is in
     let other = stays_told words c.args.side c.in-Some.from c.in-Some-beside.to from.0 from.1 to.0 to.1 (tested_other _ _ (sym c.eq.ensures ∙ c.if-eq.false))
     (λ e. tested_other _ _ (sym c.eq-2.ensures ∙ c.if-eq-2.false) (c.neighbor_on.ensures ∙ e)) in
-    c.close_gap.ensures.told _ _ other.0 other.1 to.0
+    c.close_gap.ensures.links_back _ _ other.0 other.1 to.0
 
 pub returns-clause-apart : goal.returns-clause-apart
 returns-clause-apart g c r s circle ring away =
@@ -86,18 +86,18 @@ returns-clause-apart g c r s circle ring away =
     let mid = lent_table words c.close_gap.new.links in
     let place = c.args.place in
     let at = c.args.at in
-    let from = c.around.ensures.told c.in-Some.from c.in-Some.is in
-    let to = c.beside.ensures.told c.in-Some-beside.to c.in-Some-beside.is in
+    let from = c.around.ensures.links_back c.in-Some.from c.in-Some.is in
+    let to = c.beside.ensures.links_back c.in-Some-beside.to c.in-Some-beside.is in
     let off = circle_taken {n = neighbors words} from.0.prev from.1.next (c.close_gap.ensures.closed place) r circle in
     let stays = circle_stays {n = neighbors words} (at ∷ s) (place ∷ r) ring (disjoint_sym (place ∷ r) (at ∷ s) away)
     (λ q out. c.close_gap.ensures.others q (prev_not {n = neighbors words} r circle from.0.prev out) (next_not {n = neighbors words} r circle from.1.next out)) in
     let other = stays_told words c.args.side c.in-Some.from c.in-Some-beside.to from.0 from.1 to.0 to.1 (tested_other _ _ (sym c.eq.ensures ∙ c.if-eq.false))
     (λ e. tested_other _ _ (sym c.eq-2.ensures ∙ c.if-eq-2.false) (c.neighbor_on.ensures ∙ e)) in
-    let told = c.close_gap.ensures.told _ _ other.0 other.1 to.0 in (
+    let links_back = c.close_gap.ensures.links_back _ _ other.0 other.1 to.0 in (
       refl,
       record {
         circle = circle_stays {n = neighbors words} r (place ∷ at ∷ s) off (disjoint_cons place r (at ∷ s) circle.distinct.0 away.1)
-            (λ q out. let beside = not_beside words c.args.side mid s stays c.in-Some-beside.to told to.1 q out.1 in c.link_between.ensures.others q out.0 beside.0 beside.1);
+            (λ q out. let beside = not_beside words c.args.side mid s stays c.in-Some-beside.to links_back to.1 q out.1 in c.link_between.ensures.others q out.0 beside.0 beside.1);
         beside = c.link_between.ensures.inserted c.args.side at s to.1 stays away.0;
         frame = record {
           extent = c.link_between.ensures.extent ∙ c.close_gap.ensures.extent;
@@ -117,8 +117,8 @@ returns-clause-within g c r s circle =
     let old = lent_table words c.args.links.now in
     let place = c.args.place in
     let at = c.args.at in
-    let from = c.around.ensures.told c.in-Some.from c.in-Some.is in
-    let to = c.beside.ensures.told c.in-Some-beside.to c.in-Some-beside.is in
+    let from = c.around.ensures.links_back c.in-Some.from c.in-Some.is in
+    let to = c.beside.ensures.links_back c.in-Some-beside.to c.in-Some-beside.is in
     let rest = r ++ at ∷ s in
     let off = circle_taken {n = neighbors words} from.0.prev from.1.next (c.close_gap.ensures.closed place) rest circle in
     let ring = rotated {n = neighbors words} (place ∷ r) (at ∷ s) circle in (
@@ -139,32 +139,32 @@ pub returns-clause-itself : goal.returns-clause-itself
 returns-clause-itself g c r same circle = absurd (tested_other _ _ (sym c.eq.ensures ∙ c.if-eq.false) same)
 
 pub returns-clause-before : goal.returns-clause-before
-returns-clause-before g c made = (c.in-Some.from.0, (c.around.ensures.told c.in-Some.from c.in-Some.is).0)
+returns-clause-before g c made = (c.in-Some.from.0, (c.around.ensures.links_back c.in-Some.from c.in-Some.is).0)
 
 pub returns-clause-behind : goal.returns-clause-behind
-returns-clause-behind g c made = (c.in-Some.from.1, (c.around.ensures.told c.in-Some.from c.in-Some.is).1)
+returns-clause-behind g c made = (c.in-Some.from.1, (c.around.ensures.links_back c.in-Some.from c.in-Some.is).1)
 
 pub returns-then-eq-2-clause-linked : goal.returns-then-eq-2-clause-linked
 returns-then-eq-2-clause-linked g c made =
     let words = link_words g.W.Words g.W.NextWord g.W.PrevPlace in
-    let to = c.beside.ensures.told c.in-Some-beside.to c.in-Some-beside.is in own_linked words c.args.side c.in-Some-beside.to to.0 to.1
+    let to = c.beside.ensures.links_back c.in-Some-beside.to c.in-Some-beside.is in own_linked words c.args.side c.in-Some-beside.to to.0 to.1
 
 pub returns-clause-linked : goal.returns-clause-linked
 returns-clause-linked g c made =
     let words = link_words g.W.Words g.W.NextWord g.W.PrevPlace in
-    let to = c.beside.ensures.told c.in-Some-beside.to c.in-Some-beside.is in own_linked words c.args.side c.in-Some-beside.to to.0 to.1
+    let to = c.beside.ensures.links_back c.in-Some-beside.to c.in-Some-beside.is in own_linked words c.args.side c.in-Some-beside.to to.0 to.1
 
 pub returns-then-eq-clause-before : goal.returns-then-eq-clause-before
-returns-then-eq-clause-before g c made = (c.in-Some.from.0, (c.around.ensures.told c.in-Some.from c.in-Some.is).0)
+returns-then-eq-clause-before g c made = (c.in-Some.from.0, (c.around.ensures.links_back c.in-Some.from c.in-Some.is).0)
 
 pub returns-then-eq-clause-behind : goal.returns-then-eq-clause-behind
-returns-then-eq-clause-behind g c made = (c.in-Some.from.1, (c.around.ensures.told c.in-Some.from c.in-Some.is).1)
+returns-then-eq-clause-behind g c made = (c.in-Some.from.1, (c.around.ensures.links_back c.in-Some.from c.in-Some.is).1)
 
 pub returns-then-eq-2-clause-before : goal.returns-then-eq-2-clause-before
-returns-then-eq-2-clause-before g c made = (c.in-Some.from.0, (c.around.ensures.told c.in-Some.from c.in-Some.is).0)
+returns-then-eq-2-clause-before g c made = (c.in-Some.from.0, (c.around.ensures.links_back c.in-Some.from c.in-Some.is).0)
 
 pub returns-then-eq-2-clause-behind : goal.returns-then-eq-2-clause-behind
-returns-then-eq-2-clause-behind g c made = (c.in-Some.from.1, (c.around.ensures.told c.in-Some.from c.in-Some.is).1)
+returns-then-eq-2-clause-behind g c made = (c.in-Some.from.1, (c.around.ensures.links_back c.in-Some.from c.in-Some.is).1)
 
 pub returns-then-eq-clause-touched : goal.returns-then-eq-clause-touched
 returns-then-eq-clause-touched g c made = record { steps_are = λ q. refl; others = λ q out. refl }
@@ -175,9 +175,9 @@ returns-then-eq-2-clause-touched g c made = record { steps_are = λ q. refl; oth
 pub returns-clause-touched : goal.returns-clause-touched
 returns-clause-touched g c made =
     let words = link_words g.W.Words g.W.NextWord g.W.PrevPlace in
-    let from = c.around.ensures.told c.in-Some.from c.in-Some.is in
-    let to = c.beside.ensures.told c.in-Some-beside.to c.in-Some-beside.is in record {
-      steps_are = λ q. c.link_between.ensures.no_step q ∙ c.close_gap.ensures.no_step q;
+    let from = c.around.ensures.links_back c.in-Some.from c.in-Some.is in
+    let to = c.beside.ensures.links_back c.in-Some-beside.to c.in-Some-beside.is in record {
+      steps_are = λ q. c.link_between.ensures.trace_stays q ∙ c.close_gap.ensures.trace_stays q;
       others = λ q out.
           let off = apart_around words from.0 from.1 out.1.0 out.1.1.0 in
           let on = apart_beside words c.args.side c.in-Some-beside.to to.0 to.1 out.1.1.1.0 out.1.1.1.1.0 in

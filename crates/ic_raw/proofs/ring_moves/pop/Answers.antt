@@ -48,8 +48,8 @@ returns-clause-empty g c circle =
 pub returns-clause-beside : goal.returns-clause-beside
 returns-clause-beside g c p is =
     let words = link_words g.W.Words g.W.NextWord g.W.PrevPlace in
-    let told = c.beside.ensures.told c.in-Some.pair c.in-Some.is in
-    beside_told words c.args.side c.in-Some.pair told.0 told.1 ∙ ap Some (sym c.neighbor_on-member.ensures) ∙ is
+    let links_back = c.beside.ensures.links_back c.in-Some.pair c.in-Some.is in
+    beside_told words c.args.side c.in-Some.pair links_back.0 links_back.1 ∙ ap Some (sym c.neighbor_on-member.ensures) ∙ is
 
 pub returns-clause-touched : goal.returns-clause-touched
 returns-clause-touched g c p is = rw (sym (some_same is)) (c.remove.ensures.touched c.if-not-remove.false)

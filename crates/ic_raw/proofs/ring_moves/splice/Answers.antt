@@ -20,15 +20,15 @@ returns-in_default-beside-clause-spliced g c r s ring circle away =
 pub returns-then-eq-clause-spliced : goal.returns-then-eq-clause-spliced
 returns-then-eq-clause-spliced g c r s ring circle away =
     let words = link_words g.W.Words g.W.NextWord g.W.PrevPlace in
-    let to = c.beside.ensures.told c.in-Some-beside.to c.in-Some-beside.is in
+    let to = c.beside.ensures.links_back c.in-Some-beside.to c.in-Some-beside.is in
     let out = (disjoint_sym (c.args.at ∷ r) (c.args.given ∷ s) away).0 in
     absurd ((not_beside words c.args.side (lent_table words c.args.links.now) r ring c.in-Some-beside.to to.0 to.1 c.args.given out).0 (sym (tested_same _ _ (sym c.eq.ensures ∙ c.if-eq.true))))
 
 pub returns-then-eq-2-clause-spliced : goal.returns-then-eq-2-clause-spliced
 returns-then-eq-2-clause-spliced g c r s ring circle away =
     let words = link_words g.W.Words g.W.NextWord g.W.PrevPlace in
-    let from = c.around.ensures.told c.in-Some.from c.in-Some.is in
-    let to = c.beside.ensures.told c.in-Some-beside.to c.in-Some-beside.is in
+    let from = c.around.ensures.links_back c.in-Some.from c.in-Some.is in
+    let to = c.beside.ensures.links_back c.in-Some-beside.to c.in-Some-beside.is in
     let is = sym circle.chain.0.prev ∙ from.0.prev in
     let out = subst (λ o. IsOutside o (c.args.at ∷ r)) is (last_outside None (c.args.given ∷ s) (c.args.at ∷ r) tt (disjoint_sym (c.args.at ∷ r) (c.args.given ∷ s) away)) in
     absurd ((not_beside words c.args.side (lent_table words c.args.links.now) r ring c.in-Some-beside.to to.0 to.1 c.in-Some.from.0 out).0 (sym (tested_same _ _ (sym c.eq-2.ensures ∙ c.if-eq-2.true))))
@@ -36,49 +36,49 @@ returns-then-eq-2-clause-spliced g c r s ring circle away =
 pub returns-then-eq-3-clause-spliced : goal.returns-then-eq-3-clause-spliced
 returns-then-eq-3-clause-spliced g c r s ring circle away =
     let words = link_words g.W.Words g.W.NextWord g.W.PrevPlace in
-    let from = c.around.ensures.told c.in-Some.from c.in-Some.is in
+    let from = c.around.ensures.links_back c.in-Some.from c.in-Some.is in
     let none = stands_alone words s circle from.0 (tested_same _ _ (sym c.eq-3.ensures ∙ c.if-eq-3.true)) in
     (refl, record { circle = rw none (none_put words c.args.side (lent_table words c.args.links.now) c.args.at r ring); beside = rw none at circle; frame = record { extent = refl; others = λ q out. refl } })
 
 pub returns-then-eq-3-clause-linked : goal.returns-then-eq-3-clause-linked
 returns-then-eq-3-clause-linked g c made =
     let words = link_words g.W.Words g.W.NextWord g.W.PrevPlace in
-    let to = c.beside.ensures.told c.in-Some-beside.to c.in-Some-beside.is in own_linked words c.args.side c.in-Some-beside.to to.0 to.1
+    let to = c.beside.ensures.links_back c.in-Some-beside.to c.in-Some-beside.is in own_linked words c.args.side c.in-Some-beside.to to.0 to.1
 
 pub returns-then-eq-3-clause-other : goal.returns-then-eq-3-clause-other
 returns-then-eq-3-clause-other g c made =
     let words = link_words g.W.Words g.W.NextWord g.W.PrevPlace in
-    let from = c.around.ensures.told c.in-Some.from c.in-Some.is in
-    let to = c.beside.ensures.told c.in-Some-beside.to c.in-Some-beside.is in
+    let from = c.around.ensures.links_back c.in-Some.from c.in-Some.is in
+    let to = c.beside.ensures.links_back c.in-Some-beside.to c.in-Some-beside.is in
     splices_elsewhere words c.args.side c.in-Some-beside.to to.0 to.1 from.0 (tested_other _ _ (sym c.eq.ensures ∙ c.if-eq.false)) (tested_other _ _ (sym c.eq-2.ensures ∙ c.if-eq-2.false))
 
 pub close_gap-requires-clause-before : goal.close_gap-requires-clause-before
-close_gap-requires-clause-before g c = (c.around.ensures.told c.in-Some.from c.in-Some.is).0.linked
+close_gap-requires-clause-before g c = (c.around.ensures.links_back c.in-Some.from c.in-Some.is).0.linked
 
 pub close_gap-requires-clause-behind : goal.close_gap-requires-clause-behind
-close_gap-requires-clause-behind g c = (c.around.ensures.told c.in-Some.from c.in-Some.is).1.stands
+close_gap-requires-clause-behind g c = (c.around.ensures.links_back c.in-Some.from c.in-Some.is).1.stands
 
 pub cross-requires-clause-first : goal.cross-requires-clause-first
 cross-requires-clause-first g c =
     let words = link_words g.W.Words g.W.NextWord g.W.PrevPlace in
-    let from = c.around.ensures.told c.in-Some.from c.in-Some.is in
-    let to = c.beside.ensures.told c.in-Some-beside.to c.in-Some-beside.is in
-    c.close_gap.ensures.told _ _ (tested_other _ _ (sym c.eq-2.ensures ∙ c.if-eq-2.false))
+    let from = c.around.ensures.links_back c.in-Some.from c.in-Some.is in
+    let to = c.beside.ensures.links_back c.in-Some-beside.to c.in-Some-beside.is in
+    c.close_gap.ensures.links_back _ _ (tested_other _ _ (sym c.eq-2.ensures ∙ c.if-eq-2.false))
     (λ e. tested_other _ _ (sym c.eq.ensures ∙ c.if-eq.false) (some_same (sym to.0.prev ∙ ap (λ z. (neighbors words ((lent_table words c.args.links.now).entry z)).prev) e ∙ from.1.prev))) to.0
 
 pub set_prev-requires : goal.set_prev-requires
 set_prev-requires g c =
     let words = link_words g.W.Words g.W.NextWord g.W.PrevPlace in
     let given = c.args.given in
-    let stands = (c.around.ensures.told c.in-Some.from c.in-Some.is).1.linked in record {
-      linked = c.cross.ensures.no_step given ∙ c.close_gap.ensures.no_step given ∙ stands;
+    let stands = (c.around.ensures.links_back c.in-Some.from c.in-Some.is).1.linked in record {
+      linked = c.cross.ensures.trace_stays given ∙ c.close_gap.ensures.trace_stays given ∙ stands;
       prev = linked_has_room words g.met.W.Words.starts_unlinked c.args.links.now given stands;
     }
 
 pub set_next-requires-clause-next : goal.set_next-requires-clause-next
 set_next-requires-clause-next g c =
     let words = link_words g.W.Words g.W.NextWord g.W.PrevPlace in
-    linked_has_room words g.met.W.Words.starts_unlinked c.args.links.now c.args.given (c.around.ensures.told c.in-Some.from c.in-Some.is).1.linked
+    linked_has_room words g.met.W.Words.starts_unlinked c.args.links.now c.args.given (c.around.ensures.links_back c.in-Some.from c.in-Some.is).1.linked
 
 pub returns-clause-spliced : goal.returns-clause-spliced
 returns-clause-spliced g c r s ring circle away =
@@ -87,8 +87,8 @@ returns-clause-spliced g c r s ring circle away =
     let side = c.args.side in
     let at = c.args.at in
     let given = c.args.given in
-    let from = c.around.ensures.told c.in-Some.from c.in-Some.is in
-    let to = c.beside.ensures.told c.in-Some-beside.to c.in-Some-beside.is in
+    let from = c.around.ensures.links_back c.in-Some.from c.in-Some.is in
+    let to = c.beside.ensures.links_back c.in-Some-beside.to c.in-Some-beside.is in
     let rest = disjoint_sym (at ∷ r) (given ∷ s) away in
     let off = circle_taken {n = neighbors words} from.0.prev from.1.next (c.close_gap.ensures.closed given) s circle in
     let stays = circle_stays {n = neighbors words} (at ∷ r) (given ∷ s) ring away
@@ -106,7 +106,7 @@ returns-clause-spliced g c r s ring circle away =
           chain = (
             record {
               linked = ap (λ x. x.linked) c.set_next.ensures.set ∙ ap (λ x. x.linked) c.set_prev.ensures.set
-                  ∙ c.cross.ensures.no_step given ∙ c.close_gap.ensures.no_step given ∙ from.1.linked;
+                  ∙ c.cross.ensures.trace_stays given ∙ c.close_gap.ensures.trace_stays given ∙ from.1.linked;
               prev = ap (λ x. x.prev) c.set_next.ensures.set ∙ ap (λ x. x.prev) c.set_prev.ensures.set;
               next = ap (λ x. x.next) c.set_next.ensures.set;
             },
@@ -125,28 +125,28 @@ returns-clause-spliced g c r s ring circle away =
     )
 
 pub returns-clause-before : goal.returns-clause-before
-returns-clause-before g c made = (c.in-Some.from.0, (c.around.ensures.told c.in-Some.from c.in-Some.is).0)
+returns-clause-before g c made = (c.in-Some.from.0, (c.around.ensures.links_back c.in-Some.from c.in-Some.is).0)
 
 pub returns-clause-behind : goal.returns-clause-behind
-returns-clause-behind g c made = (c.in-Some.from.1, (c.around.ensures.told c.in-Some.from c.in-Some.is).1)
+returns-clause-behind g c made = (c.in-Some.from.1, (c.around.ensures.links_back c.in-Some.from c.in-Some.is).1)
 
 pub returns-clause-linked : goal.returns-clause-linked
 returns-clause-linked g c made =
     let words = link_words g.W.Words g.W.NextWord g.W.PrevPlace in
-    let to = c.beside.ensures.told c.in-Some-beside.to c.in-Some-beside.is in own_linked words c.args.side c.in-Some-beside.to to.0 to.1
+    let to = c.beside.ensures.links_back c.in-Some-beside.to c.in-Some-beside.is in own_linked words c.args.side c.in-Some-beside.to to.0 to.1
 
 pub returns-clause-other : goal.returns-clause-other
 returns-clause-other g c made =
     let words = link_words g.W.Words g.W.NextWord g.W.PrevPlace in
-    let from = c.around.ensures.told c.in-Some.from c.in-Some.is in
-    let to = c.beside.ensures.told c.in-Some-beside.to c.in-Some-beside.is in
+    let from = c.around.ensures.links_back c.in-Some.from c.in-Some.is in
+    let to = c.beside.ensures.links_back c.in-Some-beside.to c.in-Some-beside.is in
     splices_elsewhere words c.args.side c.in-Some-beside.to to.0 to.1 from.0 (tested_other _ _ (sym c.eq.ensures ∙ c.if-eq.false)) (tested_other _ _ (sym c.eq-2.ensures ∙ c.if-eq-2.false))
 
 pub returns-then-eq-3-clause-before : goal.returns-then-eq-3-clause-before
-returns-then-eq-3-clause-before g c made = (c.in-Some.from.0, (c.around.ensures.told c.in-Some.from c.in-Some.is).0)
+returns-then-eq-3-clause-before g c made = (c.in-Some.from.0, (c.around.ensures.links_back c.in-Some.from c.in-Some.is).0)
 
 pub returns-then-eq-3-clause-behind : goal.returns-then-eq-3-clause-behind
-returns-then-eq-3-clause-behind g c made = (c.in-Some.from.1, (c.around.ensures.told c.in-Some.from c.in-Some.is).1)
+returns-then-eq-3-clause-behind g c made = (c.in-Some.from.1, (c.around.ensures.links_back c.in-Some.from c.in-Some.is).1)
 
 pub returns-then-eq-3-clause-touched : goal.returns-then-eq-3-clause-touched
 returns-then-eq-3-clause-touched g c made = record { steps_are = λ q. refl; others = λ q out. refl }
@@ -154,9 +154,9 @@ returns-then-eq-3-clause-touched g c made = record { steps_are = λ q. refl; oth
 pub returns-clause-touched : goal.returns-clause-touched
 returns-clause-touched g c made =
     let words = link_words g.W.Words g.W.NextWord g.W.PrevPlace in
-    let from = c.around.ensures.told c.in-Some.from c.in-Some.is in
-    let to = c.beside.ensures.told c.in-Some-beside.to c.in-Some-beside.is in record {
-      steps_are = λ q. c.set_next.ensures.no_step q ∙ c.set_prev.ensures.no_step q ∙ c.cross.ensures.no_step q ∙ c.close_gap.ensures.no_step q;
+    let from = c.around.ensures.links_back c.in-Some.from c.in-Some.is in
+    let to = c.beside.ensures.links_back c.in-Some-beside.to c.in-Some-beside.is in record {
+      steps_are = λ q. c.set_next.ensures.trace_stays q ∙ c.set_prev.ensures.trace_stays q ∙ c.cross.ensures.trace_stays q ∙ c.close_gap.ensures.trace_stays q;
       others = λ q out.
           let away = other_place out.0 in
           let off = apart_around words from.0 from.1 out.1.0 out.1.1.0 in

@@ -12,12 +12,12 @@ use Rattle.ic_raw.specs.Keys.{against, equals_of}
 use Rattle.ic_raw.specs.Seen.{seen_node, has_place}
 use Rattle.ic_raw.specs.Tree.{lent_table}
 use Rattle.ic_raw.proofs.Keys.{keyed, finds, ends_at, is_some, at_least}
-use Rattle.ic_raw.proofs.Trees.{in_range, end_in, closed, seen_shows}
+use Rattle.ic_raw.proofs.Trees.{in_range, end_in, closed, seen_represents}
 use Rattle.ic_raw.proofs.search.find.Goals as goal
 
 pub returns-in_default-clause-found : goal.returns-in_default-clause-found
 returns-in_default-clause-found c s shown =
-    let ends = c.descend.ensures.ends s (seen_shows (lent_table c.args.links.now) (in_range c.args.links.now) shown) in
+    let ends = c.descend.ensures.ends s (seen_represents (lent_table c.args.links.now) (in_range c.args.links.now) shown) in
     absurd (c.in_default.not-Some ends.0 ends.1)
 
 pub compare_at-requires : goal.compare_at-requires
@@ -28,14 +28,14 @@ compare_at-requires c =
 
 pub returns-in_default-get-clause-found : goal.returns-in_default-get-clause-found
 returns-in_default-get-clause-found c s shown =
-    let h = seen_shows (lent_table c.args.links.now) (in_range c.args.links.now) shown in
+    let h = seen_represents (lent_table c.args.links.now) (in_range c.args.links.now) shown in
     let at = against c.args.key c.args.keys.now in
     let ends = ends_at h.tree at (c.descend.ensures.ends s h) c.in-Some.is (c.equals_of.ensures ∙ ap equals_of c.in-Equal.is) in
     (None, refl, rw c.in-Equal.is (finds h ends (ap (if_passes (equal_at at)) (sym c.in_default-get.is ∙ c.get.ensures))))
 
 pub returns-then-is_eq-clause-found : goal.returns-then-is_eq-clause-found
 returns-then-is_eq-clause-found c s shown =
-    let h = seen_shows (lent_table c.args.links.now) (in_range c.args.links.now) shown in
+    let h = seen_represents (lent_table c.args.links.now) (in_range c.args.links.now) shown in
     let at = against c.args.key c.args.keys.now in
     let ends = ends_at h.tree at (c.descend.ensures.ends s h) c.in-Some.is (c.equals_of.ensures ∙ ap equals_of c.in-Equal.is) in
     let equal = sym c.if-is_eq.true ∙ c.is_eq.ensures ∙ ap is_eq c.compare_at.ensures in (
@@ -46,7 +46,7 @@ returns-then-is_eq-clause-found c s shown =
 
 pub returns-else-is_eq-clause-found : goal.returns-else-is_eq-clause-found
 returns-else-is_eq-clause-found c s shown =
-    let h = seen_shows (lent_table c.args.links.now) (in_range c.args.links.now) shown in
+    let h = seen_represents (lent_table c.args.links.now) (in_range c.args.links.now) shown in
     let at = against c.args.key c.args.keys.now in
     let ends = ends_at h.tree at (c.descend.ensures.ends s h) c.in-Some.is (c.equals_of.ensures ∙ ap equals_of c.in-Equal.is) in
     let other = sym c.if-is_eq.false ∙ c.is_eq.ensures ∙ ap is_eq c.compare_at.ensures in (
@@ -57,14 +57,14 @@ returns-else-is_eq-clause-found c s shown =
 
 pub returns-in-AtLeast-clause-found : goal.returns-in-AtLeast-clause-found
 returns-in-AtLeast-clause-found c s shown =
-    let h = seen_shows (lent_table c.args.links.now) (in_range c.args.links.now) shown in
+    let h = seen_represents (lent_table c.args.links.now) (in_range c.args.links.now) shown in
     let at = against c.args.key c.args.keys.now in
     let ends = ends_at h.tree at (c.descend.ensures.ends s h) c.in-Some.is (c.equals_of.ensures ∙ ap equals_of c.in-AtLeast.is) in
     (_, refl, rw c.in-AtLeast.is (lower_border seen_node h (Included at) (c.get-in-AtLeast.ensures ∙ ends.back_is)))
 
 pub returns-in-AtMost-clause-found : goal.returns-in-AtMost-clause-found
 returns-in-AtMost-clause-found c s shown =
-    let h = seen_shows (lent_table c.args.links.now) (in_range c.args.links.now) shown in
+    let h = seen_represents (lent_table c.args.links.now) (in_range c.args.links.now) shown in
     let at = against c.args.key c.args.keys.now in
     let ends = ends_at h.tree at (c.descend.ensures.ends s h) c.in-Some.is (c.equals_of.ensures ∙ ap equals_of c.in-AtMost.is) in (
       _,

@@ -32,8 +32,8 @@ returns-clause-found c s shown enough =
 
 pub returns-clause-bounded : goal.returns-clause-bounded
 returns-clause-bounded c ok =
-    let told = c.hand_out.ensures.told ok in
-    (told.0, told.2, told.3, c.find.ensures.bounded told.0 (c.in-Some.is ∙ ap Some told.1))
+    let links_back = c.hand_out.ensures.links_back ok in
+    (links_back.0, links_back.2, links_back.3, c.find.ensures.bounded links_back.0 (c.in-Some.is ∙ ap Some links_back.1))
 
 pub returns-clause-why : goal.returns-clause-why
 returns-clause-why c made found =
@@ -41,9 +41,9 @@ returns-clause-why c made found =
 
 pub returns-clause-reached : goal.returns-clause-reached
 returns-clause-reached c ok =
-    let told = c.hand_out.ensures.told ok in (
-      told.0,
-      told.2,
-      told.3,
-      (λ S h ends. let within = rw c.in-Some.is at (c.find.ensures.within S h) in in_there S within told.1),
+    let links_back = c.hand_out.ensures.links_back ok in (
+      links_back.0,
+      links_back.2,
+      links_back.3,
+      (λ S h ends. let within = rw c.in-Some.is at (c.find.ensures.within S h) in in_there S within links_back.1),
     )

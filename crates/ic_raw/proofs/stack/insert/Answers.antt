@@ -17,19 +17,19 @@ returns-clause-inserted c cut p shown after is free =
     )
 
 pub returns-in_default-clause-accepted : goal.returns-in_default-clause-accepted
-returns-in_default-clause-accepted c = ((λ e. absurd (never refl e)), (λ told. absurd (none_not _ (sym c.in_default.is ∙ c.gap_after.ensures.found told.1))))
+returns-in_default-clause-accepted c = ((λ e. absurd (never refl e)), (λ links_back. absurd (none_not _ (sym c.in_default.is ∙ c.gap_after.ensures.found links_back.1))))
 
 pub returns-in_default-acquire-clause-accepted : goal.returns-in_default-acquire-clause-accepted
 returns-in_default-acquire-clause-accepted c = (
   (λ e. absurd (never refl e)),
-  (λ told. let free = told.0 in absurd (none_not _ (sym c.in_default-acquire.is ∙ c.acquire.ensures.accepted free.0 free.1 free.2))),
+  (λ links_back. let free = links_back.0 in absurd (none_not _ (sym c.in_default-acquire.is ∙ c.acquire.ensures.accepted free.0 free.1 free.2))),
 )
 
 pub returns-clause-accepted : goal.returns-clause-accepted
 returns-clause-accepted c =
     let place = c.in-Some-acquire.place in
     let is = c.in-Some-acquire.is in
-    ((λ made. ((place, c.acquire.ensures.same place is, c.acquire.ensures.free place is), c.gap_after.ensures.told _ c.in-Some.is)), (λ told. refl))
+    ((λ made. ((place, c.acquire.ensures.same place is, c.acquire.ensures.free place is), c.gap_after.ensures.links_back _ c.in-Some.is)), (λ links_back. refl))
 
 pub returns-clause-own : goal.returns-clause-own
 returns-clause-own c made =
@@ -42,4 +42,4 @@ returns-clause-touched c p is made =
     let one : p ≡ place = some_same (sym is ∙ c.acquire.ensures.same place taken) in
     let put = c.insert_linked.ensures in
     rw (one, ← ap (λ g. g.before) (c.gap_after.ensures.is _ c.in-Some.is))
-    (touches_put (c.acquire.ensures.free place taken) (c.acquire.ensures.linked place taken) (c.acquire.ensures.frame place taken) put.no_step put.others)
+    (touches_put (c.acquire.ensures.free place taken) (c.acquire.ensures.linked place taken) (c.acquire.ensures.frame place taken) put.trace_stays put.others)

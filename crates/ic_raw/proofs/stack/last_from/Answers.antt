@@ -1,7 +1,7 @@
 use Rattle.std.proofs.Common.{Some, [], ◌∷◌, length, refl, sym, ap, ◌∙◌, arith}
 use Rattle.ic_link_ops.specs.SinglyLinkedList.{next_of}
 use Rattle.ic_link_ops.proofs.SequenceLemmas.{some_same}
-use Rattle.ic_link_ops.proofs.SinglyLists.{walk_of, walk_linked, shown_length}
+use Rattle.ic_link_ops.proofs.SinglyLists.{walk_of, walk_linked, represented_length}
 use Rattle.ic_chain.proofs.Walking.{rest_goes_on, rest_ends}
 use Rattle.ic_raw.specs.Singly.{lent_table, successor}
 use Rattle.ic_raw.proofs.Gaps.{never}
@@ -12,7 +12,7 @@ pub loop-left-init : goal.loop-left-init
 loop-left-init c =
     let t = lent_table c.args.links.now in record {
       leads = record { walked = []; chain = tt; starts = refl };
-      rest = λ s shown. (s, walk_of t shown, refl, rw c.places-left.ensures (shown_length t (covered c.args.links.now) _ s shown));
+      rest = λ s shown. (s, walk_of t shown, refl, rw c.places-left.ensures (represented_length t (covered c.args.links.now) _ s shown));
     }
 
 pub returns-then-not-is_linked-clause-shown : goal.returns-then-not-is_linked-clause-shown

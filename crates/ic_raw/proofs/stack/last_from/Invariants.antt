@@ -1,16 +1,15 @@
 use Rattle.std.proofs.Common.{◌≡◌, ◌≤◌, Some, List, length}
-use Rattle.ic_unsafe_ref.specs.declared.place.Place.{Place}
-use Rattle.ic_link_ops.specs.Sequences.{last}
+use Rattle.ic_link_ops.specs.Prelude.{Place, last}
 use Rattle.ic_link_ops.specs.SinglyLinkedList.{IsWalk, list_from}
-use Rattle.ic_raw.specs.Singly.{LeadsTo, Shows, lent_table, successor}
+use Rattle.ic_raw.specs.Singly.{LeadsTo, Represents, lent_table, successor}
 use Rattle.ic_raw.proofs.stack.last_from.Given as goal
 
--- the places from the front on lead here. What is left of the list, whichever sequence is shown, has the same last member, and fits into
+-- the places from the front on lead here. What is left of the list, whichever sequence is represented, has the same last member, and fits into
 -- the steps that are left
 abbrev pub invariant-loop-left : goal.invariant-loop-left
 invariant-loop-left l = record {
   leads : LeadsTo (lent_table l.fn.links) l.fn.front l.at;
-  rest : (s : List Place) → Shows (lent_table l.fn.links) (list_from (Some l.fn.front)) s
+  rest : (s : List Place) → Represents (lent_table l.fn.links) (list_from (Some l.fn.front)) s
       → (w : List Place) × IsWalk successor (lent_table l.fn.links).entry (Some l.at) w × (last s ≡ last w) × (length w ≤ l.left);
 }
 

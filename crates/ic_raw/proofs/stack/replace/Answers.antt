@@ -1,6 +1,6 @@
 use Rattle.std.proofs.Common.{◌≡◌, refl, sym, ◌∙◌}
 use Rattle.ic_link_ops.proofs.SequenceLemmas.{none_not, some_same}
-use Rattle.ic_link_ops.proofs.ShownLists.{shows_middle}
+use Rattle.ic_link_ops.proofs.RepresentedLists.{represents_middle}
 use Rattle.ic_raw.proofs.Gaps.{never}
 use Rattle.ic_raw.proofs.Singly.{law, touches_exchanged}
 use Rattle.ic_raw.proofs.Lists.{replaced}
@@ -9,7 +9,7 @@ use Rattle.ic_raw.proofs.stack.replace.Goals as goal
 pub returns-clause-replaced : goal.returns-clause-replaced
 returns-clause-replaced c front back p shown after is free =
     let one : p ≡ c.in-Some.place = some_same (sym is ∙ c.acquire.ensures.same c.in-Some.place c.in-Some.is) in
-    let behind = c.next-behind.ensures ∙ (shows_middle front back shown).next in
+    let behind = c.next-behind.ensures ∙ (represents_middle front back shown).next in
     let put = c.replace_linked.ensures in
     let released = c.release_link.ensures in
     rw one (
@@ -41,5 +41,5 @@ returns-clause-touched c p is made =
     let one : p ≡ place = some_same (sym is ∙ c.acquire.ensures.same place taken) in
     let put = c.replace_linked.ensures in
     let released = c.release_link.ensures in
-    rw one (touches_exchanged (c.acquire.ensures.free place taken) (c.acquire.ensures.linked place taken) (c.acquire.ensures.frame place taken) put.no_step put.others
+    rw one (touches_exchanged (c.acquire.ensures.free place taken) (c.acquire.ensures.linked place taken) (c.acquire.ensures.frame place taken) put.trace_stays put.others
     released.released released.frame)

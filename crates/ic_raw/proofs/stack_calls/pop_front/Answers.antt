@@ -3,7 +3,7 @@ use Rattle.ic_unsafe_ref.specs.declared.place.Place.{Place}
 use Rattle.ic_link_ops.proofs.SequenceLemmas.{some_same}
 use Rattle.ic_link_ops.specs.SinglyLinkedList.{Front}
 use Rattle.ic_raw.specs.Words.{no_word, is_linked_one, HasNumber}
-use Rattle.ic_raw.specs.Singly.{Shows, lent_table}
+use Rattle.ic_raw.specs.Singly.{Represents, lent_table}
 use Rattle.ic_raw.proofs.Views.{viewed, removed_back, unlinked_back}
 use Rattle.ic_raw.proofs.Lists.{kept}
 use Rattle.ic_raw.proofs.Own.{front_left}
@@ -15,7 +15,7 @@ pub returns-then-is_linked : goal.returns-then-is_linked
 returns-then-is_linked c = record {
   taken = λ s p shown.
       let view = c.new-links.ensures.1 in
-      let seen : Shows (lent_table c.new-links.result) c.stack_of-edited.result (p ∷ s) =
+      let seen : Represents (lent_table c.new-links.result) c.stack_of-edited.result (p ∷ s) =
       rw c.stack_of-edited.ensures (viewed no_word kept c.new-links.result view shown) in
       let one : p ≡ c.in-Some.member = some_same (sym (c.first.ensures ∙ seen.head) ∙ c.in-Some.is) in
       let off = c.remove.ensures.removed [] s (rw one at seen) refl in
@@ -33,7 +33,7 @@ returns-then-is_linked c = record {
   null = search rules;
   accepted =
       let first = member_first (lent_table c.new-links.result) (sym c.first.ensures ∙ c.in-Some.is) (sym c.is_linked.ensures ∙ c.if-is_linked.true) in
-      ((λ ok. (member_same c.new-links.result c.new-links.ensures.1 c.stack_of-edited.ensures refl).0 first), (λ told. refl));
+      ((λ ok. (member_same c.new-links.result c.new-links.ensures.1 c.stack_of-edited.ensures refl).0 first), (λ links_back. refl));
   own = λ made.
       let first = sym c.in-Some.is ∙ c.first.ensures ∙ ap (λ (l : Front). l.head) c.stack_of-edited.ensures in
       let front : ◌≡◌ {A = Option Place} None None = refl in

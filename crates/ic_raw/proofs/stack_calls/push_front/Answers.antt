@@ -1,7 +1,7 @@
 use Rattle.std.proofs.Common.{refl, ◌∙◌, rules}
 use Rattle.ic_link_ops.specs.Sequences.{join}
 use Rattle.ic_raw.specs.Words.{no_word}
-use Rattle.ic_raw.specs.Singly.{Shows, lent_table}
+use Rattle.ic_raw.specs.Singly.{Represents, lent_table}
 use Rattle.ic_raw.proofs.Views.{viewed, free_same, free_viewed, inserted_back}
 use Rattle.ic_raw.proofs.Lists.{kept}
 use Rattle.ic_raw.proofs.Gaps.{accepts, both, never, refuses}
@@ -13,7 +13,7 @@ pub returns-then-not-insert : goal.returns-then-not-insert
 returns-then-not-insert c = record {
   inserted = λ cut p after is shown free.
       let view = c.new-links.ensures.1 in
-      let seen : Shows (lent_table c.new-links.result) c.stack_of-edited.result (join cut) = rw c.stack_of-edited.ensures (viewed no_word kept c.new-links.result view shown) in
+      let seen : Represents (lent_table c.new-links.result) c.stack_of-edited.result (join cut) = rw c.stack_of-edited.ensures (viewed no_word kept c.new-links.result view shown) in
       absurd (never c.if-not-insert.true (c.insert.ensures.inserted cut p seen after (c.place_of.ensures ∙ is) (free_viewed no_word c.new-links.result view free)).0);
   accepted = refuses c.insert.ensures.accepted (both (free_same no_word c.new-links.result c.new-links.ensures.1 c.place_of.ensures) (gap_same c.new-links.result c.new-links.ensures.1 c.stack_of-edited.ensures refl)) c.if-not-insert.true c.refusal_at_end.ensures.refused.0;
   own = search rules;
@@ -28,7 +28,7 @@ pub returns : goal.returns
 returns c = record {
   inserted = λ cut p after is shown free.
       let view = c.new-links.ensures.1 in
-      let seen : Shows (lent_table c.new-links.result) c.stack_of-edited.result (join cut) = rw c.stack_of-edited.ensures (viewed no_word kept c.new-links.result view shown) in
+      let seen : Represents (lent_table c.new-links.result) c.stack_of-edited.result (join cut) = rw c.stack_of-edited.ensures (viewed no_word kept c.new-links.result view shown) in
       let put = c.insert.ensures.inserted cut p seen after (c.place_of.ensures ∙ is) (free_viewed no_word c.new-links.result view free) in
       record { accepted = refl; done = inserted_back no_word kept c.new-links.result c.insert.new.links view (search rules) (search rules) put.1 };
   accepted = accepts c.insert.ensures.accepted (both (free_same no_word c.new-links.result c.new-links.ensures.1 c.place_of.ensures) (gap_same c.new-links.result c.new-links.ensures.1 c.stack_of-edited.ensures refl)) c.if-not-insert.false refl;

@@ -4,10 +4,10 @@ use Rattle.ic_link_ops.proofs.SequenceLemmas.{some_same, none_not}
 use Rattle.ic_raw.specs.declared.gap.Gap.{Gap}
 use Rattle.ic_raw.specs.Gaps.{before}
 use Rattle.ic_raw.specs.Words.{no_word, is_linked_one, HasNumber}
-use Rattle.ic_raw.specs.Singly.{Shows, lent_table}
+use Rattle.ic_raw.specs.Singly.{Represents, lent_table}
 use Rattle.ic_raw.proofs.Views.{viewed, removed_back, unlinked_back}
 use Rattle.ic_raw.proofs.Lists.{kept}
-use Rattle.ic_raw.proofs.Singly.{behind_told, gap_viewed, member_same, member_told}
+use Rattle.ic_raw.proofs.Singly.{after_told, gap_viewed, member_same, member_told}
 use Rattle.ic_raw.proofs.Own.{front_left}
 use Rattle.ic_raw.proofs.Touches.{touched_back}
 use Rattle.ic_raw.proofs.stack_calls.remove_after.Goals as goal
@@ -26,7 +26,7 @@ returns-in_default c = record {
   null = search rules;
   accepted = (
     (λ ok. absurd (c.refusal_at.ensures.refused.0 ok)),
-    (λ told. absurd (none_not _ (sym c.in_default.is ∙ c.gap_after.ensures.found ((member_same c.new-links.result c.new-links.ensures.1 c.stack_of-edited.ensures c.place_of.ensures).1 told).0))),
+    (λ links_back. absurd (none_not _ (sym c.in_default.is ∙ c.gap_after.ensures.found ((member_same c.new-links.result c.new-links.ensures.1 c.stack_of-edited.ensures c.place_of.ensures).1 links_back).0))),
   );
   own = search rules;
   touched = search rules;
@@ -47,7 +47,7 @@ returns-in_default-behind c = record {
   null = search rules;
   accepted = (
     (λ ok. cc),
-    (λ told. absurd (((member_same c.new-links.result c.new-links.ensures.1 c.stack_of-edited.ensures c.place_of.ensures).1 told).1 (sym (ap (λ (g : Gap). g.behind) (c.gap_after.ensures.is _ c.in-Some.is)) ∙ c.in_default-behind.is))),
+    (λ links_back. absurd (((member_same c.new-links.result c.new-links.ensures.1 c.stack_of-edited.ensures c.place_of.ensures).1 links_back).1 (sym (ap (λ (g : Gap). g.behind) (c.gap_after.ensures.is _ c.in-Some.is)) ∙ c.in_default-behind.is))),
   );
   own = search rules;
   touched = search rules;
@@ -61,7 +61,7 @@ pub returns : goal.returns
 returns c = record {
   taken = λ front back p after shown.
       let view = c.new-links.ensures.1 in
-      let seen : Shows (lent_table c.new-links.result) c.stack_of-edited.result (front ++ p ∷ back) =
+      let seen : Represents (lent_table c.new-links.result) c.stack_of-edited.result (front ++ p ∷ back) =
       rw c.stack_of-edited.ensures (viewed no_word kept c.new-links.result view shown) in
       let gap = some_same (sym c.in-Some.is ∙ c.gap_after.ensures.shown (before p front back) seen (c.place_of.ensures ∙ after)) in
       let one : p ≡ c.in-Some-behind.member = some_same (sym (ap (λ g. g.behind) gap) ∙ c.in-Some-behind.is) in
@@ -75,7 +75,7 @@ returns c = record {
         );
       });
   handed = λ p is made.
-      let there = behind_told c.new-links.result c.args.list.now c.new-links.ensures.1 c.stack_of-edited.ensures c.place_of.ensures (c.gap_after.ensures.is _ c.in-Some.is) c.in-Some-behind.is in
+      let there = after_told c.new-links.result c.args.list.now c.new-links.ensures.1 c.stack_of-edited.ensures c.place_of.ensures (c.gap_after.ensures.is _ c.in-Some.is) c.in-Some-behind.is in
       subst (λ q. HasNumber q c.number_of.result) (some_same (sym there ∙ is)) c.number_of.ensures;
   nothing = λ s shown after.
       let finds = gap_viewed c.new-links.result c.new-links.ensures.1 c.stack_of-edited.ensures c.place_of.ensures c.gap_after.ensures.shown in
@@ -83,17 +83,17 @@ returns c = record {
       absurd (none_not _ (sym (ap (λ g. g.behind) (some_same (sym c.in-Some.is ∙ gap))) ∙ c.in-Some-behind.is));
   null = search rules;
   accepted = (
-    (λ ok. (member_same c.new-links.result c.new-links.ensures.1 c.stack_of-edited.ensures c.place_of.ensures).0 (member_told (lent_table c.new-links.result) c.stack_of-edited.result (c.gap_after.ensures.told _ c.in-Some.is) (c.gap_after.ensures.is _ c.in-Some.is) c.in-Some-behind.is)),
-    (λ told. refl),
+    (λ ok. (member_same c.new-links.result c.new-links.ensures.1 c.stack_of-edited.ensures c.place_of.ensures).0 (member_told (lent_table c.new-links.result) c.stack_of-edited.result (c.gap_after.ensures.links_back _ c.in-Some.is) (c.gap_after.ensures.is _ c.in-Some.is) c.in-Some-behind.is)),
+    (λ links_back. refl),
   );
   own = λ made.
       let view = c.new-links.ensures.1 in
-      let there = behind_told c.new-links.result c.args.list.now view c.stack_of-edited.ensures c.place_of.ensures (c.gap_after.ensures.is _ c.in-Some.is) c.in-Some-behind.is in
+      let there = after_told c.new-links.result c.args.list.now view c.stack_of-edited.ensures c.place_of.ensures (c.gap_after.ensures.is _ c.in-Some.is) c.in-Some-behind.is in
       let at = ap (λ g. g.before) (c.gap_after.ensures.is _ c.in-Some.is) ∙ c.place_of.ensures in
       front_left c.new-links.result c.args.list.now c.write_back.new.words view c.stack_of-edited.ensures c.write_back.ensures.set at there c.remove.ensures.own;
   touched = λ p is made.
       let view = c.new-links.ensures.1 in
-      let there = behind_told c.new-links.result c.args.list.now view c.stack_of-edited.ensures c.place_of.ensures (c.gap_after.ensures.is _ c.in-Some.is) c.in-Some-behind.is in
+      let there = after_told c.new-links.result c.args.list.now view c.stack_of-edited.ensures c.place_of.ensures (c.gap_after.ensures.is _ c.in-Some.is) c.in-Some-behind.is in
       let at = ap (λ g. g.before) (c.gap_after.ensures.is _ c.in-Some.is) ∙ c.place_of.ensures in
       let one : p ≡ c.in-Some-behind.member = some_same (sym is ∙ there) in
       rw (one, ← at) (touched_back no_word c.new-links.result c.remove.new.links view (search rules) refl c.remove.ensures.touched);

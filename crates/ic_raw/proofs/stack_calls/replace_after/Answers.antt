@@ -4,11 +4,11 @@ use Rattle.ic_link_ops.proofs.SequenceLemmas.{some_same, none_not}
 use Rattle.ic_raw.specs.declared.gap.Gap.{Gap}
 use Rattle.ic_raw.specs.Gaps.{before}
 use Rattle.ic_raw.specs.Words.{no_word, is_linked_one, HasNumber}
-use Rattle.ic_raw.specs.Singly.{Shows, lent_table}
+use Rattle.ic_raw.specs.Singly.{Represents, lent_table}
 use Rattle.ic_raw.proofs.Gaps.{never}
 use Rattle.ic_raw.proofs.Views.{free_same, free_viewed, viewed, replaced_back, unlinked_back}
 use Rattle.ic_raw.proofs.Lists.{kept}
-use Rattle.ic_raw.proofs.Singly.{behind_told, gap_viewed, member_same, member_told}
+use Rattle.ic_raw.proofs.Singly.{after_told, gap_viewed, member_same, member_told}
 use Rattle.ic_raw.proofs.Own.{front_put}
 use Rattle.ic_raw.proofs.Touches.{touched_back}
 use Rattle.ic_raw.proofs.stack_calls.replace_after.Goals as goal
@@ -27,7 +27,7 @@ returns-in_default c = record {
   null = search rules;
   accepted = (
     (λ ok. absurd (c.refusal.ensures.refused.0 ok)),
-    (λ told. absurd (none_not _ (sym c.in_default.is ∙ c.gap_after.ensures.found ((member_same c.new-links.result c.new-links.ensures.1 c.stack_of-edited.ensures c.place_of.ensures).1 told.1).0))),
+    (λ links_back. absurd (none_not _ (sym c.in_default.is ∙ c.gap_after.ensures.found ((member_same c.new-links.result c.new-links.ensures.1 c.stack_of-edited.ensures c.place_of.ensures).1 links_back.1).0))),
   );
   own = search rules;
   touched = search rules;
@@ -48,7 +48,7 @@ returns-in_default-behind c = record {
   null = search rules;
   accepted = (
     (λ ok. cc),
-    (λ told. absurd (((member_same c.new-links.result c.new-links.ensures.1 c.stack_of-edited.ensures c.place_of.ensures).1 told.1).1 (sym (ap (λ (g : Gap). g.behind) (c.gap_after.ensures.is _ c.in-Some.is)) ∙ c.in_default-behind.is))),
+    (λ links_back. absurd (((member_same c.new-links.result c.new-links.ensures.1 c.stack_of-edited.ensures c.place_of.ensures).1 links_back.1).1 (sym (ap (λ (g : Gap). g.behind) (c.gap_after.ensures.is _ c.in-Some.is)) ∙ c.in_default-behind.is))),
   );
   own = search rules;
   touched = search rules;
@@ -62,7 +62,7 @@ pub returns-then-not-replace : goal.returns-then-not-replace
 returns-then-not-replace c = record {
   replaced = λ front back out p after is shown free.
       let view = c.new-links.ensures.1 in
-      let seen : Shows (lent_table c.new-links.result) c.stack_of-edited.result (front ++ out ∷ back) =
+      let seen : Represents (lent_table c.new-links.result) c.stack_of-edited.result (front ++ out ∷ back) =
       rw c.stack_of-edited.ensures (viewed no_word kept c.new-links.result view shown) in
       let gap = some_same (sym c.in-Some.is ∙ c.gap_after.ensures.shown (before out front back) seen (c.place_of.ensures ∙ after)) in
       let one : out ≡ c.in-Some-behind.member = some_same (sym (ap (λ g. g.behind) gap) ∙ c.in-Some-behind.is) in
@@ -77,7 +77,7 @@ returns-then-not-replace c = record {
   null = search rules;
   accepted = (
     (λ ok. absurd (c.refusal-then-not-replace.ensures.refused.0 ok)),
-    (λ told. absurd (never c.if-not-replace.true (c.replace.ensures.accepted.1 ((free_same no_word c.new-links.result c.new-links.ensures.1 c.place_of-2.ensures).1 told.0)))),
+    (λ links_back. absurd (never c.if-not-replace.true (c.replace.ensures.accepted.1 ((free_same no_word c.new-links.result c.new-links.ensures.1 c.place_of-2.ensures).1 links_back.0)))),
   );
   own = search rules;
   touched = search rules;
@@ -91,7 +91,7 @@ pub returns : goal.returns
 returns c = record {
   replaced = λ front back out p after is shown free.
       let view = c.new-links.ensures.1 in
-      let seen : Shows (lent_table c.new-links.result) c.stack_of-edited.result (front ++ out ∷ back) =
+      let seen : Represents (lent_table c.new-links.result) c.stack_of-edited.result (front ++ out ∷ back) =
       rw c.stack_of-edited.ensures (viewed no_word kept c.new-links.result view shown) in
       let gap = some_same (sym c.in-Some.is ∙ c.gap_after.ensures.shown (before out front back) seen (c.place_of.ensures ∙ after)) in
       let one : out ≡ c.in-Some-behind.member = some_same (sym (ap (λ g. g.behind) gap) ∙ c.in-Some-behind.is) in
@@ -106,7 +106,7 @@ returns c = record {
         );
       });
   handed = λ p is made.
-      let there = behind_told c.new-links.result c.args.list.now c.new-links.ensures.1 c.stack_of-edited.ensures c.place_of.ensures (c.gap_after.ensures.is _ c.in-Some.is) c.in-Some-behind.is in
+      let there = after_told c.new-links.result c.args.list.now c.new-links.ensures.1 c.stack_of-edited.ensures c.place_of.ensures (c.gap_after.ensures.is _ c.in-Some.is) c.in-Some-behind.is in
       subst (λ q. HasNumber q c.number_of.result) (some_same (sym there ∙ is)) c.number_of.ensures;
   nothing = λ s shown after.
       let finds = gap_viewed c.new-links.result c.new-links.ensures.1 c.stack_of-edited.ensures c.place_of.ensures c.gap_after.ensures.shown in
@@ -116,16 +116,16 @@ returns c = record {
   accepted = (
     (λ ok. (
       (free_same no_word c.new-links.result c.new-links.ensures.1 c.place_of-2.ensures).0 (c.replace.ensures.accepted.0 c.if-not-replace.false),
-      (member_same c.new-links.result c.new-links.ensures.1 c.stack_of-edited.ensures c.place_of.ensures).0 (member_told (lent_table c.new-links.result) c.stack_of-edited.result (c.gap_after.ensures.told _ c.in-Some.is) (c.gap_after.ensures.is _ c.in-Some.is) c.in-Some-behind.is),
+      (member_same c.new-links.result c.new-links.ensures.1 c.stack_of-edited.ensures c.place_of.ensures).0 (member_told (lent_table c.new-links.result) c.stack_of-edited.result (c.gap_after.ensures.links_back _ c.in-Some.is) (c.gap_after.ensures.is _ c.in-Some.is) c.in-Some-behind.is),
     )),
-    (λ told. refl),
+    (λ links_back. refl),
   );
   own = λ made.
       let at = ap (λ g. g.before) (c.gap_after.ensures.is _ c.in-Some.is) ∙ c.place_of.ensures in
       front_put c.new-links.result c.args.list.now c.write_back.new.words c.new-links.ensures.1 c.stack_of-edited.ensures c.write_back.ensures.set at c.place_of-2.ensures (c.replace.ensures.own c.if-not-replace.false);
   touched = λ q p there is made.
       let view = c.new-links.ensures.1 in
-      let behind = behind_told c.new-links.result c.args.list.now view c.stack_of-edited.ensures c.place_of.ensures (c.gap_after.ensures.is _ c.in-Some.is) c.in-Some-behind.is in
+      let behind = after_told c.new-links.result c.args.list.now view c.stack_of-edited.ensures c.place_of.ensures (c.gap_after.ensures.is _ c.in-Some.is) c.in-Some-behind.is in
       let at = ap (λ g. g.before) (c.gap_after.ensures.is _ c.in-Some.is) ∙ c.place_of.ensures in
       let one : q ≡ c.in-Some-behind.member = some_same (sym there ∙ behind) in
       rw (one, ← at) (touched_back no_word c.new-links.result c.replace.new.links view (search rules) refl

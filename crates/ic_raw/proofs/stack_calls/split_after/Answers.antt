@@ -1,6 +1,6 @@
 use Rattle.std.proofs.Common.{[], ◌∷◌, refl, sym, ap, ◌∙◌, rules}
 use Rattle.ic_link_ops.specs.Sequences.{join}
-use Rattle.ic_raw.specs.Singly.{Shows, lent_table}
+use Rattle.ic_raw.specs.Singly.{Represents, lent_table}
 use Rattle.ic_raw.specs.Words.{no_word}
 use Rattle.ic_raw.proofs.Lists.{kept}
 use Rattle.ic_raw.proofs.Singly.{gap_same}
@@ -12,12 +12,12 @@ pub returns : goal.returns
 returns c = record {
   split = λ cut after nothing shown.
       let view = c.new-links.ensures.1 in
-      let seen : Shows (lent_table c.new-links.result) c.stack_of-edited.result (join cut) = rw c.stack_of-edited.ensures (viewed no_word kept c.new-links.result view shown) in
+      let seen : Represents (lent_table c.new-links.result) c.stack_of-edited.result (join cut) = rw c.stack_of-edited.ensures (viewed no_word kept c.new-links.result view shown) in
       let parts = (c.split.ensures.split cut seen (c.place_of.ensures ∙ after)).1 in
       record { accepted = refl; done = splits_back no_word kept c.new-links.result c.split.new.links view (search rules) (search rules) (search rules) parts };
   accepted =
       let same = gap_same c.new-links.result c.new-links.ensures.1 c.stack_of-edited.ensures c.place_of.ensures in
-      ((λ ok. (search rules, same.0 (c.split.ensures.accepted.0 c.if-not-split.false))), (λ told. refl));
+      ((λ ok. (search rules, same.0 (c.split.ensures.accepted.0 c.if-not-split.false))), (λ links_back. refl));
   own = search rules;
   touched = λ made.
       touched_back no_word c.new-links.result c.split.new.links c.new-links.ensures.1 (search rules) (ap (λ at. at ∷ []) (sym c.place_of.ensures))

@@ -1,4 +1,4 @@
 use Rattle.ic_raw.proofs.tree.hand_out.Goals as goal
 
-pub returns-then-tell-clause-told : goal.returns-then-tell-clause-told
-returns-then-tell-clause-told c ok = c.tell.ensures.told c.if-tell.true
+pub returns-then-tell-clause-links_back : goal.returns-then-tell-clause-links_back
+returns-then-tell-clause-links_back c ok = c.tell.ensures.links_back c.if-tell.true

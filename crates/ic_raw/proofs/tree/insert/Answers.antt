@@ -3,7 +3,7 @@ use Rattle.ic_raw.proofs.Trees.{in_range, end_in}
 use Rattle.ic_raw.proofs.tree.insert.Goals as goal
 
 pub put-requires : goal.put-requires
-put-requires c =
+put-requires g c =
     let old = lent_table c.args.links.now in
     let law = in_range c.args.links.now in
     let ok = c.if-not-is_hole.false in

@@ -1,9 +1,9 @@
 use Rattle.std.proofs.Common.{◌≡◌, [], Some, None, Option, refl, sym, ◌∙◌, subst}
 use Rattle.ic_link_ops.specs.Frames.{across}
-use Rattle.ic_rbtree.proofs.Removing.{shown_of, shows_of}
+use Rattle.ic_rbtree.proofs.Removing.{represented_of, represents_of}
 use Rattle.ic_rbtree.specs.Sides.{IsBeside}
 use Rattle.ic_raw.specs.Answers.{IsFound}
-use Rattle.ic_raw.specs.Gaps.{Stands}
+use Rattle.ic_raw.specs.Gaps.{IsNoneOrLinked}
 use Rattle.ic_raw.specs.Tree.{node, lent_table}
 use Rattle.ic_raw.specs.Seen.{seen, seen_node, has_place, HandsOutStep, StepEndsIn}
 use Rattle.ic_rbtree.specs.StepsTo.{StepsTo}
@@ -13,7 +13,7 @@ use Rattle.ic_unsafe_ref.specs.declared.place.Place.{Place}
 use Rattle.ic_link_ops.proofs.SequenceLemmas.{none_not}
 use Rattle.ic_raw.proofs.Faults.{by_others, faultless}
 use Rattle.ic_raw.proofs.Gaps.{never}
-use Rattle.ic_raw.proofs.Trees.{in_range, end_in, closed, beside_stands, one_beside, seen_shown}
+use Rattle.ic_raw.proofs.Trees.{in_range, end_in, closed, beside_stands, one_beside, seen_represented}
 use Rattle.ic_raw.proofs.tree.step.Goals as goal
 
 pub returns-then-not-stand-clause-found : goal.returns-then-not-stand-clause-found
@@ -37,48 +37,48 @@ tell-requires c =
 pub returns-then-tell-clause-found : goal.returns-then-tell-clause-found
 returns-then-tell-clause-found c cut member shown at is =
     let t = lent_table c.args.links.now in
-    let there = c.step_within-beside.ensures.leads cut (rw c.root.ensures (shows_of seen_node (seen_shown t (in_range c.args.links.now) [] (shown_of node shown) tt)))
+    let there = c.step_within-beside.ensures.leads cut (rw c.root.ensures (represents_of seen_node (seen_represented t (in_range c.args.links.now) [] (represented_of node shown) tt)))
     (subst (λ o. IsBeside c.args.side cut o) (sym c.place_of.ensures ∙ c.in-Some.is) at) in
-    let told = c.tell.ensures.told c.if-tell.true in
-    subst (λ o. IsFound o 0 c.tell.new.found) (sym told.1 ∙ one_beside (across c.args.side) cut there is) (record { accepted = refl; done = told.3 })
+    let links_back = c.tell.ensures.links_back c.if-tell.true in
+    subst (λ o. IsFound o 0 c.tell.new.found) (sym links_back.1 ∙ one_beside (across c.args.side) cut there is) (record { accepted = refl; done = links_back.3 })
 
 pub returns-then-tell-clause-looked : goal.returns-then-tell-clause-looked
 returns-then-tell-clause-looked c made =
     let ok = c.if-not-stand.false in
-    (subst (λ o. Stands is_linked_three (lent_table c.args.links.now) o) (sym c.in-Some.is ∙ c.place_of.ensures) (c.stand.ensures.at ok), c.stand.ensures.root ok)
+    (subst (λ o. IsNoneOrLinked is_linked_three (lent_table c.args.links.now) o) (sym c.in-Some.is ∙ c.place_of.ensures) (c.stand.ensures.at ok), c.stand.ensures.root ok)
 
 pub returns-clause-found : goal.returns-clause-found
 returns-clause-found c cut member shown at is =
     let t = lent_table c.args.links.now in
-    let there = c.step_within-beside.ensures.leads cut (rw c.root.ensures (shows_of seen_node (seen_shown t (in_range c.args.links.now) [] (shown_of node shown) tt)))
+    let there = c.step_within-beside.ensures.leads cut (rw c.root.ensures (represents_of seen_node (seen_represented t (in_range c.args.links.now) [] (represented_of node shown) tt)))
     (subst (λ o. IsBeside c.args.side cut o) (sym c.place_of.ensures ∙ c.in-Some.is) at) in
     subst (λ o. IsFound o c.nothing_found.result c.tell.new.found) (one_beside (across c.args.side) cut there is)
     (none_found c.step_within-beside.result refl (beside_stands (across c.args.side) cut shown there)) where
-      none_found : (o : Option Place) → c.step_within-beside.result ≡ o → Stands is_linked_three (lent_table c.args.links.now) c.step_within-beside.result → IsFound o c.nothing_found.result c.tell.new.found
+      none_found : (o : Option Place) → c.step_within-beside.result ≡ o → IsNoneOrLinked is_linked_three (lent_table c.args.links.now) c.step_within-beside.result → IsFound o c.nothing_found.result c.tell.new.found
       none_found None e stands = c.nothing_found.ensures.null.1 e
       none_found (Some q) e stands = absurd (never c.if-tell.false (c.tell.ensures.stands stands (λ none. none_not q (sym none ∙ e))))
 
 pub returns-clause-looked : goal.returns-clause-looked
 returns-clause-looked c made =
     let ok = c.if-not-stand.false in
-    (subst (λ o. Stands is_linked_three (lent_table c.args.links.now) o) (sym c.in-Some.is ∙ c.place_of.ensures) (c.stand.ensures.at ok), c.stand.ensures.root ok)
+    (subst (λ o. IsNoneOrLinked is_linked_three (lent_table c.args.links.now) o) (sym c.in-Some.is ∙ c.place_of.ensures) (c.stand.ensures.at ok), c.stand.ensures.root ok)
 
 pub returns-clause-why : goal.returns-clause-why
 returns-clause-why c made found =
     let t = lent_table c.args.links.now in
-    let stands = subst (λ o. Stands is_linked_three t o) (sym c.in-Some.is ∙ c.place_of.ensures) (c.stand.ensures.at c.if-not-stand.false) in
+    let stands = subst (λ o. IsNoneOrLinked is_linked_three t o) (sym c.in-Some.is ∙ c.place_of.ensures) (c.stand.ensures.at c.if-not-stand.false) in
     c.nothing_found.ensures.why found ∙ by_others [] (sym (faultless is_linked_three t (place_of c.args.at) stands)) refl
 
 -- the place that is named is the member from which the step begins
 pub returns-then-tell-clause-stepped : goal.returns-then-tell-clause-stepped
 returns-then-tell-clause-stepped c ok =
-    let told = c.tell.ensures.told c.if-tell.true in
+    let links_back = c.tell.ensures.links_back c.if-tell.true in
     let t = lent_table c.args.links.now in (
-      told.0,
-      told.2,
-      told.3,
-      subst (λ o. StepsTo seen_node (seen t) (root_of c.args.tree.now) c.args.side o told.0) (sym c.in-Some.is ∙ c.place_of.ensures)
-          (c.step_within-beside.ensures.reached told.0 told.1),
+      links_back.0,
+      links_back.2,
+      links_back.3,
+      subst (λ o. StepsTo seen_node (seen t) (root_of c.args.tree.now) c.args.side o links_back.0) (sym c.in-Some.is ∙ c.place_of.ensures)
+          (c.step_within-beside.ensures.reached links_back.0 links_back.1),
     )
 
 pub returns-clause-ended : goal.returns-clause-ended

@@ -1,14 +1,12 @@
 use Rattle.std.proofs.Common.{◌≡◌, false, not, Option, Some, None, is_some, true≢false, [], ◌∷◌, refl, sym, ap, ◌∙◌, subst, arith, rules}
-use Rattle.ic_unsafe_ref.specs.declared.place.Place.{Place}
-use Rattle.ic_link_ops.specs.Sequences.{at_front}
+use Rattle.ic_link_ops.specs.Prelude.{Place, at_front, IsLinked}
 use Rattle.ic_link_ops.proofs.SequenceLemmas.{none_not, some_same}
-use Rattle.ic_link_ops.proofs.ShownTrees.{holds_linked}
-use Rattle.ic_link_ops.specs.Tables.{IsLinked}
-use Rattle.ic_raw.specs.Gaps.{Stands}
+use Rattle.ic_link_ops.proofs.RepresentedTrees.{holds_linked}
+use Rattle.ic_raw.specs.Gaps.{IsNoneOrLinked}
 use Rattle.ic_raw.specs.Tree.{lent_table}
 use Rattle.ic_raw.specs.Words.{is_linked_three}
 use Rattle.ic_raw.proofs.Gaps.{never}
-use Rattle.ic_raw.proofs.Trees.{in_range, end_in, seen_shows}
+use Rattle.ic_raw.proofs.Trees.{in_range, end_in, seen_represents}
 use Rattle.ic_raw.proofs.TreeWalks.{seen_length, walk_starts, walk_member, walk_goes_on, walk_over}
 use Rattle.ic_raw.proofs.tree_clear.leads_to_end.Goals as goal
 
@@ -34,7 +32,7 @@ returns-in_default-clause-ended c stands made =
 pub returns-then-not-is_linked-clause-shown : goal.returns-then-not-is_linked-clause-shown
 returns-then-not-is_linked-clause-shown c s shown =
     let t = lent_table c.args.links.now in
-    let here = rw c.in-Some.is at (c.loop-left.invariant.walked s (seen_shows t (in_range c.args.links.now) shown)) in
+    let here = rw c.in-Some.is at (c.loop-left.invariant.walked s (seen_represents t (in_range c.args.links.now) shown)) in
     absurd (never c.if-not-is_linked.true (c.is_linked.ensures ∙ holds_linked shown.held (walk_member here)))
 
 pub loop-left-preserved : goal.loop-left-preserved
@@ -44,7 +42,7 @@ loop-left-preserved c =
     let led = c.loop-left.invariant.led in
     let next = c.next_of-at-in-loop-left.ensures in
     let linked : IsLinked is_linked_three t p = sym c.is_linked.ensures ∙ c.if-not-is_linked.false in
-    let stands : Stands is_linked_three t (Some p) = λ q same. subst (IsLinked is_linked_three t) (some_same same) linked in
+    let stands : IsNoneOrLinked is_linked_three t (Some p) = λ q same. subst (IsLinked is_linked_three t) (some_same same) linked in
     record {
       walked = λ s shown. let here = rw c.in-Some.is at (c.loop-left.invariant.walked s shown) in (walk_goes_on here {t = t} shown next.leads).0;
       led = (
@@ -59,7 +57,7 @@ loop-left-preserved c =
 pub returns-clause-shown : goal.returns-clause-shown
 returns-clause-shown c s shown =
     let t = lent_table c.args.links.now in
-    let over = walk_over (c.loop-left.invariant.walked s (seen_shows t (in_range c.args.links.now) shown)) (omega (arith, c.loop-left-test.false)) in
+    let over = walk_over (c.loop-left.invariant.walked s (seen_represents t (in_range c.args.links.now) shown)) (omega (arith, c.loop-left-test.false)) in
     search (rules, over)
 
 pub returns-clause-ended : goal.returns-clause-ended

@@ -4,7 +4,7 @@ use Rattle.ic_link_ops.specs.declared.side.Side.TheVariants.{Right}
 use Rattle.ic_rbtree.specs.Closed.{IsIn}
 use Rattle.ic_rbtree.specs.StepsTo.{StepsTo}
 use Rattle.ic_rbtree.specs.Tree.{root_of}
-use Rattle.ic_raw.specs.Gaps.{Stands}
+use Rattle.ic_raw.specs.Gaps.{IsNoneOrLinked}
 use Rattle.ic_raw.specs.Seen.{seen, seen_node, has_place, StepEndsIn}
 use Rattle.ic_raw.specs.Tree.{lent_table}
 use Rattle.ic_raw.specs.WholeTree.{IsSeen, LeadsToEnd}
@@ -19,7 +19,7 @@ invariant-loop-left l =
     let root = root_of l.fn.tree in
     record {
       walked : (s : List Place) → IsSeen t root s → HasComeTo s l.at l.left;
-      led : (from : Option Place) × Stands is_linked_three t from
+      led : (from : Option Place) × IsNoneOrLinked is_linked_three t from
           × ((q : Place) → l.at ≡ Some q → StepsTo seen_node (seen t) root Right from q)
           × (IsIn (has_place t) root → l.at ≡ None → StepEndsIn t root Right from)
           × (LeadsToEnd t root from → LeadsToEnd t root None);

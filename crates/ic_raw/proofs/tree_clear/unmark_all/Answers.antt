@@ -1,17 +1,14 @@
 use Rattle.std.proofs.Common.{◌≡◌, Option, None, List, [], ◌∷◌, ◌++◌, ◌<◌, ℕ, refl, sym, ap, ◌∙◌, subst, inl, inr, arith}
-use Rattle.ic_unsafe_ref.specs.declared.place.Place.{Place}
-use Rattle.ic_unsafe_ref.specs.Places.{index_of}
+use Rattle.ic_link_ops.specs.Prelude.{Place, index_of, at_front, IsAbsent, IsMember, Extent, Table, IsUnlinked}
 use Rattle.ic_unsafe_ref.proofs.PlaceLemmas.{same_or_not}
-use Rattle.ic_link_ops.specs.Sequences.{at_front, IsAbsent, IsMember}
-use Rattle.ic_link_ops.specs.Tables.{Extent, Table, IsUnlinked}
 use Rattle.ic_link_ops.proofs.SequenceLemmas.{absent_left, absent_right, absent_both}
-use Rattle.ic_link_ops.proofs.ShownTrees.{holds_linked}
+use Rattle.ic_link_ops.proofs.RepresentedTrees.{holds_linked}
 use Rattle.ic_raw.specs.declared.words.RawThree.{RawThree}
 use Rattle.ic_raw.specs.Calls.{Clears}
 use Rattle.ic_raw.specs.Tree.{lent_table}
 use Rattle.ic_raw.specs.Words.{is_linked_three}
 use Rattle.ic_raw.proofs.Gaps.{never}
-use Rattle.ic_raw.proofs.Trees.{in_range, seen_shows}
+use Rattle.ic_raw.proofs.Trees.{in_range, seen_represents}
 use Rattle.ic_raw.proofs.TreeWalks.{HasComeTo, unmarks_none, unmarks_more, seen_length, seen_kept, walk_starts, walk_member, walk_goes_on, walk_ends, walk_over}
 use Rattle.ic_raw.proofs.tree_clear.unmark_all.Goals as goal
 
@@ -30,7 +27,7 @@ unfolding walk_starts
 loop-left-init c = record {
   marks = unmarks_none (lent_table c.args.links.now);
   walked = λ s shown.
-      let there = seen_shows (lent_table c.args.links.now) (in_range c.args.links.now) shown in
+      let there = seen_represents (lent_table c.args.links.now) (in_range c.args.links.now) shown in
       (walk_starts (c.next_of-at.ensures.leads (at_front s) there refl) (rw c.places-left.ensures (seen_length there)), there, (λ p member. absurd (member tt)), (λ q out. refl));
 }
 

@@ -4,7 +4,7 @@ use Rattle.ic_link_ops.specs.SinglyLinkedList.{list_from}
 use Rattle.ic_link_ops.proofs.SequenceLemmas.{none_not, nothing_last}
 use Rattle.ic_link_ops.proofs.StepLemmas.{each_unlinked}
 use Rattle.ic_raw.specs.Words.{is_linked_one}
-use Rattle.ic_raw.specs.Singly.{Shows, lent_table}
+use Rattle.ic_raw.specs.Singly.{Represents, lent_table}
 use Rattle.ic_raw.proofs.DoublyWalks.{nothing_first}
 use Rattle.ic_raw.proofs.whole.clear_stack.Goals as goal
 
@@ -20,7 +20,7 @@ returns-in_default-clause-ended c made = ([], record { distinct = tt; chain = tt
 -- and one with a first member has a last one
 pub returns-in_default-last_from-clause-cleared : goal.returns-in_default-last_from-clause-cleared
 returns-in_default-last_from-clause-cleared c s shown =
-    let whole : Shows (lent_table c.args.links.now) (list_from (Some c.in-Some.front)) s = rw (sym c.first.ensures ∙ c.in-Some.is) at shown in
+    let whole : Represents (lent_table c.args.links.now) (list_from (Some c.in-Some.front)) s = rw (sym c.first.ensures ∙ c.in-Some.is) at shown in
     let nothing = nothing_last s (sym c.in_default-last_from.is ∙ c.last_from.ensures.shown s whole) in
     absurd (none_not c.in-Some.front (sym (whole.head ∙ ap first nothing)))
 

@@ -10,7 +10,7 @@ returns-then-put c = record {
       (c.put.ensures.inserted cut p (c.place_in-last.ensures ∙ after) behind (c.place_of.ensures ∙ is) shown free).1 shown free);
   free = search rules;
   no_place = search rules;
-  told = search rules;
+  links_back = search rules;
   touched = search rules;
   own = search rules;
   words = search rules;
@@ -27,4 +27,4 @@ returns c =
       | else-has_neighbor-via-then-has_neighbor+else-put w ↦ (w.table-is ∙ (w.put.ensures.refused w.if-put.false).0 ∙ kept, w.list-is ∙ (w.put.ensures.refused w.if-put.false).1)
       | else-has_neighbor-via-else-has_neighbor w ↦ (w.table-is ∙ kept, w.list-is)
     ] in
-    rw (same.0, same.1, none) at c.put_any.ensures
+    rw (same.0, same.1, none) at c.put_slow.ensures

@@ -5,8 +5,8 @@ use Rattle.ic_raw.specs.Words.{no_word}
 use Rattle.ic_raw.proofs.Touches.{touched_back}
 use Rattle.ic_raw.proofs.xor_calls.take_last.Goals as goal
 
-pub returns-clause-told : goal.returns-clause-told
-returns-clause-told c done = rw (← c.new-links.ensures.1) (rw c.list_of-edited.ensures at (c.remove_last.ensures.told c.if-not-remove_last.false))
+pub returns-clause-links_back : goal.returns-clause-links_back
+returns-clause-links_back c done = rw (← c.new-links.ensures.1) (rw c.list_of-edited.ensures at (c.remove_last.ensures.links_back c.if-not-remove_last.false))
 
 pub returns-clause-touched : goal.returns-clause-touched
 returns-clause-touched c made =

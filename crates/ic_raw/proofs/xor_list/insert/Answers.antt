@@ -27,4 +27,4 @@ returns-clause-touched c p is made =
     let taken = c.in-Some.is in
     let one : p ≡ c.in-Some.place = some_same (sym is ∙ c.acquire.ensures.same _ taken) in
     let put = c.insert_linked.ensures in
-    rw one (touches_insert (c.acquire.ensures.free _ taken) (c.acquire.ensures.linked _ taken) (c.acquire.ensures.frame _ taken) put.no_step put.others)
+    rw one (touches_insert (c.acquire.ensures.free _ taken) (c.acquire.ensures.linked _ taken) (c.acquire.ensures.frame _ taken) put.trace_stays put.others)

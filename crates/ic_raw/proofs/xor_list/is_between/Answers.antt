@@ -3,8 +3,8 @@ use Rattle.ic_raw.proofs.xor_list.is_between.Goals as goal
 
 pub returns-then-faces-clause-shown : goal.returns-then-faces-clause-shown
 returns-then-faces-clause-shown c front back shown before behind =
-    c.faces-then-faces.ensures.told.1 (rw c.last.ensures (member_told front c.args.member back shown before behind).1)
+    c.faces-then-faces.ensures.links_back.1 (rw c.last.ensures (member_told front c.args.member back shown before behind).1)
 
 pub returns-else-faces-clause-shown : goal.returns-else-faces-clause-shown
 returns-else-faces-clause-shown c front back shown before behind =
-    c.faces.ensures.told.1 (rw c.first.ensures (member_told front c.args.member back shown before behind).0)
+    c.faces.ensures.links_back.1 (rw c.first.ensures (member_told front c.args.member back shown before behind).0)

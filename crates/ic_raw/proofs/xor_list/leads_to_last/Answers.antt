@@ -1,7 +1,7 @@
 use Rattle.std.proofs.Common.{◌≡◌, [], ◌∷◌, length, refl, sym, ap, ◌∙◌, arith, rules}
 use Rattle.ic_link_ops.specs.Sequences.{last}
 use Rattle.ic_link_ops.proofs.Walks.{stretch_first, stretch_of}
-use Rattle.ic_link_ops.proofs.XorLists.{shown_length}
+use Rattle.ic_link_ops.proofs.XorLists.{represented_length}
 use Rattle.ic_chain.proofs.Walking.{rest_more, rest_goes_on, rest_ends}
 use Rattle.ic_raw.specs.Singly.{lent_table}
 use Rattle.ic_raw.specs.Xor.{other}
@@ -9,14 +9,14 @@ use Rattle.ic_raw.proofs.DoublyWalks.{nothing_first}
 use Rattle.ic_raw.proofs.Entries.{same_word}
 use Rattle.ic_raw.proofs.Gaps.{never}
 use Rattle.ic_raw.proofs.Singly.{covered}
-use Rattle.ic_raw.proofs.Xor.{other_behind}
+use Rattle.ic_raw.proofs.Xor.{other_after}
 use Rattle.ic_raw.proofs.xor_list.leads_to_last.Goals as goal
 
 pub loop-left-init : goal.loop-left-init
 loop-left-init c = record {
   leads = λ s on. (s, rw (sym c.first.ensures ∙ c.in-Some.is) on);
   rest = λ s shown.
-      (s, rw (sym c.first.ensures ∙ c.in-Some.is) at (stretch_of shown), refl, rw c.places-left.ensures (shown_length (lent_table c.args.links.now) (covered c.args.links.now) shown));
+      (s, rw (sym c.first.ensures ∙ c.in-Some.is) at (stretch_of shown), refl, rw c.places-left.ensures (represented_length (lent_table c.args.links.now) (covered c.args.links.now) shown));
 }
 
 pub returns-then-not-is_linked-clause-shown : goal.returns-then-not-is_linked-clause-shown
@@ -27,14 +27,14 @@ returns-then-not-is_linked-clause-shown c s shown =
 pub returns-in_default-next-clause-shown : goal.returns-in_default-next-clause-shown
 returns-in_default-next-clause-shown c s shown =
     let rest = c.loop-left.invariant.rest s shown in
-    let end = rest_ends {step = other} (λ e b a h. other_behind e b a h.joined) rest.1 (sym c.next.ensures ∙ c.in_default-next.is) in
+    let end = rest_ends {step = other} (λ e b a h. other_after e b a h.joined) rest.1 (sym c.next.ensures ∙ c.in_default-next.is) in
     let tail = c.last-in_default-next.ensures ∙ shown.tail ∙ rest.2 ∙ sym end in
     search (rules, tail)
 
 pub returns-clause-shown : goal.returns-clause-shown
 returns-clause-shown c s shown =
     let rest = c.loop-left.invariant.rest s shown in
-    let more = rest_more {step = other} (λ e b a h. other_behind e b a h.joined) rest.1 in
+    let more = rest_more {step = other} (λ e b a h. other_after e b a h.joined) rest.1 in
     absurd (omega (arith, rest.3, ap length {y = c.loop-left.at ∷ more.0} more.1, c.loop-left-test.false))
 
 pub loop-left-preserved : goal.loop-left-preserved
@@ -43,7 +43,7 @@ loop-left-preserved c = record {
       c.loop-left.invariant.leads (c.loop-left.at ∷ s) (refl, sym c.is_linked.ensures ∙ c.if-not-is_linked.false, rw (sym c.next.ensures ∙ c.in-Some-next.is) on);
   rest = λ s shown.
       let rest = c.loop-left.invariant.rest s shown in
-      let more = rest_goes_on {step = other} (λ e b a h. other_behind e b a h.joined) rest.1 (sym c.next.ensures ∙ c.in-Some-next.is) in
+      let more = rest_goes_on {step = other} (λ e b a h. other_after e b a h.joined) rest.1 (sym c.next.ensures ∙ c.in-Some-next.is) in
       (more.0, more.2, rest.2 ∙ more.3, omega (arith, rest.3, ap length {y = c.loop-left.at ∷ more.0} more.1));
 }
 

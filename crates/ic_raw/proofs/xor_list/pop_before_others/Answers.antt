@@ -1,7 +1,7 @@
 use Rattle.std.proofs.Common.{◌≡◌, [], refl, sym, ◌∙◌, Some, None, subst}
 use Rattle.ic_link_ops.proofs.SequenceLemmas.{some_same}
 use Rattle.ic_raw.proofs.Lists.{removed}
-use Rattle.ic_raw.proofs.Xor.{next_shown}
+use Rattle.ic_raw.proofs.Xor.{next_represented}
 use Rattle.ic_raw.specs.Gaps.{TakenOut, gap_between}
 use Rattle.ic_raw.specs.Singly.{lent_table}
 use Rattle.ic_raw.specs.Xor.{beyond}
@@ -13,7 +13,7 @@ pub returns-clause-removed : goal.returns-clause-removed
 returns-clause-removed c p q s some shown' =
     let one : p ≡ c.in-Some.first = sym (some_same (sym c.in-Some.is ∙ c.first.ensures ∙ shown'.head)) in
     let shown = rw one at shown' in
-    let behind = sym c.in-Some-next.is ∙ c.next.ensures ∙ next_shown [] c.in-Some.first s shown refl in
+    let behind = sym c.in-Some-next.is ∙ c.next.ensures ∙ next_represented [] c.in-Some.first s shown refl in
     let off = c.bypass.ensures in
     let released = c.release_link.ensures in (
       sym (some_same some) ∙ sym one,
@@ -34,4 +34,4 @@ returns-clause-touched c q is =
     let off = c.bypass.ensures in
     let released = c.release_link.ensures in
     let second = sym c.in-Some-next.is ∙ c.next.ensures in
-    rw (sym (some_same is), sym second) (touches_remove off.no_step off.others released.released released.frame)
+    rw (sym (some_same is), sym second) (touches_remove off.trace_stays off.others released.released released.frame)

@@ -1,27 +1,24 @@
 use Rattle.std.proofs.Common.{◌≡◌, Option, Some, None, List, [], ◌∷◌, drop, length, refl, sym, ap, ◌∙◌, arith}
-use Rattle.ic_unsafe_ref.specs.declared.place.Place.{Place}
-use Rattle.ic_link_ops.specs.Sequences.{first, last}
-use Rattle.ic_link_ops.specs.Tables.{Table}
-use Rattle.ic_link_ops.specs.LinkSteps.{releases_each}
+use Rattle.ic_link_ops.specs.Prelude.{Place, first, last, Table, releases_each}
 use Rattle.ic_link_ops.specs.StepLaws.{replays_on}
 use Rattle.ic_link_ops.specs.XorLinkedList.{IsJoined}
 use Rattle.ic_link_ops.proofs.Clearing.{Releases, releases_none, releases_more, releases_all, next_between}
 use Rattle.ic_link_ops.proofs.SequenceLemmas.{last_of_push}
 use Rattle.ic_link_ops.proofs.StepLemmas.{releases_append, each_unlinked}
-use Rattle.ic_link_ops.proofs.XorLists.{shown_length}
+use Rattle.ic_link_ops.proofs.XorLists.{represented_length}
 use Rattle.ic_raw.specs.declared.words.RawOne.{RawOne}
 use Rattle.ic_raw.specs.Words.{is_linked_one}
 use Rattle.ic_raw.specs.Singly.{lent_table}
 use Rattle.ic_raw.specs.Xor.{Joins, other}
 use Rattle.ic_raw.proofs.Gaps.{never}
 use Rattle.ic_raw.proofs.Singly.{covered}
-use Rattle.ic_raw.proofs.Xor.{other_behind}
+use Rattle.ic_raw.proofs.Xor.{other_after}
 use Rattle.ic_raw.proofs.xor_list.release_all.Goals as goal
 
--- the one behind the member that is next
+-- the one after the member that is next
 behind : {old new : Table RawOne} {s : List Place} {p : Place} {prev next : Option Place}
     → (k : Releases (IsJoined is_linked_one Joins) old new s (Some p)) → prev ≡ last k.done → next ≡ other (new.entry p) prev → next ≡ first (drop 1 k.rest)
-behind {new = new} {p} k prev next = next ∙ rw prev (other_behind (new.entry p) _ _ (next_between k).joined)
+behind {new = new} {p} k prev next = next ∙ rw prev (other_after (new.entry p) _ _ (next_between k).joined)
 
 -- where no member is left, nothing is next
 none_left : {old new : Table RawOne} {s : List Place} {at : Option Place} (k : Releases (IsJoined is_linked_one Joins) old new s at) → length k.rest ≡ 0 → at ≡ None
@@ -35,7 +32,7 @@ unfolding releases_none
 loop-left-init c = record {
   extent = refl;
   released = λ s shown.
-      (releases_none shown.chain (c.first-at.ensures ∙ shown.head), refl, (λ q. refl), rw c.places-left.ensures (shown_length (lent_table c.args.links.now) (covered c.args.links.now) shown));
+      (releases_none shown.chain (c.first-at.ensures ∙ shown.head), refl, (λ q. refl), rw c.places-left.ensures (represented_length (lent_table c.args.links.now) (covered c.args.links.now) shown));
 }
 
 pub returns-in_default-clause-cleared : goal.returns-in_default-clause-cleared

@@ -1,21 +1,19 @@
 use Rattle.std.proofs.Common.{◌≡◌, ◌≤◌, List, length}
-use Rattle.ic_unsafe_ref.specs.declared.place.Place.{Place}
-use Rattle.ic_link_ops.specs.Sequences.{last}
-use Rattle.ic_link_ops.specs.LinkSteps.{releases_each, Replays}
+use Rattle.ic_link_ops.specs.Prelude.{Place, last, releases_each, TraceIs}
 use Rattle.ic_link_ops.specs.XorLinkedList.{IsJoined}
 use Rattle.ic_link_ops.proofs.Clearing.{Releases}
 use Rattle.ic_raw.specs.Words.{is_linked_one}
 use Rattle.ic_raw.specs.Singly.{lent_table}
-use Rattle.ic_raw.specs.Xor.{Shows, Joins}
+use Rattle.ic_raw.specs.Xor.{Represents, Joins}
 use Rattle.ic_raw.proofs.xor_list.release_all.Given as goal
 
--- the members in front of `at` are unlinked, and those from there on fit into the steps that are left
+-- the members before `at` are unlinked, and those from there on fit into the steps that are left
 abbrev pub invariant-loop-left : goal.invariant-loop-left
 invariant-loop-left l = record {
   extent : (lent_table l.links).extent ≡ (lent_table l.fn.links).extent;
-  released : (s : List Place) → Shows (lent_table l.fn.links) l.fn.list s
+  released : (s : List Place) → Represents (lent_table l.fn.links) l.fn.list s
       → (k : Releases (IsJoined is_linked_one Joins) (lent_table l.fn.links) (lent_table l.links) s l.at)
-      × (l.prev ≡ last k.done) × Replays is_linked_one (lent_table l.fn.links) (lent_table l.links) (releases_each k.done) × (length k.rest ≤ l.left);
+      × (l.prev ≡ last k.done) × TraceIs is_linked_one (lent_table l.fn.links) (lent_table l.links) (releases_each k.done) × (length k.rest ≤ l.left);
 }
 
 abbrev pub decreases-loop-left : goal.decreases-loop-left

@@ -1,6 +1,6 @@
 use Rattle.std.proofs.Common.{[], refl, sym, ◌∙◌}
 use Rattle.ic_raw.proofs.Gaps.{never}
-use Rattle.ic_raw.proofs.Xor.{member_linked, prev_shown}
+use Rattle.ic_raw.proofs.Xor.{member_linked, prev_represented}
 use Rattle.ic_raw.proofs.xor_list.remove_last.Goals as goal
 
 pub returns-then-not-is_linked-clause-removed : goal.returns-then-not-is_linked-clause-removed
@@ -9,4 +9,4 @@ returns-then-not-is_linked-clause-removed c front shown =
 
 pub returns-clause-removed : goal.returns-clause-removed
 returns-clause-removed c front shown =
-    c.take_out.ensures.removed front [] shown (c.prev-before.ensures ∙ prev_shown front c.args.member [] shown refl) refl
+    c.take_out.ensures.removed front [] shown (c.prev-before.ensures ∙ prev_represented front c.args.member [] shown refl) refl

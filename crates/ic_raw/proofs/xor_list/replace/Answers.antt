@@ -3,7 +3,7 @@ use Rattle.ic_link_ops.proofs.SequenceLemmas.{some_same}
 use Rattle.ic_link_ops.proofs.XorLists.{joined_linked}
 use Rattle.ic_raw.proofs.Gaps.{never}
 use Rattle.ic_raw.proofs.Lists.{replaced}
-use Rattle.ic_raw.proofs.Xor.{member_linked, next_shown}
+use Rattle.ic_raw.proofs.Xor.{member_linked, next_represented}
 use Rattle.ic_raw.proofs.Own.{put_in, sides_are}
 use Rattle.ic_raw.proofs.Touches.{touches_replace}
 use Rattle.ic_raw.proofs.xor_list.replace.Goals as goal
@@ -14,14 +14,14 @@ returns-then-not-is_linked-clause-replaced c front back p shown before is free =
 
 pub returns-then-not-is_between-clause-replaced : goal.returns-then-not-is_between-clause-replaced
 returns-then-not-is_between-clause-replaced c front back p shown before is free =
-    let behind = c.next-behind.ensures ∙ next_shown front c.args.member back shown before in
+    let behind = c.next-behind.ensures ∙ next_represented front c.args.member back shown before in
     absurd (never c.if-not-is_between.true (c.is_between.ensures.shown front back shown before behind))
 
 pub returns-clause-replaced : goal.returns-clause-replaced
 returns-clause-replaced c front back p shown before is free' =
     let taken = c.in-Some.is in
     let one : p ≡ c.in-Some.place = some_same (sym is ∙ c.acquire.ensures.same _ taken) in
-    let behind = c.next-behind.ensures ∙ next_shown front c.args.member back shown before in
+    let behind = c.next-behind.ensures ∙ next_represented front c.args.member back shown before in
     let put = c.replace_linked.ensures in
     let released = c.release_link.ensures in
     rw one (
@@ -44,4 +44,4 @@ returns-clause-touched c p is made =
     let put = c.replace_linked.ensures in
     let released = c.release_link.ensures in
     rw (one, sym c.next-behind.ensures)
-    (touches_replace (c.acquire.ensures.free _ taken) (c.acquire.ensures.linked _ taken) (c.acquire.ensures.frame _ taken) put.no_step put.others released.released released.frame)
+    (touches_replace (c.acquire.ensures.free _ taken) (c.acquire.ensures.linked _ taken) (c.acquire.ensures.frame _ taken) put.trace_stays put.others released.released released.frame)

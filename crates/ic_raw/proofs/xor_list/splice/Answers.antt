@@ -12,7 +12,7 @@ returns-then-begin_alike-clause-spliced c cut t shown after behind given apart =
 pub returns-clause-touched : goal.returns-clause-touched
 returns-clause-touched c made =
     let put = c.splice_between.ensures in
-    rw (sym c.last-end.ensures) (touches_splice put.no_step put.others)
+    rw (sym c.last-end.ensures) (touches_splice put.trace_stays put.others)
 
 pub returns-clause-own : goal.returns-clause-own
 returns-clause-own c first is made =

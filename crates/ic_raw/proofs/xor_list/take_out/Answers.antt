@@ -17,4 +17,4 @@ pub returns-clause-touched : goal.returns-clause-touched
 returns-clause-touched c made =
     let off = c.bypass.ensures in
     let released = c.release_link.ensures in
-    touches_remove off.no_step off.others released.released released.frame
+    touches_remove off.trace_stays off.others released.released released.frame

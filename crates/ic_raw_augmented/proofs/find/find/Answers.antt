@@ -1,8 +1,7 @@
-use Rattle.std.proofs.Common.{◌≡◌, ◌<◌, ◌≤◌, ℕ, Option, Some, None, refl, sym, ap, ◌∙◌, subst, arith}
+use Rattle.std.proofs.Common.{◌≡◌, ◌<◌, ◌≤◌, ℕ, Option, None, refl, sym, ap, ◌∙◌, subst, arith}
 use Rattle.ic_unsafe_ref.specs.declared.place.Place.{Place}
 use Rattle.ic_link_ops.proofs.SequenceLemmas.{none_not}
 use Rattle.ic_rbtree.proofs.Closed.{in_there, read_in}
-use Rattle.ic_raw.specs.Seen.{seen, seen_node}
 use Rattle.ic_raw.specs.Tree.{lent_table}
 use Rattle.ic_raw_augmented.specs.Sums.{next_end, sum_below}
 use Rattle.ic_raw_augmented.proofs.Searches.{FindsAbove, found_next, found_on, is_position, next_in, none_on, unrooted}

@@ -1,7 +1,7 @@
 use Rattle.std.proofs.Common.{◌≡◌, ◌<◌, true, false, refl, sym, ◌∙◌, arith}
 use Rattle.std.proofs.lemmas.Bool.{ltb-true}
 use Rattle.ic_unsafe_ref.specs.Places.{index_of}
-use Rattle.ic_link_ops.proofs.ShownTrees.{holds_linked}
+use Rattle.ic_link_ops.proofs.RepresentedTrees.{holds_linked}
 use Rattle.ic_raw.specs.Tree.{lent_table}
 use Rattle.ic_raw_augmented.proofs.Renewing.{from_first, past_last}
 use Rattle.ic_raw_augmented.proofs.renew.renew_all.Goals as goal

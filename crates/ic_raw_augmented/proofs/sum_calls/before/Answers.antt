@@ -7,9 +7,9 @@ use Rattle.ic_raw_augmented.proofs.sum_calls.before.Goals as goal
 
 pub returns : goal.returns
 returns c = record {
-  told = λ root front back p at enough shown right.
+  links_back = λ root front back p at enough shown right.
       let view = c.new-links.ensures.1 in
-      c.look_before.ensures.told root front back p at (subst (λ es. length es ≤ length c.args.sums.now) (sym view) enough) (viewed no_tree_words kept c.new-links.result view shown)
+      c.look_before.ensures.links_back root front back p at (subst (λ es. length es ≤ length c.args.sums.now) (sym view) enough) (viewed no_tree_words kept c.new-links.result view shown)
       (summed_viewed c.args.kind c.new-links.result c.args.sums.now _ view right);
   null = (c.look_before.ensures.null, c.look_before.ensures.none);
   refused = search rules;

@@ -1,18 +1,16 @@
-use Rattle.std.proofs.Common.{[], ◌∷◌, ◌≤◌, Option, Some, None, refl, sym, ap, ◌∙◌, subst}
-use Rattle.ic_unsafe_ref.specs.declared.place.Place.{Place}
-use Rattle.ic_link_ops.specs.Sequences.{join}
+use Rattle.std.proofs.Common.{[], Option, Some, None, refl, sym, ◌∙◌, subst}
+use Rattle.ic_link_ops.specs.Prelude.{Place, join}
 use Rattle.ic_link_ops.specs.declared.side.Side.TheVariants.{Right}
 use Rattle.ic_link_ops.proofs.SequenceLemmas.{some_same}
 use Rattle.ic_rbtree.proofs.Closed.{in_there, read_in}
-use Rattle.ic_raw.specs.Gaps.{Stands}
-use Rattle.ic_raw.specs.Seen.{has_place}
+use Rattle.ic_raw.specs.Gaps.{IsNoneOrLinked}
 use Rattle.ic_raw.specs.Tree.{lent_table}
 use Rattle.ic_raw.specs.WholeTree.{IsSeen}
 use Rattle.ic_raw.specs.Words.{is_linked_three}
 use Rattle.ic_raw.proofs.Gaps.{never}
-use Rattle.ic_raw.proofs.Trees.{beside_stands, end_in, in_range, root_stands, seen_shows}
+use Rattle.ic_raw.proofs.Trees.{beside_stands, in_range, root_stands, seen_represents}
 use Rattle.ic_raw_augmented.specs.Find.{IsFirstBeyond}
-use Rattle.ic_raw_augmented.specs.Sums.{sum_below, value_at}
+use Rattle.ic_raw_augmented.specs.Sums.{value_at}
 use Rattle.ic_raw_augmented.proofs.Viewed.{beyond_linked}
 use Rattle.ic_raw_augmented.proofs.sum_calls.look.Goals as goal
 
@@ -20,26 +18,26 @@ pub returns-then-not-is_searchable-clause-found : goal.returns-then-not-is_searc
 returns-then-not-is_searchable-clause-found c cut enough at shown right =
     let v = lent_table c.args.links.now in
     absurd (never c.if-not-is_searchable.true (c.is_searchable.ensures.shown enough
-    (subst (λ (o : Option Place). Stands is_linked_three v o) (sym c.place_of-from.ensures) (beside_stands Right cut shown at))
-    (subst (λ (o : Option Place). Stands is_linked_three v o) (sym c.place_in-root.ensures) (root_stands shown))))
+    (subst (λ (o : Option Place). IsNoneOrLinked is_linked_three v o) (sym c.place_of-from.ensures) (beside_stands Right cut shown at))
+    (subst (λ (o : Option Place). IsNoneOrLinked is_linked_three v o) (sym c.place_in-root.ensures) (root_stands shown))))
 
 pub returns-in_default-clause-found : goal.returns-in_default-clause-found
 returns-in_default-clause-found c cut enough at shown right =
     let v = lent_table c.args.links.now in
-    let f = c.find.ensures.found cut (subst (λ (o : Option Place). IsSeen v o (join cut)) (sym c.place_in-root.ensures) (seen_shows v (in_range c.args.links.now) shown)) (c.place_of-from.ensures ∙ at) right in
+    let f = c.find.ensures.found cut (subst (λ (o : Option Place). IsSeen v o (join cut)) (sym c.place_in-root.ensures) (seen_represents v (in_range c.args.links.now) shown)) (c.place_of-from.ensures ∙ at) right in
     absurd (c.in_default.not-Some f.0 f.1)
 
 pub returns-in_default-position-clause-found : goal.returns-in_default-position-clause-found
 returns-in_default-position-clause-found c cut enough at shown right =
     let v = lent_table c.args.links.now in
-    let f = c.find.ensures.found cut (subst (λ (o : Option Place). IsSeen v o (join cut)) (sym c.place_in-root.ensures) (seen_shows v (in_range c.args.links.now) shown)) (c.place_of-from.ensures ∙ at) right in
+    let f = c.find.ensures.found cut (subst (λ (o : Option Place). IsSeen v o (join cut)) (sym c.place_in-root.ensures) (seen_represents v (in_range c.args.links.now) shown)) (c.place_of-from.ensures ∙ at) right in
     let one = some_same (sym f.1 ∙ c.in-Some.is) ∙ c.in_default-position.is in
     (None, subst (λ (o : Option Place). IsFirstBeyond c.args.kind (value_at c.args.sums.now) [] c.args.bound cut.back o) one f.2, refl)
 
 pub returns-then-not-is_linked-clause-found : goal.returns-then-not-is_linked-clause-found
 returns-then-not-is_linked-clause-found c cut enough at shown right =
     let v = lent_table c.args.links.now in
-    let f = c.find.ensures.found cut (subst (λ (o : Option Place). IsSeen v o (join cut)) (sym c.place_in-root.ensures) (seen_shows v (in_range c.args.links.now) shown)) (c.place_of-from.ensures ∙ at) right in
+    let f = c.find.ensures.found cut (subst (λ (o : Option Place). IsSeen v o (join cut)) (sym c.place_in-root.ensures) (seen_represents v (in_range c.args.links.now) shown)) (c.place_of-from.ensures ∙ at) right in
     let one = some_same (sym f.1 ∙ c.in-Some.is) ∙ c.in-Some-position.is in
     let is = subst (λ (o : Option Place). IsFirstBeyond c.args.kind (value_at c.args.sums.now) [] c.args.bound cut.back o) one f.2 in
     absurd (never (sym c.is_linked.ensures ∙ c.if-not-is_linked.true) (beyond_linked c.args.links.now _ cut shown c.args.kind (value_at c.args.sums.now) [] c.args.bound c.in-Some-position.member is))
@@ -47,7 +45,7 @@ returns-then-not-is_linked-clause-found c cut enough at shown right =
 pub returns-clause-found : goal.returns-clause-found
 returns-clause-found c cut enough at shown right =
     let v = lent_table c.args.links.now in
-    let f = c.find.ensures.found cut (subst (λ (o : Option Place). IsSeen v o (join cut)) (sym c.place_in-root.ensures) (seen_shows v (in_range c.args.links.now) shown)) (c.place_of-from.ensures ∙ at) right in
+    let f = c.find.ensures.found cut (subst (λ (o : Option Place). IsSeen v o (join cut)) (sym c.place_in-root.ensures) (seen_represents v (in_range c.args.links.now) shown)) (c.place_of-from.ensures ∙ at) right in
     let one = some_same (sym f.1 ∙ c.in-Some.is) ∙ c.in-Some-position.is in
     (Some c.in-Some-position.member, subst (λ (o : Option Place). IsFirstBeyond c.args.kind (value_at c.args.sums.now) [] c.args.bound cut.back o) one f.2, record { accepted = refl; done = c.number_of.ensures })
 

@@ -1,14 +1,14 @@
-use Rattle.std.proofs.Common.{◌≡◌, ◌≤◌, true, false, cond, length, Option, Some, None, List, refl, sym, ap, ◌∙◌, subst, rules}
+use Rattle.std.proofs.Common.{◌≡◌, ◌≤◌, false, length, Option, Some, List, refl, sym, ◌∙◌, subst, rules}
 use Rattle.ic_unsafe_ref.specs.declared.place.Place.{Place}
 use Rattle.ic_link_ops.proofs.SequenceLemmas.{none_not, some_same}
-use Rattle.ic_raw.specs.Gaps.{Stands}
+use Rattle.ic_raw.specs.Gaps.{IsNoneOrLinked}
 use Rattle.ic_raw.specs.Tree.{lent_table}
 use Rattle.ic_raw.specs.declared.words.RawThree.{RawThree}
 use Rattle.ic_raw.specs.Words.{is_linked_three, no_tree_words, place_of}
 use Rattle.ic_raw.proofs.Gaps.{never}
-use Rattle.ic_raw.proofs.Trees.{end_in, in_range, kept, seen_shows}
+use Rattle.ic_raw.proofs.Trees.{in_range, kept, seen_represents}
 use Rattle.ic_raw.proofs.Views.{viewed}
-use Rattle.ic_raw_augmented.proofs.Renewing.{also_off, near_all}
+use Rattle.ic_raw_augmented.proofs.Renewing.{also_off}
 use Rattle.ic_raw_augmented.specs.Sums.{is_there}
 use Rattle.ic_raw_augmented.proofs.Viewed.{beside_back, but_viewed, stands_viewed, summed_back}
 use Rattle.ic_raw_augmented.proofs.sum_calls.renew.Goals as goal
@@ -20,7 +20,7 @@ returns-in_default c = record {
       let view = c.new-links.ensures.1 in
       record {
         accepted = refl;
-        done = summed_back c.args.kind links c.renew_all.new.sums s view (c.renew_all.ensures.right root s (seen_shows (lent_table links) (in_range links) (viewed no_tree_words kept links view shown)));
+        done = summed_back c.args.kind links c.renew_all.new.sums s view (c.renew_all.ensures.right root s (seen_represents (lent_table links) (in_range links) (viewed no_tree_words kept links view shown)));
       };
   opened = λ enough stands. refl;
   values = c.renew_all.ensures.kept;
@@ -43,7 +43,7 @@ returns c = record {
       record {
         accepted = refl;
         done = summed_back c.args.kind links c.renew_up.new.sums s view (λ q m.
-            c.renew_up.ensures.right root s (λ z. false) (seen_shows t (in_range links) (viewed no_tree_words kept links view shown)) (near_all t c.in-Some.member)
+            c.renew_up.ensures.right root s (λ z. false) (seen_represents t (in_range links) (viewed no_tree_words kept links view shown))
             (λ z n off. there z n (rw named (also_off (Some c.in-Some.member) (λ y. false) z off).0)) q m refl);
       };
   opened = λ enough stands. refl;
@@ -63,11 +63,11 @@ returns-then-not-is_searchable c = record {
   renewed = λ root s enough stands shown right.
       absurd (never c.if-not-is_searchable.true (c.is_searchable.ensures.shown
       (subst (λ (es : List RawThree). length es ≤ length c.args.sums.now) (sym c.new-links.ensures.1) enough)
-      (subst (λ (o : Option Place). Stands is_linked_three (lent_table c.new-links.result) o) (sym c.place_of-from.ensures) (stands_viewed c.new-links.result (place_of c.args.at) c.new-links.ensures.1 stands)) (λ q e. absurd (none_not q e))));
+      (subst (λ (o : Option Place). IsNoneOrLinked is_linked_three (lent_table c.new-links.result) o) (sym c.place_of-from.ensures) (stands_viewed c.new-links.result (place_of c.args.at) c.new-links.ensures.1 stands)) (λ q e. absurd (none_not q e))));
   opened = λ enough stands.
       absurd (never c.if-not-is_searchable.true (c.is_searchable.ensures.shown
       (subst (λ (es : List RawThree). length es ≤ length c.args.sums.now) (sym c.new-links.ensures.1) enough)
-      (subst (λ (o : Option Place). Stands is_linked_three (lent_table c.new-links.result) o) (sym c.place_of-from.ensures) (stands_viewed c.new-links.result (place_of c.args.at) c.new-links.ensures.1 stands)) (λ q e. absurd (none_not q e))));
+      (subst (λ (o : Option Place). IsNoneOrLinked is_linked_three (lent_table c.new-links.result) o) (sym c.place_of-from.ensures) (stands_viewed c.new-links.result (place_of c.args.at) c.new-links.ensures.1 stands)) (λ q e. absurd (none_not q e))));
   values = record { count = refl; values = λ q. refl };
   beside = λ p at S closed here q off. refl;
   refused = search rules;

@@ -1,4 +1,3 @@
-use Rattle.std.proofs.Common.{sym}
 use Rattle.ic_raw_augmented.proofs.Writes.{other_sums}
 use Rattle.ic_raw_augmented.proofs.sums.set_sum.Goals as goal
 

@@ -3,7 +3,7 @@ use Rattle.ic_raw.specs.Seen.{has_place}
 use Rattle.ic_raw.specs.Tree.{lent_table, root_in}
 use Rattle.ic_raw.specs.Words.{no_tree_words}
 use Rattle.ic_raw.proofs.Gaps.{never}
-use Rattle.ic_raw.proofs.Trees.{beside_stands, closed, end_in, in_range, kept, root_stands, seen_shows}
+use Rattle.ic_raw.proofs.Trees.{beside_stands, closed, end_in, in_range, kept, root_stands, seen_represents}
 use Rattle.ic_raw.proofs.TreeSteps.{end_back}
 use Rattle.ic_raw.proofs.Views.{viewed}
 use Rattle.ic_raw_keyed.proofs.TreeEnds.{has_viewed, steps_back}
@@ -35,7 +35,7 @@ step_within-requires c =
 
 pub returns-clause-leads : goal.returns-clause-leads
 returns-clause-leads c cut shown at =
-    c.step_within.ensures.leads cut (rw c.place_in-root.ensures (seen_shows (lent_table c.new-links.result) (in_range c.new-links.result)
+    c.step_within.ensures.leads cut (rw c.place_in-root.ensures (seen_represents (lent_table c.new-links.result) (in_range c.new-links.result)
     (viewed no_tree_words kept c.new-links.result c.new-links.ensures.1 shown))) at
 
 pub returns-clause-reached : goal.returns-clause-reached

@@ -6,7 +6,7 @@ use Rattle.ic_link_ops.proofs.SequenceLemmas.{some_same}
 use Rattle.ic_link_ops.proofs.Walks.{is_end_no, is_end_yes}
 use Rattle.ic_rbtree.specs.Sides.{IsBeside}
 use Rattle.ic_rbtree.proofs.EndsKept.{end_stays, end_steps}
-use Rattle.ic_raw.specs.Tree.{ShowsTree, node, root_in, table_of}
+use Rattle.ic_raw.specs.Tree.{RepresentsTree, node, root_in, table_of}
 use Rattle.ic_raw.proofs.Gaps.{never}
 use Rattle.ic_raw.proofs.Trees.{beside_stands}
 use Rattle.ic_raw_keyed.proofs.TreeEnds.{gap_inwards, inwards_beside, inwards_joins, inwards_other, is_next}
@@ -28,23 +28,23 @@ pub returns-then-is_at-clause-accepted : goal.returns-then-is_at-clause-accepted
 returns-then-is_at-clause-accepted c front back shown none =
     let gap = gap_inwards c.args.side front c.args.member back in
     let there : IsBeside (across (across c.args.side)) gap c.beside-next.result =
-    rw (← c.inwards.ensures) (c.beside-next.ensures.leads gap (subst (ShowsTree c.args.table.now c.args.tree.now) (sym (inwards_joins c.args.side front c.args.member back)) shown)
+    rw (← c.inwards.ensures) (c.beside-next.ensures.leads gap (subst (RepresentsTree c.args.table.now c.args.tree.now) (sym (inwards_joins c.args.side front c.args.member back)) shown)
     (rw c.inwards.ensures (inwards_beside c.args.side front c.args.member back))) in
     inwards_other c.args.side front c.args.member back shown.held.distinct there (is_end_yes c.beside-next.result c.args.member (sym c.is_at-2.ensures ∙ c.if-is_at.true))
 
 pub returns-then-not-stands-clause-accepted : goal.returns-then-not-stands-clause-accepted
 returns-then-not-stands-clause-accepted c front back shown none =
     let gap = gap_inwards c.args.side front c.args.member back in
-    let whole = subst (ShowsTree c.args.table.now c.args.tree.now) (sym (inwards_joins c.args.side front c.args.member back)) shown in
+    let whole = subst (RepresentsTree c.args.table.now c.args.tree.now) (sym (inwards_joins c.args.side front c.args.member back)) shown in
     let there : IsBeside (across (across c.args.side)) gap c.beside-next.result =
     rw (← c.inwards.ensures) (c.beside-next.ensures.leads gap whole (rw c.inwards.ensures (inwards_beside c.args.side front c.args.member back))) in
     never c.if-not-stands.true (c.stands.ensures.stands.1 (rw c.beside-next.ensures.same (beside_stands (across (across c.args.side)) gap whole there)))
 
 pub returns-clause-shown : goal.returns-clause-shown
 returns-clause-shown c front back after shown is same =
-    let leads : (cut : Cut) → ShowsTree c.args.table.now c.args.tree.now (join cut) → IsBeside (across c.args.side) cut (Some c.args.member)
+    let leads : (cut : Cut) → RepresentsTree c.args.table.now c.args.tree.now (join cut) → IsBeside (across c.args.side) cut (Some c.args.member)
     → IsBeside (across (across c.args.side)) cut c.beside-next.result =
-    subst (λ (s : Side). (cut : Cut) → ShowsTree c.args.table.now c.args.tree.now (join cut) → IsBeside s cut (Some c.args.member)
+    subst (λ (s : Side). (cut : Cut) → RepresentsTree c.args.table.now c.args.tree.now (join cut) → IsBeside s cut (Some c.args.member)
     → IsBeside (across s) cut c.beside-next.result) c.inwards.ensures c.beside-next.ensures.leads in
     sym (some_same same) ∙ end_steps {n = node} c.args.side front back c.args.member shown is (sym c.is_at.ensures ∙ c.if-not-is_at.false) leads
 

@@ -6,7 +6,7 @@ use Rattle.ic_link_ops.proofs.SequenceLemmas.{some_same}
 use Rattle.ic_rbtree.specs.Ends.{end_on}
 use Rattle.ic_rbtree.specs.Closed.{AreIn}
 use Rattle.ic_raw.specs.Seen.{has_place}
-use Rattle.ic_raw.specs.Tree.{ShowsTree, root_in, table_of}
+use Rattle.ic_raw.specs.Tree.{RepresentsTree, root_in, table_of}
 use Rattle.ic_raw_keyed.specs.Ends.{EndWith, SaysEnds, end_in}
 use Rattle.ic_raw_keyed.proofs.TreeEnds.{put_in}
 use Rattle.ic_raw_keyed.proofs.ends_calls.insert.Goals as goal
@@ -29,7 +29,7 @@ returns c = record {
   call = rw c.end_with-last.ensures.same (rw c.end_with-first.ensures.same c.insert-status.ensures);
   ends_kept = λ cut p is made says shown.
       let one : p ≡ c.in-Some.new = some_same (sym is ∙ sym c.place_of.ensures ∙ c.in-Some.is) in
-      let after : ShowsTree c.insert-status.new.table c.insert-status.new.tree (insert cut c.in-Some.new) = rw (c.end_with-last.ensures.same, c.end_with-first.ensures.same, one) at shown in
+      let after : RepresentsTree c.insert-status.new.table c.insert-status.new.tree (insert cut c.in-Some.new) = rw (c.end_with-last.ensures.same, c.end_with-first.ensures.same, one) at shown in
       rw one (kept cut after says);
   own = λ made. rw (c.end_with-last.ensures.same, c.end_with-first.ensures.same, ← c.place_of.ensures, c.in-Some.is) new;
   words = λ made. c.of.ensures.words;
@@ -38,7 +38,7 @@ returns c = record {
   within : AreIn (has_place (table_of c.insert-status.new.table)) (Some c.in-Some.new ∷ root_in c.insert-status.new.tree ∷ [])
   within = put_in c.insert-status.ensures c.in-Some.new (sym c.place_of.ensures ∙ c.in-Some.is) c.if-status-ne-OK.false
 
-  kept : (cut : Cut) → ShowsTree c.insert-status.new.table c.insert-status.new.tree (insert cut c.in-Some.new) → SaysEnds c.args.ends.now (join cut)
+  kept : (cut : Cut) → RepresentsTree c.insert-status.new.table c.insert-status.new.tree (insert cut c.in-Some.new) → SaysEnds c.args.ends.now (join cut)
       → (d : Side) → end_in d c.of.result ≡ end_on d (insert cut c.in-Some.new)
   kept cut after says Left = c.of.ensures.first ∙ c.end_with-first.ensures.shown cut after (c.end.ensures ∙ says Left)
   kept cut after says Right = c.of.ensures.last ∙ c.end_with-last.ensures.shown cut (rw c.end_with-first.ensures.same after) (c.end-2.ensures ∙ says Right)

@@ -4,7 +4,7 @@ use Rattle.ic_link_ops.proofs.SequenceLemmas.{some_same}
 use Rattle.ic_rbtree.specs.Closed.{IsIn}
 use Rattle.ic_raw.specs.declared.words.RawThree.{RawThree}
 use Rattle.ic_raw.specs.Seen.{has_place}
-use Rattle.ic_raw.specs.Tree.{StandsIn, root_in, table_of}
+use Rattle.ic_raw.specs.Tree.{IsNoneOrLinkedIn, root_in, table_of}
 use Rattle.ic_raw.specs.TreeCalls as trees
 use Rattle.ic_raw.specs.Words.{place_of}
 use Rattle.ic_raw_keyed.proofs.TreeEnds.{stands_in}
@@ -56,8 +56,8 @@ returns c = record {
   own = λ p at made d.
       let one : p ≡ c.in-Some.member = some_same (sym at ∙ sym c.place_of.ensures ∙ c.in-Some.is) in
       let same = c.ends_without.ensures.same in
-      let stands = subst (λ (es : List RawThree). StandsIn es (place_of c.args.at)) same (c.remove-status.ensures.stands c.if-status-ne-OK.false) in
-      let root = subst (λ (es : List RawThree). StandsIn es (root_in c.args.tree.now)) same (c.remove-status.ensures.root c.if-status-ne-OK.false) in
+      let stands = subst (λ (es : List RawThree). IsNoneOrLinkedIn es (place_of c.args.at)) same (c.remove-status.ensures.stands c.if-status-ne-OK.false) in
+      let root = subst (λ (es : List RawThree). IsNoneOrLinkedIn es (root_in c.args.tree.now)) same (c.remove-status.ensures.root c.if-status-ne-OK.false) in
       let there = subst (λ (o : Option Place). IsIn (has_place (table_of c.args.table.now)) o) (sym c.place_of.ensures ∙ c.in-Some.is)
       (stands_in c.args.table.now (place_of c.args.at) stands) in
       rw one (c.ends_without.ensures.own c.in-Some-ends_without.after c.in-Some-ends_without.is (there, (stands_in c.args.table.now (root_in c.args.tree.now) root, tt)) d);

@@ -1,6 +1,6 @@
 use Rattle.std.proofs.Common.{◌≡◌, ◌+◌, ℕ, false, not, is_some, true≢false, Option, Some, None, refl, sym, ap, ◌∙◌, subst}
 use Rattle.ic_unsafe_ref.specs.declared.place.Place.{Place}
-use Rattle.ic_raw.specs.Gaps.{Stands}
+use Rattle.ic_raw.specs.Gaps.{IsNoneOrLinked}
 use Rattle.ic_raw.specs.Hash.{bucket_at}
 use Rattle.ic_raw.specs.Singly.{front_of, lent_table}
 use Rattle.ic_raw.specs.Words.{is_linked_one}
@@ -8,7 +8,7 @@ use Rattle.ic_raw.proofs.Gaps.{never}
 use Rattle.ic_raw.proofs.HashChecks.{own_ended, own_more, own_none, own_there}
 use Rattle.ic_raw.proofs.HashWalks.{comes_first, comes_linked, comes_on}
 use Rattle.ic_raw.proofs.Singly.{covered}
-use Rattle.ic_raw_keyed.specs.Growth.{LeadsToStanding}
+use Rattle.ic_raw_keyed.specs.Growth.{LeadsToLinked}
 use Rattle.ic_raw_keyed.proofs.growth.can_move.Goals as goal
 
 pub loop-left-init : goal.loop-left-init
@@ -29,16 +29,16 @@ pub returns-then-not-stands-clause-shown : goal.returns-then-not-stands-clause-s
 returns-then-not-stands-clause-shown c s shown own =
     let t = lent_table c.args.links.now in
     let k = rw c.in-Some.is at (c.loop-left.invariant.comes s shown) in
-    let here = own_there (LeadsToStanding t c.args.hashes.now c.args.buckets.now) k.1 own in
-    let there = subst (λ (n : ℕ). Stands is_linked_one t (front_of (bucket_at c.args.buckets.now n))) (sym c.slot_for.ensures.slot) here in
-    absurd (never c.if-not-stands.true (c.stands.ensures.1 (subst (λ (o : Option Place). Stands is_linked_one t o) (sym c.front_at.ensures) there)))
+    let here = own_there (LeadsToLinked t c.args.hashes.now c.args.buckets.now) k.1 own in
+    let there = subst (λ (n : ℕ). IsNoneOrLinked is_linked_one t (front_of (bucket_at c.args.buckets.now n))) (sym c.slot_for.ensures.slot) here in
+    absurd (never c.if-not-stands.true (c.stands.ensures.1 (subst (λ (o : Option Place). IsNoneOrLinked is_linked_one t o) (sym c.front_at.ensures) there)))
 
 pub loop-left-preserved : goal.loop-left-preserved
 loop-left-preserved c =
     let t = lent_table c.args.links.now in
     let linked = sym c.is_linked.ensures ∙ c.if-not-is_linked.false in
-    let there = subst (λ (o : Option Place). Stands is_linked_one t o) c.front_at.ensures (c.stands.ensures.0 c.if-not-stands.false) in
-    let here = subst (λ (n : ℕ). Stands is_linked_one t (front_of (bucket_at c.args.buckets.now n))) c.slot_for.ensures.slot there in
+    let there = subst (λ (o : Option Place). IsNoneOrLinked is_linked_one t o) c.front_at.ensures (c.stands.ensures.0 c.if-not-stands.false) in
+    let here = subst (λ (n : ℕ). IsNoneOrLinked is_linked_one t (front_of (bucket_at c.args.buckets.now n))) c.slot_for.ensures.slot there in
     record {
       comes = λ s shown.
           let k = rw c.in-Some.is at (c.loop-left.invariant.comes s shown) in

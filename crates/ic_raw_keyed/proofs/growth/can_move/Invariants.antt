@@ -1,18 +1,19 @@
 use Rattle.std.proofs.Common.{ℕ, false, List, Option}
 use Rattle.ic_unsafe_ref.specs.declared.place.Place.{Place}
 use Rattle.ic_link_ops.specs.SinglyLinkedList.{list_from}
-use Rattle.ic_raw.specs.Singly.{Shows, lent_table}
+use Rattle.ic_raw.specs.Singly.{Represents, lent_table}
 use Rattle.ic_raw.proofs.HashChecks.{WalksOwn}
 use Rattle.ic_raw.proofs.HashWalks.{Comes}
-use Rattle.ic_raw_keyed.specs.Growth.{LeadsToStanding}
+use Rattle.ic_raw_keyed.specs.Growth.{LeadsToLinked}
 use Rattle.ic_raw_keyed.proofs.growth.can_move.Given as goal
 
--- the places that were walked are linked, and lead to buckets that begin with linked places, and in each sequence that is shown no more are left than steps
+-- the places that were walked are linked, and lead to buckets that begin with linked places, and in each sequence that is represented no more are
+-- left than steps
 abbrev pub invariant-loop-left : goal.invariant-loop-left
 invariant-loop-left l = record {
-  comes : (s : List Place) → Shows (lent_table l.fn.links) (list_from l.fn.front) s
+  comes : (s : List Place) → Represents (lent_table l.fn.links) (list_from l.fn.front) s
       → (before : Option Place) × Comes (λ p. false) (lent_table l.fn.links) s before l.current l.left;
-  walks : (n : ℕ) × WalksOwn (LeadsToStanding (lent_table l.fn.links) l.fn.hashes l.fn.buckets) (lent_table l.fn.links) l.fn.front l.current n;
+  walks : (n : ℕ) × WalksOwn (LeadsToLinked (lent_table l.fn.links) l.fn.hashes l.fn.buckets) (lent_table l.fn.links) l.fn.front l.current n;
 }
 
 abbrev pub decreases-loop-left : goal.decreases-loop-left

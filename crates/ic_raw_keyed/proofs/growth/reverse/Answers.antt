@@ -1,20 +1,20 @@
 use Rattle.std.proofs.Common.{refl, ◌∙◌, arith}
 use Rattle.ic_link_ops.specs.SinglyLinkedList.{list_from}
-use Rattle.ic_link_ops.proofs.SinglyLists.{shown_length}
+use Rattle.ic_link_ops.proofs.SinglyLists.{represented_length}
 use Rattle.ic_raw.specs.Singly.{lent_table}
 use Rattle.ic_raw.proofs.Singly.{covered}
-use Rattle.ic_raw_keyed.proofs.MovedChains.{reverse_done, reverse_more, reverse_none, reverse_over, shown_linked}
+use Rattle.ic_raw_keyed.proofs.MovedChains.{reverse_done, reverse_more, reverse_none, reverse_over, represented_linked}
 use Rattle.ic_raw_keyed.proofs.growth.reverse.Goals as goal
 
 pub loop-left-init : goal.loop-left-init
 loop-left-init c = record {
-  comes = λ s shown. reverse_none shown (rw c.places-left.ensures (shown_length (lent_table c.args.links.now) (covered c.args.links.now) (list_from c.args.front) s shown));
+  comes = λ s shown. reverse_none shown (rw c.places-left.ensures (represented_length (lent_table c.args.links.now) (covered c.args.links.now) (list_from c.args.front) s shown));
   links = λ q. refl;
 }
 
 pub turn-at-requires : goal.turn-at-requires
 turn-at-requires c =
-    let k = rw c.in-Some.is at (c.loop-left.invariant.comes c.requires.0 c.requires.1) in shown_linked k.rest k.behind
+    let k = rw c.in-Some.is at (c.loop-left.invariant.comes c.requires.0 c.requires.1) in represented_linked k.rest k.behind
 
 pub returns-in_default-clause-reversed : goal.returns-in_default-clause-reversed
 returns-in_default-clause-reversed c s shown = reverse_done (c.loop-left.invariant.comes s shown) c.in_default.is

@@ -1,19 +1,18 @@
 use Rattle.std.proofs.Common.{◌≡◌, ◌-◌, Option, Some, List, true, length, refl, sym, ap, ◌∙◌, subst, arith}
 use Rattle.std.proofs.lemmas.List.{length-set}
-use Rattle.ic_unsafe_ref.specs.declared.place.Place.{Place}
+use Rattle.ic_link_ops.specs.Prelude.{Place, Extent}
 use Rattle.ic_link_ops.specs.SinglyLinkedList.{list_from, successor_at}
-use Rattle.ic_link_ops.specs.Tables.{Extent}
-use Rattle.ic_link_ops.proofs.SinglyLists.{shown_length}
+use Rattle.ic_link_ops.proofs.SinglyLists.{represented_length}
 use Rattle.ic_raw.specs.declared.words.RawFront.{RawFront}
 use Rattle.ic_raw.specs.Singly.{lent_table, successor, word_of_front}
 use Rattle.ic_raw.proofs.Singly.{covered}
-use Rattle.ic_raw_keyed.proofs.MovedChains.{SpreadsTo, shown_linked, spread_done, spread_more, spread_none, spread_over_now}
+use Rattle.ic_raw_keyed.proofs.MovedChains.{SpreadsTo, represented_linked, spread_done, spread_more, spread_none, spread_over_now}
 use Rattle.ic_raw_keyed.proofs.growth.spread.Goals as goal
 
 pub loop-left-init : goal.loop-left-init
 loop-left-init c = record {
   comes = λ r shown.
-      spread_none c.args.links.now shown (rw c.places-left.ensures (shown_length (lent_table c.args.links.now) (covered c.args.links.now) (list_from c.args.front) r shown));
+      spread_none c.args.links.now shown (rw c.places-left.ensures (represented_length (lent_table c.args.links.now) (covered c.args.links.now) (list_from c.args.front) r shown));
   links = λ q. refl;
   count = refl;
 }
@@ -21,14 +20,14 @@ loop-left-init c = record {
 pub slot_for-slot-requires-clause-keys : goal.slot_for-slot-requires-clause-keys
 slot_for-slot-requires-clause-keys c =
     let k = rw c.in-Some.is at (c.loop-left.invariant.comes c.requires.shown.0 c.requires.shown.1) in
-    let inside = covered c.loop-left.links c.in-Some.place (shown_linked k.rest k.behind) in
+    let inside = covered c.loop-left.links c.in-Some.place (represented_linked k.rest k.behind) in
     let places = ap (λ (x : Extent). x.places) k.frame.extent in
     let keys = c.requires.keys in
     omega (arith, inside, places, keys)
 
 pub turn-at-requires : goal.turn-at-requires
 turn-at-requires c =
-    let k = rw c.in-Some.is at (c.loop-left.invariant.comes c.requires.shown.0 c.requires.shown.1) in shown_linked k.rest k.behind
+    let k = rw c.in-Some.is at (c.loop-left.invariant.comes c.requires.shown.0 c.requires.shown.1) in represented_linked k.rest k.behind
 
 pub returns-in_default-clause-spread : goal.returns-in_default-clause-spread
 returns-in_default-clause-spread c r shown = spread_done (c.loop-left.invariant.comes r shown) c.in_default.is

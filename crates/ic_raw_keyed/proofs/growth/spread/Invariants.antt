@@ -1,8 +1,7 @@
 use Rattle.std.proofs.Common.{◌≡◌, List, length}
-use Rattle.ic_unsafe_ref.specs.declared.place.Place.{Place}
+use Rattle.ic_link_ops.specs.Prelude.{Place, KeepsLinked}
 use Rattle.ic_link_ops.specs.SinglyLinkedList.{list_from}
-use Rattle.ic_link_ops.specs.Tables.{KeepsLinked}
-use Rattle.ic_raw.specs.Singly.{Shows, lent_table}
+use Rattle.ic_raw.specs.Singly.{Represents, lent_table}
 use Rattle.ic_raw.specs.Words.{is_linked_one}
 use Rattle.ic_raw_keyed.proofs.MovedChains.{SpreadsTo}
 use Rattle.ic_raw_keyed.proofs.growth.spread.Given as goal
@@ -10,7 +9,7 @@ use Rattle.ic_raw_keyed.proofs.growth.spread.Given as goal
 -- the members up to `at` are spread, and no place was linked or unlinked
 abbrev pub invariant-loop-left : goal.invariant-loop-left
 invariant-loop-left l = record {
-  comes : (r : List Place) → Shows (lent_table l.fn.links) (list_from l.fn.front) r → SpreadsTo l.fn.hashes l.fn.links l.links l.fn.buckets l.buckets r l.at l.left;
+  comes : (r : List Place) → Represents (lent_table l.fn.links) (list_from l.fn.front) r → SpreadsTo l.fn.hashes l.fn.links l.links l.fn.buckets l.buckets r l.at l.left;
   links : KeepsLinked is_linked_one (lent_table l.fn.links) (lent_table l.links);
   count : length l.buckets ≡ length l.fn.buckets;
 }

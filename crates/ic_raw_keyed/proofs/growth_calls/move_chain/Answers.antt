@@ -3,12 +3,12 @@ use Rattle.std.specs.List.{AllByRecursion}
 use Rattle.ic_link_ops.specs.SinglyLinkedList.{list_from}
 use Rattle.ic_raw.specs.declared.words.RawOne.{RawOne}
 use Rattle.ic_raw.specs.Hash.{HoldsChains}
-use Rattle.ic_raw.specs.Singly.{Shows, lent_table, table_of}
+use Rattle.ic_raw.specs.Singly.{Represents, lent_table, table_of}
 use Rattle.ic_raw.specs.Words.{no_word}
 use Rattle.ic_raw.proofs.Gaps.{never}
 use Rattle.ic_raw.proofs.Lists.{kept}
-use Rattle.ic_raw.proofs.Views.{frame_back, shown_back, viewed}
-use Rattle.ic_raw_keyed.specs.Growth.{LeadsToStanding}
+use Rattle.ic_raw.proofs.Views.{frame_back, represented_back, viewed}
+use Rattle.ic_raw_keyed.specs.Growth.{LeadsToLinked}
 use Rattle.ic_raw_keyed.proofs.MovedChains.{all_stand, apart_reversed, both_frames, frame_words, holds_as, holds_beside, holds_words, own_reversed, spread_reversed}
 use Rattle.ic_raw_keyed.proofs.growth_calls.move_chain.Goals as goal
 
@@ -41,22 +41,22 @@ returns c =
         accepted = refl;
         done =
             let h = subst (λ (es : List RawOne). HoldsChains es c.args.buckets.now chains) (sym view) holds in
-            let seen : Shows (lent_table t) (list_from c.place_in-front.result) s = rw c.place_in-front.ensures (viewed no_word kept t view shown) in
+            let seen : Represents (lent_table t) (list_from c.place_in-front.result) s = rw c.place_in-front.ensures (viewed no_word kept t view shown) in
             let still = holds_beside s h (frame_back no_word t u (c.reverse-back.ensures.frame s seen)) apart in
             holds_words v (search rules) (holds_as (spread_reversed c.args.hashes.now _ chains s) ((c.spread.ensures.spread _ (c.reverse-back.ensures.reversed s seen)).holds chains still (λ i fits. apart_reversed (chains i) s (apart i fits))));
       };
       looked = search rules;
       ended = λ made.
           let ended = c.can_move.ensures.ended c.if-not-can_move.false in
-          (ended.0, shown_back no_word kept t view (rw c.place_in-front.ensures at ended.1), subst (λ (es : List RawOne). AllByRecursion (LeadsToStanding (table_of es) c.args.hashes.now c.args.buckets.now) ended.0) view ended.2);
+          (ended.0, represented_back no_word kept t view (rw c.place_in-front.ensures at ended.1), subst (λ (es : List RawOne). AllByRecursion (LeadsToLinked (table_of es) c.args.hashes.now c.args.buckets.now) ended.0) view ended.2);
       emptied = search rules;
       touched = λ s shown.
-          let seen : Shows (lent_table t) (list_from c.place_in-front.result) s = rw c.place_in-front.ensures (viewed no_word kept t view shown) in
+          let seen : Represents (lent_table t) (list_from c.place_in-front.result) s = rw c.place_in-front.ensures (viewed no_word kept t view shown) in
           let frame = both_frames s (c.reverse-back.ensures.frame s seen) (c.spread.ensures.spread _ (c.reverse-back.ensures.reversed s seen)).frame in
           frame_words t v view (search rules) frame;
       links = λ q. search rules;
       own = λ s shown i.
-          let seen : Shows (lent_table t) (list_from c.place_in-front.result) s = rw c.place_in-front.ensures (viewed no_word kept t view shown) in
+          let seen : Represents (lent_table t) (list_from c.place_in-front.result) s = rw c.place_in-front.ensures (viewed no_word kept t view shown) in
           own_reversed _ _ _ s i ((c.spread.ensures.spread _ (c.reverse-back.ensures.reversed s seen)).own i);
       count = search rules;
       refused = search rules;

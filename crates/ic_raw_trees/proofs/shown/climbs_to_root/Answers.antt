@@ -2,7 +2,7 @@ use Rattle.std.proofs.Common.{refl, sym, ◌∙◌, arith}
 use Rattle.ic_unsafe_ref.specs.Places.{index_of}
 use Rattle.ic_link_ops.specs.EntryLaws.{linked_in_range}
 use Rattle.ic_link_ops.proofs.SequenceLemmas.{split_member}
-use Rattle.ic_link_ops.proofs.ShownTrees.{root_member}
+use Rattle.ic_link_ops.proofs.RepresentedTrees.{root_member}
 use Rattle.ic_link_ops.proofs.Walks.{is_end_yes}
 use Rattle.ic_rbtree.proofs.Climbed.{at_root, child_member, climbs, has_child, is_end_there, starts}
 use Rattle.ic_raw.specs.MarkedTree.{marked_entries}

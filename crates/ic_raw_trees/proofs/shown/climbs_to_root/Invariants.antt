@@ -1,11 +1,9 @@
 use Rattle.std.proofs.Common.{List, ◌-◌, ◌≤◌}
-use Rattle.ic_unsafe_ref.specs.declared.place.Place.{Place}
-use Rattle.ic_link_ops.specs.Sequences.{IsMember}
-use Rattle.ic_link_ops.specs.Tables.{IsLinked}
+use Rattle.ic_link_ops.specs.Prelude.{Place, IsMember, IsLinked}
 use Rattle.ic_rbtree.specs.Tree.{root_of}
 use Rattle.ic_rbtree.proofs.Climbed.{Climbs}
 use Rattle.ic_raw.specs.MarkedTree.{marked_table}
-use Rattle.ic_raw.specs.Tree.{Shows, node}
+use Rattle.ic_raw.specs.Tree.{Represents, node}
 use Rattle.ic_raw.specs.Words.{is_linked_three}
 use Rattle.ic_raw_trees.proofs.shown.climbs_to_root.Given as goal
 
@@ -15,8 +13,8 @@ invariant-loop-steps l =
     let root = root_of l.fn.tree in
     record {
       linked : IsLinked is_linked_three (marked_table l.links) l.place;
-      climbs : (s : List Place) → Shows table root s → IsMember l.fn.place s → Climbs node table root l.place l.steps;
-      back : (s : List Place) → Shows table root s → IsMember l.place s → IsMember l.fn.place s;
+      climbs : (s : List Place) → Represents table root s → IsMember l.fn.place s → Climbs node table root l.place l.steps;
+      back : (s : List Place) → Represents table root s → IsMember l.place s → IsMember l.fn.place s;
       few : l.steps ≤ 66;
     }
 

@@ -7,11 +7,11 @@ use Rattle.ic_raw.proofs.Gaps.{never}
 use Rattle.ic_raw_trees.proofs.MarkedViews.{free_in, inserts_back, parts_back, parts_viewed, steps_back, unlinked_viewed}
 use Rattle.ic_raw_trees.proofs.tree_move_calls.join.Goals as goal
 
-pub returns-then-not-shows_both : goal.returns-then-not-shows_both
-returns-then-not-shows_both c = record {
+pub returns-then-not-represents_both : goal.returns-then-not-represents_both
+returns-then-not-represents_both c = record {
   joined = λ gap p at both free.
       let parts = parts_viewed c.new-links.result (c.new-links.ensures.words ∙ c.place_fault-fault.ensures.kept) both in
-      absurd (never c.if-not-shows_both.true (c.shows_both.ensures.1 (gap, rw (c.tree_of-edited.ensures, c.tree_of-later.ensures) parts)));
+      absurd (never c.if-not-represents_both.true (c.represents_both.ensures.1 (gap, rw (c.tree_of-edited.ensures, c.tree_of-later.ensures) parts)));
   shown = search rules;
   free = search rules;
   no_place = search rules;
@@ -39,7 +39,7 @@ returns c =
             done = rw one (inserts_back c.new-links.result c.join.new.links same (search rules) c.write_back.ensures.set (rw c.new.ensures at made));
           };
       shown = λ ok.
-          let both = rw (c.tree_of-edited.ensures, c.tree_of-later.ensures) at (c.shows_both.ensures.0 c.if-not-shows_both.false) in
+          let both = rw (c.tree_of-edited.ensures, c.tree_of-later.ensures) at (c.represents_both.ensures.0 c.if-not-represents_both.false) in
           (both.0, parts_back c.new-links.result same both.1);
       free = λ p at ok.
           let one : p ≡ c.in-Some.object = some_same (sym at ∙ (sym c.place_of.ensures ∙ c.in-Some.is)) in

@@ -74,7 +74,7 @@ returns c =
           rw one (member_back c.new-links.result same has);
       null = search rules;
       empty = λ ok. sym c.tree_of.ensures ∙ (sym c.root.ensures ∙ none_of c.root.result (sym c.is_some.ensures ∙ c.if-is_some.false));
-      linked = steps_back c.new-links.result c.split_off-handed.new.links same (search rules) [] c.split_off-handed.ensures.no_step;
+      linked = steps_back c.new-links.result c.split_off-handed.new.links same (search rules) [] c.split_off-handed.ensures.trace_stays;
       words = search rules;
       rest_words = search rules;
       refused = search rules;

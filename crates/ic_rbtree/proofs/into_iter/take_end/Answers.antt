@@ -39,7 +39,7 @@ hang-requires g c =
     let x = at_end n (g.L.LinkOps.table c.args.links.now) c.args.side c.args.near.now c.args.far.now c.in_ok-place.place s.0 (sym c.get.ensures ∙ c.in_ok-place.was) s.1 in
     let child = child_linked n x c.child-below.result (end_child n x c.other.result c.child-below.result c.other.ensures c.child-below.ensures) in
     let parent = parent_linked n x c.parent-parent.result (end_parent n x c.parent-parent.result c.parent-parent.ensures) in
-    let same = same_nodes n g.met.L.RBTreeOps.linked_alike (g.L.LinkOps.table c.args.links.now) (g.L.LinkOps.table c.adopt.new.links) (g.met.L.LinkOps.does_replay _ _ [] (c.adopt.ensures.quiet _ [] (g.met.L.LinkOps.does_nothing _))) in
+    let same = same_nodes n g.met.L.RBTreeOps.linked_alike (g.L.LinkOps.table c.args.links.now) (g.L.LinkOps.table c.adopt.new.links) (g.met.L.LinkOps.does_replay _ _ [] (c.adopt.ensures.keeps_links _ [] (g.met.L.LinkOps.does_nothing _))) in
     record { parent = λ q e. same q ∙ parent q e; named = λ q e. same q ∙ child q e }
 
 pub outer-next-requires : goal.outer-next-requires
@@ -55,7 +55,7 @@ release_link-requires g c =
     let n = g.L.RBTreeOps.node in
     let s = c.requires.shown in
     let x = at_end n (g.L.LinkOps.table c.args.links.now) c.args.side c.args.near.now c.args.far.now c.in_ok-place.place s.0 (sym c.get.ensures ∙ c.in_ok-place.was) s.1 in
-    let none = c.hang.ensures.no_step _ [] (c.adopt.ensures.quiet _ [] (g.met.L.LinkOps.does_nothing _)) in
+    let none = c.hang.ensures.trace_stays _ [] (c.adopt.ensures.keeps_links _ [] (g.met.L.LinkOps.does_nothing _)) in
     record { linked = g.met.L.LinkOps.does_replay _ _ [] none c.in_ok-place.place ∙ (sym (g.met.L.RBTreeOps.linked_alike _) ∙ end_linked n x) }
 
 pub returns-clause-removed : goal.returns-clause-removed
@@ -72,7 +72,7 @@ returns-clause-removed g c w shown =
 pub returns-clause-released : goal.returns-clause-released
 returns-clause-released g c =
     let L = g.met.L.LinkOps in
-    L.does_on _ _ _ [] _ (c.hang.ensures.no_step _ [] (c.adopt.ensures.quiet _ [] (L.does_nothing _))) c.release_link.ensures.released
+    L.does_on _ _ _ [] _ (c.hang.ensures.trace_stays _ [] (c.adopt.ensures.keeps_links _ [] (L.does_nothing _))) c.release_link.ensures.released
 
 pub returns-clause-frame : goal.returns-clause-frame
 returns-clause-frame g c w shown =

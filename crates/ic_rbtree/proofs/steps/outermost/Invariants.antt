@@ -1,11 +1,10 @@
 use Rattle.std.proofs.Common.{◌≡◌, ◌-◌, List, Option, Some}
-use Rattle.ic_unsafe_ref.specs.declared.place.Place.{Place}
-use Rattle.ic_link_ops.specs.Tables.{Table}
+use Rattle.ic_link_ops.specs.Prelude.{Place, Table}
 use Rattle.ic_link_ops.specs.Trees.{Tree, top}
 use Rattle.ic_link_ops.specs.Frames.{Frame}
 use Rattle.ic_rbtree.specs.Climb.{depth}
-use Rattle.ic_rbtree.specs.Pieces.{Piece, Stands}
-use Rattle.ic_rbtree.specs.Sides.{StandsAt}
+use Rattle.ic_rbtree.specs.Pieces.{Piece, ClimbState}
+use Rattle.ic_rbtree.specs.Sides.{IsInTree}
 use Rattle.ic_rbtree.proofs.Outermost.{Down}
 use Rattle.ic_rbtree.proofs.steps.outermost.Given as goal
 
@@ -14,8 +13,8 @@ invariant-loop-below g l =
     let n = g.L.RBTreeOps.node in
     let v = g.L.LinkOps.table l.links in
     record {
-      some : StandsAt n v l.place;
-      each : (base : Table g.row.L-Entry.Denot) (root : Option Place) (fs : List Frame) (t : Tree) (ps : List Piece) → Stands n base v root fs t ps → top t ≡ Some l.fn.place
+      some : IsInTree n v l.place;
+      each : (base : Table g.row.L-Entry.Denot) (root : Option Place) (fs : List Frame) (t : Tree) (ps : List Piece) → ClimbState n base v root fs t ps → top t ≡ Some l.fn.place
           → (gs : List Frame) × (u : Tree) × Down n base v root l.side l.place fs t ps gs u;
     }
 

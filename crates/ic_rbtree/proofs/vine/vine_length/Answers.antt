@@ -12,14 +12,14 @@ returns-in_default g c s h =
 pub right-at-requires : goal.right-at-requires
 right-at-requires g c =
     let i = c.loop-count.invariant c.requires.0 c.requires.1 in
-    let s = along g.N.Nodes.node in
-    let t = (g.N.Nodes.table c.args.links.now).entry in
+    let s = along g.N.NodeStore.node in
+    let t = (g.N.NodeStore.table c.args.links.now).entry in
     record { linked = walk_linked {s = s} t c.in-Some.place i.0 (subst (λ o. IsWalk s t o i.0) c.in-Some.is i.1) }
 
 pub loop-count-preserved : goal.loop-count-preserved
 loop-count-preserved g c w h =
-    let s = along g.N.Nodes.node in
-    let t = (g.N.Nodes.table c.args.links.now).entry in
+    let s = along g.N.NodeStore.node in
+    let t = (g.N.NodeStore.table c.args.links.now).entry in
     let i = c.loop-count.invariant w h in
     let more = walk_more {s = s} t c.in-Some.place i.0 (subst (λ o. IsWalk s t o i.0) c.in-Some.is i.1) in
     (more.0, subst (λ o. IsWalk s t o more.0) (sym c.right-at.ensures) more.2, omega (arith, i.2, ap length more.1))

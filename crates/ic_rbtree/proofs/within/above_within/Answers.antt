@@ -11,7 +11,7 @@ parent-parent-requires g c = let r = c.requires in let k = r.1 in record { linke
 pub loop-parent-init : goal.loop-parent-init
 loop-parent-init g c = record {
   parent = c.parent-parent.ensures;
-  each = λ base root fs t ps s e. (fs, t, up_starts g.N.Nodes.node fs t s e, omega arith);
+  each = λ base root fs t ps s e. (fs, t, up_starts g.N.NodeStore.node fs t s e, omega arith);
   up = λ end e. e;
   safe = λ root S h i. i;
 }
@@ -22,7 +22,7 @@ is_child-requires g c =
     let k = r.1 in
     let here = c.loop-parent.invariant.safe r.0 k.0 k.1 k.2.0 in
     record {
-      above = k.1.linked c.in-Some.above (in_there k.0 (in_parent g.N.Nodes.node k.1 c.loop-parent.place here c.loop-parent.invariant.parent) c.in-Some.is);
+      above = k.1.linked c.in-Some.above (in_there k.0 (in_parent g.N.NodeStore.node k.1 c.loop-parent.place here c.loop-parent.invariant.parent) c.in-Some.is);
       place = k.1.linked c.loop-parent.place here;
     }
 
@@ -31,16 +31,16 @@ parent-parent-requires-in-Some g c =
     let r = c.requires in
     let k = r.1 in
     let here = c.loop-parent.invariant.safe r.0 k.0 k.1 k.2.0 in
-    record { linked = k.1.linked c.in-Some.above (in_there k.0 (in_parent g.N.Nodes.node k.1 c.loop-parent.place here c.loop-parent.invariant.parent) c.in-Some.is) }
+    record { linked = k.1.linked c.in-Some.above (in_there k.0 (in_parent g.N.NodeStore.node k.1 c.loop-parent.place here c.loop-parent.invariant.parent) c.in-Some.is) }
 
 pub returns-then-not-is_child-clause-nearest : goal.returns-then-not-is_child-clause-nearest
 returns-then-not-is_child-clause-nearest g c base root fs t ps s e low =
     let i = c.loop-parent.invariant.each base root fs t ps s e in
-    up_ends g.N.Nodes.node fs i.0 i.1 i.2 (sym c.loop-parent.invariant.parent ∙ c.in-Some.is) (is_end_no _ c.loop-parent.place (sym c.if-not-is_child.ensures))
+    up_ends g.N.NodeStore.node fs i.0 i.1 i.2 (sym c.loop-parent.invariant.parent ∙ c.in-Some.is) (is_end_no _ c.loop-parent.place (sym c.if-not-is_child.ensures))
 
 pub returns-then-not-is_child-clause-safe : goal.returns-then-not-is_child-clause-safe
 returns-then-not-is_child-clause-safe g c root S h i =
-    (h, (in_there S (in_parent g.N.Nodes.node h c.loop-parent.place (c.loop-parent.invariant.safe root S h i.0) c.loop-parent.invariant.parent) c.in-Some.is, tt))
+    (h, (in_there S (in_parent g.N.NodeStore.node h c.loop-parent.place (c.loop-parent.invariant.safe root S h i.0) c.loop-parent.invariant.parent) c.in-Some.is, tt))
 
 pub returns-then-turns-eq0-clause-nearest : goal.returns-then-turns-eq0-clause-nearest
 returns-then-turns-eq0-clause-nearest g c base root fs t ps s e low =
@@ -49,26 +49,26 @@ returns-then-turns-eq0-clause-nearest g c base root fs t ps s e low =
 
 pub returns-then-turns-eq0-clause-safe : goal.returns-then-turns-eq0-clause-safe
 returns-then-turns-eq0-clause-safe g c root S h i =
-    (h, (in_there S (in_parent g.N.Nodes.node h c.loop-parent.place (c.loop-parent.invariant.safe root S h i.0) c.loop-parent.invariant.parent) c.in-Some.is, tt))
+    (h, (in_there S (in_parent g.N.NodeStore.node h c.loop-parent.place (c.loop-parent.invariant.safe root S h i.0) c.loop-parent.invariant.parent) c.in-Some.is, tt))
 
 pub loop-parent-preserved : goal.loop-parent-preserved
 loop-parent-preserved g c = record {
   parent = c.parent-parent-in-Some.ensures;
   each = λ base root fs t ps s e.
       let i = c.loop-parent.invariant.each base root fs t ps s e in
-      let u = step_up g.N.Nodes.node fs i.0 i.1 i.2 (sym c.loop-parent.invariant.parent ∙ c.in-Some.is) (is_end_yes _ c.loop-parent.place (sym c.if-not-is_child.ensures)) in
+      let u = step_up g.N.NodeStore.node fs i.0 i.1 i.2 (sym c.loop-parent.invariant.parent ∙ c.in-Some.is) (is_end_yes _ c.loop-parent.place (sym c.if-not-is_child.ensures)) in
       (u.0, u.1, u.2, omega (arith, u.3, i.3, c.if-turns-eq0.false));
   up = λ end e. c.loop-parent.invariant.up end (
     c.in-Some.above ∷ e.0,
     (sym c.loop-parent.invariant.parent ∙ c.in-Some.is, is_end_yes _ c.loop-parent.place (sym c.if-not-is_child.ensures), e.1),
   );
-  safe = λ root S h i. in_there S (in_parent g.N.Nodes.node h c.loop-parent.place (c.loop-parent.invariant.safe root S h i) c.loop-parent.invariant.parent) c.in-Some.is;
+  safe = λ root S h i. in_there S (in_parent g.N.NodeStore.node h c.loop-parent.place (c.loop-parent.invariant.safe root S h i) c.loop-parent.invariant.parent) c.in-Some.is;
 }
 
 pub returns-clause-nearest : goal.returns-clause-nearest
 returns-clause-nearest g c base root fs t ps s e low =
     let i = c.loop-parent.invariant.each base root fs t ps s e in
-    no_more_up g.N.Nodes.node fs i.0 i.1 i.2 (sym c.loop-parent.invariant.parent ∙ c.in_default.is)
+    no_more_up g.N.NodeStore.node fs i.0 i.1 i.2 (sym c.loop-parent.invariant.parent ∙ c.in_default.is)
 
 pub returns-then-not-is_child-clause-up : goal.returns-then-not-is_child-clause-up
 returns-then-not-is_child-clause-up g c = c.loop-parent.invariant.up _ ([], sym c.loop-parent.invariant.parent ∙ c.in-Some.is)

@@ -7,7 +7,7 @@ use Rattle.ic_rbtree.proofs.within.outermost_within.Goals as goal
 
 pub loop-init : goal.loop-init
 loop-init g c = record {
-  each = λ base root fs t ps s e. (fs, t, down_starts g.N.Nodes.node fs t s e, omega arith);
+  each = λ base root fs t ps s e. (fs, t, down_starts g.N.NodeStore.node fs t s e, omega arith);
   below = λ y b. b;
   safe = λ root S h i. i;
 }
@@ -19,16 +19,16 @@ pub loop-preserved : goal.loop-preserved
 loop-preserved g c = record {
   each = λ base root fs t ps s e.
       let i = c.loop.invariant.each base root fs t ps s e in
-      let d = step_down g.N.Nodes.node fs t i.0 i.1 i.2 (sym c.in-Some.ensures) in
+      let d = step_down g.N.NodeStore.node fs t i.0 i.1 i.2 (sym c.in-Some.ensures) in
       (d.0, d.1, d.2, omega (arith, d.3, i.3));
   below = λ y b. c.loop.invariant.below y (c.in-Some.below ∷ b.0, (sym c.child.ensures ∙ c.in-Some.is, b.1));
-  safe = λ root S h i. in_there S (in_child g.N.Nodes.node h _ c.loop.place (c.loop.invariant.safe root S h i) c.child.ensures) c.in-Some.is;
+  safe = λ root S h i. in_there S (in_child g.N.NodeStore.node h _ c.loop.place (c.loop.invariant.safe root S h i) c.child.ensures) c.in-Some.is;
 }
 
 pub returns-in_default-clause-outermost : goal.returns-in_default-clause-outermost
 returns-in_default-clause-outermost g c base root fs t ps s e low =
     let i = c.loop.invariant.each base root fs t ps s e in
-    down_ends g.N.Nodes.node fs t i.0 i.1 i.2 (sym c.child.ensures ∙ c.in_default.is)
+    down_ends g.N.NodeStore.node fs t i.0 i.1 i.2 (sym c.child.ensures ∙ c.in_default.is)
 
 pub returns-in_default-clause-below : goal.returns-in_default-clause-below
 returns-in_default-clause-below g c = c.loop.invariant.below c.loop.place ([], refl)

@@ -1,5 +1,5 @@
 use Rattle.std.proofs.Common.{◌∷◌, ◌++◌}
-use Rattle.ic_ring.proofs.Circles.{next_not, rotated, seen_from, seen_at, next_in_ring, next_stands, circle_after, behind_apart}
+use Rattle.ic_ring.proofs.Circles.{next_not, rotated, seen_from, seen_at, next_in_ring, next_stands, circle_after, after_apart}
 use Rattle.ic_ring.proofs.OtherRings.{others_from}
 use Rattle.ic_ring.proofs.beside.insert_after.Goals as goal
 
@@ -28,7 +28,7 @@ returns-clause-acquired g c = rw (← c.place.ensures) c.if-not-insert_between.e
 pub returns-clause-others : goal.returns-clause-others
 returns-clause-others g c =
     let ring = c.requires.ring in
-    others_from (λ r circle out. behind_apart r c.args.at circle out (next_stands ring.0 ring.1 c.next_of-next.ensures).1) c.insert_between.ensures.others
+    others_from (λ r circle out. after_apart r c.args.at circle out (next_stands ring.0 ring.1 c.next_of-next.ensures).1) c.insert_between.ensures.others
 
 pub returns-clause-frame : goal.returns-clause-frame
 returns-clause-frame g c r ring =

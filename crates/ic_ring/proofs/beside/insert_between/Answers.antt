@@ -29,7 +29,7 @@ returns-clause-inserted g c s shown =
     c.turn_to.ensures.filled _ (circle_beside c.args.place shown out a.frame.others) out (sym c.requires.before ∙ shown.chain.0.prev) refl a.set
 
 pub returns-clause-acquired : goal.returns-clause-acquired
-returns-clause-acquired g c = g.met.L.LinkOps.does_on _ _ _ _ _ c.if-not-link_between.ensures.acquired c.turn_to.ensures.no_step
+returns-clause-acquired g c = g.met.L.LinkOps.does_on _ _ _ _ _ c.if-not-link_between.ensures.acquired c.turn_to.ensures.trace_stays
 
 pub returns-clause-others : goal.returns-clause-others
 returns-clause-others g c =

@@ -13,7 +13,7 @@ bypass-requires g c =
 
 pub release_link-requires : goal.release_link-requires
 release_link-requires g c = record {
-  linked = g.met.L.LinkOps.does_replay _ _ [] c.bypass.ensures.no_step c.args.place ∙ head_linked g.met.L.LinkedListOps.linked_alike c.requires.ring.1;
+  linked = g.met.L.LinkOps.does_replay _ _ [] c.bypass.ensures.trace_stays c.args.place ∙ head_linked g.met.L.LinkedListOps.linked_alike c.requires.ring.1;
 }
 
 pub returns-clause-taken : goal.returns-clause-taken
@@ -22,7 +22,7 @@ returns-clause-taken g c r shown =
     shown.distinct.0 c.release_link.ensures.frame.others
 
 pub returns-clause-released : goal.returns-clause-released
-returns-clause-released g c = g.met.L.LinkOps.does_on _ _ _ _ _ c.bypass.ensures.no_step c.release_link.ensures.released
+returns-clause-released g c = g.met.L.LinkOps.does_on _ _ _ _ _ c.bypass.ensures.trace_stays c.release_link.ensures.released
 
 pub returns-clause-others : goal.returns-clause-others
 returns-clause-others g c =

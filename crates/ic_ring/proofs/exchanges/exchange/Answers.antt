@@ -1,6 +1,5 @@
 use Rattle.std.proofs.Common.{List, Some, [], ◌∷◌, ◌++◌, ◌≡◌, sym, ap, subst, ◌∙◌}
-use Rattle.ic_unsafe_ref.specs.declared.place.Place.{Place}
-use Rattle.ic_link_ops.specs.Sequences.{IsAbsent, last}
+use Rattle.ic_link_ops.specs.Prelude.{Place, IsAbsent, last}
 use Rattle.ic_link_ops.specs.LinkedList.{IsBetween, neighbors_at}
 use Rattle.ic_link_ops.proofs.Chains.{chain_cut, last_between}
 use Rattle.ic_link_ops.proofs.DoublyLists.{next_turns, prev_turns}
@@ -17,10 +16,10 @@ returns-clause-joins g c (x ∷ r) [] circle other apart is_first is_second = ab
 returns-clause-joins g c (x ∷ r) (y ∷ u) circle other apart is_first is_second =
     let n = g.L.LinkedListOps.neighbors in
     let t = (g.L.LinkOps.table c.args.links.now).entry in
-    let to_x : c.next_of-behind_first.result ≡ x =
-    some_same (sym c.next_of-behind_first.ensures ∙ (last_between (IsBetween n) t (last (x ∷ r)) (x ∷ r) (Some x) circle.chain is_first).next) in
-    let to_y : c.next_of-behind_second.result ≡ y =
-    some_same (sym c.next_of-behind_second.ensures ∙ (last_between (IsBetween n) t (last (y ∷ u)) (y ∷ u) (Some y) other.chain is_second).next) in
+    let to_x : c.next_of-after_first.result ≡ x =
+    some_same (sym c.next_of-after_first.ensures ∙ (last_between (IsBetween n) t (last (x ∷ r)) (x ∷ r) (Some x) circle.chain is_first).next) in
+    let to_y : c.next_of-after_second.result ≡ y =
+    some_same (sym c.next_of-after_second.ensures ∙ (last_between (IsBetween n) t (last (y ∷ u)) (y ∷ u) (Some y) other.chain is_second).next) in
     circles_joined x r y u circle other apart
     (rw (is_first, to_y) at (next_turns {n = n} (Some x) c.set_next.ensures.frame c.set_next.ensures.set))
     (rw (is_first, to_y) at (prev_turns {n = n} (last (y ∷ u)) c.set_prev.ensures.frame c.set_prev.ensures.set))
@@ -34,10 +33,10 @@ returns-clause-cuts g c (x ∷ r) (y ∷ u) circle is_first is_second =
     let n = g.L.LinkedListOps.neighbors in
     let t = (g.L.LinkOps.table c.args.links.now).entry in
     let cut = chain_cut (IsBetween n) t (last (x ∷ r ++ y ∷ u)) (x ∷ r) (y ∷ u) (Some x) circle.chain in
-    let to_y : c.next_of-behind_first.result ≡ y =
-    some_same (sym c.next_of-behind_first.ensures ∙ (last_between (IsBetween n) t (last (x ∷ r ++ y ∷ u)) (x ∷ r) (Some y) cut.0 is_first).next) in
-    let to_x : c.next_of-behind_second.result ≡ x =
-    some_same (sym c.next_of-behind_second.ensures ∙ (last_between (IsBetween n) t (last (x ∷ r)) (y ∷ u) (Some x) cut.1 is_second).next) in
+    let to_y : c.next_of-after_first.result ≡ y =
+    some_same (sym c.next_of-after_first.ensures ∙ (last_between (IsBetween n) t (last (x ∷ r ++ y ∷ u)) (x ∷ r) (Some y) cut.0 is_first).next) in
+    let to_x : c.next_of-after_second.result ≡ x =
+    some_same (sym c.next_of-after_second.ensures ∙ (last_between (IsBetween n) t (last (x ∷ r)) (y ∷ u) (Some x) cut.1 is_second).next) in
     circle_cut x r y u circle
     (rw (is_first, to_x) at (next_turns {n = n} (Some y) c.set_next.ensures.frame c.set_next.ensures.set))
     (rw (is_first, to_x) at (prev_turns {n = n} (last (y ∷ u)) c.set_prev.ensures.frame c.set_prev.ensures.set))
@@ -50,20 +49,20 @@ returns-clause-itself g c same q =
     let start = g.L.LinkOps.table c.args.links.now in
     let first = c.args.first in
     let second = c.args.second in
-    let behind = c.next_of-behind_first.result in
-    let one : behind ≡ c.next_of-behind_second.result
-    = some_same (sym c.next_of-behind_first.ensures ∙ (ap (λ p. (neighbors_at n start p).next) same ∙ c.next_of-behind_second.ensures)) in
-    let faces : (neighbors_at n start behind).prev ≡ Some first = facing {n = n} first c.requires.first.0 c.requires.first.1 c.next_of-behind_first.ensures in
-    let turn1 = next_stays n c.set_next.ensures.frame c.set_next.ensures.set (c.next_of-behind_first.ensures ∙ ap (λ p. Some p) one) in
-    let turn2 = prev_stays n c.set_prev.ensures.frame c.set_prev.ensures.set (ap (λ a. a.prev) (turn1 c.next_of-behind_second.result) ∙ subst (λ p. (neighbors_at n start p).prev ≡ Some first) one faces) in
-    let turn3 = next_stays n c.set_next-2.ensures.frame c.set_next-2.ensures.set (ap (λ a. a.next) (turn2 second ∙ turn1 second) ∙ (c.next_of-behind_second.ensures ∙ ap (λ p. Some p) (sym one))) in
+    let behind = c.next_of-after_first.result in
+    let one : behind ≡ c.next_of-after_second.result
+    = some_same (sym c.next_of-after_first.ensures ∙ (ap (λ p. (neighbors_at n start p).next) same ∙ c.next_of-after_second.ensures)) in
+    let faces : (neighbors_at n start behind).prev ≡ Some first = facing {n = n} first c.requires.first.0 c.requires.first.1 c.next_of-after_first.ensures in
+    let turn1 = next_stays n c.set_next.ensures.frame c.set_next.ensures.set (c.next_of-after_first.ensures ∙ ap (λ p. Some p) one) in
+    let turn2 = prev_stays n c.set_prev.ensures.frame c.set_prev.ensures.set (ap (λ a. a.prev) (turn1 c.next_of-after_second.result) ∙ subst (λ p. (neighbors_at n start p).prev ≡ Some first) one faces) in
+    let turn3 = next_stays n c.set_next-2.ensures.frame c.set_next-2.ensures.set (ap (λ a. a.next) (turn2 second ∙ turn1 second) ∙ (c.next_of-after_second.ensures ∙ ap (λ p. Some p) (sym one))) in
     let turn4 = prev_stays n c.set_prev-2.ensures.frame c.set_prev-2.ensures.set (ap (λ a. a.prev) (turn3 behind ∙ turn2 behind ∙ turn1 behind) ∙ (faces ∙ ap (λ p. Some p) same)) in
     turn4 q ∙ turn3 q ∙ turn2 q ∙ turn1 q
 
-pub returns-clause-no_step : goal.returns-clause-no_step
-returns-clause-no_step g c =
+pub returns-clause-trace_stays : goal.returns-clause-trace_stays
+returns-clause-trace_stays g c =
     let L = g.met.L.LinkOps in
-    L.does_on _ _ _ _ _ (L.does_on _ _ _ _ _ (L.does_on _ _ _ _ _ c.set_next.ensures.no_step c.set_prev.ensures.no_step) c.set_next-2.ensures.no_step) c.set_prev-2.ensures.no_step
+    L.does_on _ _ _ _ _ (L.does_on _ _ _ _ _ (L.does_on _ _ _ _ _ c.set_next.ensures.trace_stays c.set_prev.ensures.trace_stays) c.set_next-2.ensures.trace_stays) c.set_prev-2.ensures.trace_stays
 
 module _ (g : Over) (c : goal.After-set_prev-2 g) where
   -- nothing is changed but entries of the rings of both
@@ -71,8 +70,8 @@ module _ (g : Over) (c : goal.After-set_prev-2 g) where
       → IsCircle g.L.LinkedListOps.neighbors (g.L.LinkOps.table c.args.links.now).entry (c.args.second ∷ u) → IsAbsent q (c.args.first ∷ r) → IsAbsent q (c.args.second ∷ u)
       → (g.L.LinkOps.table c.set_prev-2.new.self).entry q ≡ (g.L.LinkOps.table c.args.links.now).entry q
   kept r u q one other out out_other =
-      c.set_prev-2.ensures.frame.others q (next_not r one c.next_of-behind_first.ensures out) ∙ c.set_next-2.ensures.frame.others q out_other.0
-      ∙ c.set_prev.ensures.frame.others q (next_not u other c.next_of-behind_second.ensures out_other) ∙ c.set_next.ensures.frame.others q out.0
+      c.set_prev-2.ensures.frame.others q (next_not r one c.next_of-after_first.ensures out) ∙ c.set_next-2.ensures.frame.others q out_other.0
+      ∙ c.set_prev.ensures.frame.others q (next_not u other c.next_of-after_second.ensures out_other) ∙ c.set_next.ensures.frame.others q out.0
 
 pub returns-clause-others : goal.returns-clause-others
 returns-clause-others g c =

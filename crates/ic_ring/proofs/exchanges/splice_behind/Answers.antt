@@ -1,9 +1,7 @@
 use Rattle.std.proofs.Common.{List, None, [], ◌∷◌, ◌++◌, refl, sym, subst, ◌∙◌, append_assoc}
-use Rattle.ic_unsafe_ref.specs.declared.place.Place.{Place}
-use Rattle.ic_link_ops.specs.Sequences.{IsAbsent, last}
-use Rattle.ic_link_ops.specs.Tables.{KeepsBeside}
+use Rattle.ic_link_ops.specs.Prelude.{Place, IsAbsent, last, ChangesOnlyIn}
 use Rattle.ic_link_ops.proofs.SequenceLemmas.{last_or-append, absent_left, absent_right, absent_both}
-use Rattle.ic_ring.specs.Rings.{IsCircle, Shows}
+use Rattle.ic_ring.specs.Rings.{IsCircle, Represents}
 use Rattle.ic_ring.proofs.Circles.{rotated, prev_in_ring, prev_not}
 use Rattle.ic_ring.proofs.OtherRings.{others_stay_two}
 use Rattle.ic_ring.proofs.JoinedRings.{joined_at, joined_given}
@@ -35,14 +33,14 @@ returns-clause-spliced g c r t shown other =
     (sym (last_or-append None t (r ++ at ∷ []) ∙ last_or-append (last t) r (at ∷ []))) refl in
     (rotated (t ++ r) (at ∷ []) (subst (IsCircle n (g.L.LinkOps.table c.exchange-2.new.links).entry) (sym (append_assoc t r (at ∷ []))) cut.0), cut.1)
 
-pub returns-clause-no_step : goal.returns-clause-no_step
-returns-clause-no_step g c = g.met.L.LinkOps.does_on _ _ _ _ _ c.exchange.ensures.no_step c.exchange-2.ensures.no_step
+pub returns-clause-trace_stays : goal.returns-clause-trace_stays
+returns-clause-trace_stays g c = g.met.L.LinkOps.does_on _ _ _ _ _ c.exchange.ensures.trace_stays c.exchange-2.ensures.trace_stays
 
 module _ (g : Over) (c : goal.After-exchange-2 g) where
   -- nothing is changed but entries of both rings
-  kept : (r t : List Place) → Shows g.L.LinkedListOps.neighbors (g.L.LinkOps.table c.args.links.now) c.args.at r
-      → Shows g.L.LinkedListOps.neighbors (g.L.LinkOps.table c.args.links.now) c.args.given t
-      → KeepsBeside (g.L.LinkOps.table c.args.links.now) (g.L.LinkOps.table c.exchange-2.new.links) ((c.args.at ∷ r) ++ (c.args.given ∷ t))
+  kept : (r t : List Place) → Represents g.L.LinkedListOps.neighbors (g.L.LinkOps.table c.args.links.now) c.args.at r
+      → Represents g.L.LinkedListOps.neighbors (g.L.LinkOps.table c.args.links.now) c.args.given t
+      → ChangesOnlyIn (g.L.LinkOps.table c.args.links.now) (g.L.LinkOps.table c.exchange-2.new.links) ((c.args.at ∷ r) ++ (c.args.given ∷ t))
   kept r t shown other =
       let at = c.args.at in
       let given = c.args.given in

@@ -14,7 +14,7 @@ set_neighbors-requires g c =
 pub turn_to-requires : goal.turn_to-requires
 turn_to-requires g c =
     let alike = g.met.L.LinkedListOps.linked_alike in
-    let kept = g.met.L.LinkOps.does_replay _ _ [] c.set_neighbors.ensures.no_step in
+    let kept = g.met.L.LinkOps.does_replay _ _ [] c.set_neighbors.ensures.trace_stays in
     let ring = c.requires.ring in record {
       before = kept c.args.before ∙ prev_linked alike ring.0 ring.1 c.requires.before;
       behind = kept c.args.behind ∙ head_linked alike ring.1;
@@ -26,13 +26,13 @@ returns-clause-put g c s shown out =
     let set = c.set_neighbors.ensures in
     c.turn_to.ensures.filled _ (circle_beside c.args.place shown out set.frame.others) out (sym c.requires.before ∙ shown.chain.0.prev) refl set.stands
 
-pub returns-clause-no_step : goal.returns-clause-no_step
-returns-clause-no_step g c = g.met.L.LinkOps.does_on _ _ _ _ _ c.set_neighbors.ensures.no_step c.turn_to.ensures.no_step
+pub returns-clause-trace_stays : goal.returns-clause-trace_stays
+returns-clause-trace_stays g c = g.met.L.LinkOps.does_on _ _ _ _ _ c.set_neighbors.ensures.trace_stays c.turn_to.ensures.trace_stays
 
 pub returns-clause-others : goal.returns-clause-others
-returns-clause-others g c r circle out out_behind =
+returns-clause-others g c r circle out out_after =
     let leads = (prev_stands c.requires.ring.0 c.requires.ring.1 c.requires.before).1 in
-    circle_untouched r c.args.before c.args.place c.args.behind circle (before_apart r c.args.behind circle out_behind leads) out out_behind
+    circle_untouched r c.args.before c.args.place c.args.behind circle (before_apart r c.args.behind circle out_after leads) out out_after
     (λ q x y z. c.turn_to.ensures.others q x z ∙ c.set_neighbors.ensures.frame.others q y)
 
 pub returns-clause-extent : goal.returns-clause-extent

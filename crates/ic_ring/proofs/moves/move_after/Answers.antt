@@ -1,10 +1,9 @@
 use Rattle.std.proofs.Common.{◌≡◌, List, [], ◌∷◌, ◌++◌, sym, subst, ◌∙◌}
-use Rattle.ic_unsafe_ref.specs.declared.place.Place.{Place}
-use Rattle.ic_link_ops.specs.Sequences.{IsAbsent}
+use Rattle.ic_link_ops.specs.Prelude.{Place, IsAbsent}
 use Rattle.ic_link_ops.proofs.SequenceLemmas.{absent_left, absent_right, absent_turned}
-use Rattle.ic_ring.specs.Rings.{IsCircle, ShowsBeside}
-use Rattle.ic_ring.proofs.Circles.{next_not, next_in_ring, next_stands, rotated, seen_from, seen_at, head_linked, circle_after_free, behind_apart}
-use Rattle.ic_ring.proofs.OtherRings.{ring_left, beside_shown, others_stay_two}
+use Rattle.ic_ring.specs.Rings.{IsCircle, RepresentsBeside}
+use Rattle.ic_ring.proofs.Circles.{next_not, next_in_ring, next_stands, rotated, seen_from, seen_at, head_linked, circle_after_free, after_apart}
+use Rattle.ic_ring.proofs.OtherRings.{ring_left, beside_represented, others_stay_two}
 use Rattle.ic_ring.proofs.moves.move_after.Goals as goal
 use Rattle.ic_ring.proofs.moves.move_after.Given.{Over}
 
@@ -19,7 +18,7 @@ next_of-next-requires g c =
 pub insert_linked-requires : goal.insert_linked-requires
 insert_linked-requires g c = record {
   held = rw c.place-place.ensures
-      (g.met.L.LinkOps.does_replay _ _ [] c.detach.ensures.no_step c.args.object.now ∙ head_linked g.met.L.LinkedListOps.linked_alike c.requires.member.1);
+      (g.met.L.LinkOps.does_replay _ _ [] c.detach.ensures.trace_stays c.args.object.now ∙ head_linked g.met.L.LinkedListOps.linked_alike c.requires.member.1);
   ring =
       let left = ring_left c.requires.ring.0 c.requires.ring.1 c.requires.other (rw c.place-place.ensures at c.detach.ensures.taken) (rw c.place-place.ensures at c.detach.ensures.others) in
       next_in_ring left.0 left.1 c.next_of-next.ensures;
@@ -30,11 +29,11 @@ insert_linked-requires g c = record {
 
 module _ (g : Over) (c : goal.After-insert_linked g) where
   -- the object is out of its ring, and the others are as they were
-  out : (head : Place) (s : List Place) → ShowsBeside g.L.LinkedListOps.neighbors (g.L.LinkOps.table c.args.links.now) c.args.object.now head s
+  out : (head : Place) (s : List Place) → RepresentsBeside g.L.LinkedListOps.neighbors (g.L.LinkOps.table c.args.links.now) c.args.object.now head s
       → IsCircle g.L.LinkedListOps.neighbors (g.L.LinkOps.table c.detach.new.links).entry (head ∷ s) × IsAbsent c.args.object.now (head ∷ s)
-  out head s beside = beside_shown c.args.object.now head s beside (rw c.place-place.ensures at c.detach.ensures.taken) (rw c.place-place.ensures at c.detach.ensures.others)
+  out head s beside = beside_represented c.args.object.now head s beside (rw c.place-place.ensures at c.detach.ensures.taken) (rw c.place-place.ensures at c.detach.ensures.others)
 
-  -- and it is put behind the place
+  -- and it is put after the place
   put : (s : List Place) → IsCircle g.L.LinkedListOps.neighbors (g.L.LinkOps.table c.detach.new.links).entry (c.args.at ∷ s) → IsAbsent c.args.object.now (c.args.at ∷ s)
       → IsCircle g.L.LinkedListOps.neighbors (g.L.LinkOps.table c.insert_linked.new.links).entry (c.args.at ∷ c.args.object.now ∷ s)
   put s circle apart =
@@ -65,10 +64,10 @@ returns-clause-left g c head s beside out_at =
     let mid = out g c head s beside in
     let left = ring_left c.requires.ring.0 c.requires.ring.1 c.requires.other (rw c.place-place.ensures at c.detach.ensures.taken) (rw c.place-place.ensures at c.detach.ensures.others) in
     c.insert_linked.ensures.others (head ∷ s) mid.0 (subst (λ p. IsAbsent p (head ∷ s)) (sym c.place-place.ensures) mid.1)
-    (behind_apart (head ∷ s) c.args.at mid.0 out_at (next_stands left.0 left.1 c.next_of-next.ensures).1)
+    (after_apart (head ∷ s) c.args.at mid.0 out_at (next_stands left.0 left.1 c.next_of-next.ensures).1)
 
-pub returns-clause-no_step : goal.returns-clause-no_step
-returns-clause-no_step g c = g.met.L.LinkOps.does_on _ _ _ _ _ c.detach.ensures.no_step c.insert_linked.ensures.no_step
+pub returns-clause-trace_stays : goal.returns-clause-trace_stays
+returns-clause-trace_stays g c = g.met.L.LinkOps.does_on _ _ _ _ _ c.detach.ensures.trace_stays c.insert_linked.ensures.trace_stays
 
 pub returns-clause-others : goal.returns-clause-others
 returns-clause-others g c =

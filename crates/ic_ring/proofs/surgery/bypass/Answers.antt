@@ -6,7 +6,7 @@ use Rattle.ic_ring.proofs.Turning.{turned}
 use Rattle.ic_ring.proofs.surgery.bypass.Goals as goal
 
 pub set_prev-requires : goal.set_prev-requires
-set_prev-requires g c = record { linked = g.met.L.LinkOps.does_replay _ _ [] c.set_next.ensures.no_step c.args.behind ∙ c.requires.behind; prev = g.met.L.LinkOps.covered_has_name _ _ (g.met.L.LinkOps.linked_is_covered _ _ c.requires.before) }
+set_prev-requires g c = record { linked = g.met.L.LinkOps.does_replay _ _ [] c.set_next.ensures.trace_stays c.args.behind ∙ c.requires.behind; prev = g.met.L.LinkOps.covered_has_name _ _ (g.met.L.LinkOps.linked_is_covered _ _ c.requires.before) }
 
 pub returns-clause-closed : goal.returns-clause-closed
 returns-clause-closed g c p r circle before behind =
@@ -23,8 +23,8 @@ returns-clause-stretch g c out r circle before behind =
 pub returns-clause-turned : goal.returns-clause-turned
 returns-clause-turned g c = turned g.L.LinkedListOps.neighbors c.set_next.ensures.frame c.set_next.ensures.set c.set_prev.ensures.frame c.set_prev.ensures.set
 
-pub returns-clause-no_step : goal.returns-clause-no_step
-returns-clause-no_step g c = g.met.L.LinkOps.does_on _ _ _ _ _ c.set_next.ensures.no_step c.set_prev.ensures.no_step
+pub returns-clause-trace_stays : goal.returns-clause-trace_stays
+returns-clause-trace_stays g c = g.met.L.LinkOps.does_on _ _ _ _ _ c.set_next.ensures.trace_stays c.set_prev.ensures.trace_stays
 
 pub returns-clause-others : goal.returns-clause-others
 returns-clause-others g c q before behind = c.set_prev.ensures.frame.others q behind ∙ c.set_next.ensures.frame.others q before

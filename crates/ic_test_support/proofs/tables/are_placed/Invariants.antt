@@ -1,7 +1,5 @@
 use Rattle.std.proofs.Common.{◌≡◌, ◌<◌, true}
-use Rattle.ic_unsafe_ref.specs.declared.place.Place.{Place}
-use Rattle.ic_unsafe_ref.specs.Places.{index_of}
-use Rattle.ic_unsafe_ref.specs.Objects.{is_placed}
+use Rattle.ic_link_ops.specs.Prelude.{Place, index_of, is_placed}
 use Rattle.ic_test_support.proofs.tables.are_placed.Given as goal
 
 abbrev pub invariant-loop-index : goal.invariant-loop-index

@@ -45,7 +45,7 @@ returns-clause-few g c s u shown other apart =
     c.merge_runs-merged.ensures.few s u (run_beside (vine_run one c.first-front.ensures (placed_first two shown)) apart next.frame)
     (vine_run next c.first-other_front.ensures (placed_second two other)) (both_distinct shown other apart)
 
-pub returns-clause-quiet : goal.returns-clause-quiet
-returns-clause-quiet g c =
-    let on = g.met.N.Nodes.quiet_on in
-    on _ _ _ (on _ _ _ (on _ _ _ c.into_builder-left.ensures.quiet c.into_builder-right.ensures.quiet) c.merge_runs-merged.ensures.quiet) c.build.ensures.quiet
+pub returns-clause-keeps_links : goal.returns-clause-keeps_links
+returns-clause-keeps_links g c =
+    let on = g.met.N.NodeStore.keeps_links_on in
+    on _ _ _ (on _ _ _ (on _ _ _ c.into_builder-left.ensures.keeps_links c.into_builder-right.ensures.keeps_links) c.merge_runs-merged.ensures.keeps_links) c.build.ensures.keeps_links

@@ -7,41 +7,41 @@ use Rattle.ic_tree_merges.proofs.merging.merge_runs.Goals.{then-takes_left+in-So
 pub loop-count-init : goal.loop-count-init
 loop-count-init g c = record {
   merging = λ s u a b d.
-      merging_first g.N.Nodes.node (compared_at (g.C.Compares.order c.args.order.now) (g.O.Values.values c.args.objects.now)) (g.O.Values.values c.args.objects.now) a b d c.new-merged.ensures;
+      merging_first g.N.NodeStore.node (compared_at (g.C.Compares.order c.args.order.now) (g.O.Values.values c.args.objects.now)) (g.O.Values.values c.args.objects.now) a b d c.new-merged.ensures;
   few = omega arith;
   same = refl;
-  quiet = g.met.N.Nodes.quiet_still _;
+  keeps_links = g.met.N.NodeStore.keeps_links_still _;
 }
 
 pub takes_left-requires-clause-placed : goal.takes_left-requires-clause-placed
 takes_left-requires-clause-placed g c =
     let r = c.requires.runs in
-    left_ready g.N.Nodes.node (compared_at (g.C.Compares.order c.args.order.now) (g.O.Values.values c.args.objects.now)) (g.O.Values.values c.args.objects.now) (c.loop-count.invariant.merging r.0 r.1 r.2 r.3 r.4)
+    left_ready g.N.NodeStore.node (compared_at (g.C.Compares.order c.args.order.now) (g.O.Values.values c.args.objects.now)) (g.O.Values.values c.args.objects.now) (c.loop-count.invariant.merging r.0 r.1 r.2 r.3 r.4)
 
 pub takes_left-requires-clause-other_placed : goal.takes_left-requires-clause-other_placed
 takes_left-requires-clause-other_placed g c =
     let r = c.requires.runs in
-    right_ready g.N.Nodes.node (compared_at (g.C.Compares.order c.args.order.now) (g.O.Values.values c.args.objects.now)) (g.O.Values.values c.args.objects.now) (c.loop-count.invariant.merging r.0 r.1 r.2 r.3 r.4)
+    right_ready g.N.NodeStore.node (compared_at (g.C.Compares.order c.args.order.now) (g.O.Values.values c.args.objects.now)) (g.O.Values.values c.args.objects.now) (c.loop-count.invariant.merging r.0 r.1 r.2 r.3 r.4)
 
 pub returns-in_default-clause-merged : goal.returns-in_default-clause-merged
 returns-in_default-clause-merged g c s u a b d =
-    merging_last g.N.Nodes.node (compared_at (g.C.Compares.order c.args.order.now) (g.O.Values.values c.args.objects.now)) (g.O.Values.values c.args.objects.now) (c.loop-count.invariant.merging s u a b d) c.in_default.is
+    merging_last g.N.NodeStore.node (compared_at (g.C.Compares.order c.args.order.now) (g.O.Values.values c.args.objects.now)) (g.O.Values.values c.args.objects.now) (c.loop-count.invariant.merging s u a b d) c.in_default.is
     (over_left (compared_at (g.C.Compares.order c.loop-count.order) (g.O.Values.values c.args.objects.now)) c.loop-count.left c.loop-count.right (sym c.if-takes_left.ensures.taken) c.in_default.is)
 
 pub push_back-left-requires-clause-linked : goal.push_back-left-requires-clause-linked
 push_back-left-requires-clause-linked g c =
     let r = c.requires.runs in
-    left_linked g.N.Nodes.node (compared_at (g.C.Compares.order c.args.order.now) (g.O.Values.values c.args.objects.now)) (g.O.Values.values c.args.objects.now) (c.loop-count.invariant.merging r.0 r.1 r.2 r.3 r.4) c.in-Some.is
+    left_linked g.N.NodeStore.node (compared_at (g.C.Compares.order c.args.order.now) (g.O.Values.values c.args.objects.now)) (g.O.Values.values c.args.objects.now) (c.loop-count.invariant.merging r.0 r.1 r.2 r.3 r.4) c.in-Some.is
 
 pub push_back-right-requires-clause-linked : goal.push_back-right-requires-clause-linked
 push_back-right-requires-clause-linked g c =
     let r = c.requires.runs in
-    right_linked g.N.Nodes.node (compared_at (g.C.Compares.order c.args.order.now) (g.O.Values.values c.args.objects.now)) (g.O.Values.values c.args.objects.now) (c.loop-count.invariant.merging r.0 r.1 r.2 r.3 r.4) c.in-Some-right.is
+    right_linked g.N.NodeStore.node (compared_at (g.C.Compares.order c.args.order.now) (g.O.Values.values c.args.objects.now)) (g.O.Values.values c.args.objects.now) (c.loop-count.invariant.merging r.0 r.1 r.2 r.3 r.4) c.in-Some-right.is
 
 pub loop-count-preserved : goal.loop-count-preserved
 loop-count-preserved g c = record {
   merging = λ s u a b d.
-      let n = g.N.Nodes.node in
+      let n = g.N.NodeStore.node in
       let objects = g.O.Values.values c.args.objects.now in
       let k = c.loop-count.invariant.merging s u a b d in
       elim c.if-takes_left.branch [
@@ -54,9 +54,9 @@ loop-count-preserved g c = record {
       ];
   few = omega (arith, c.takes_left.ensures.counted, one_look c.loop-count.left c.loop-count.right, c.loop-count.invariant.few);
   same = c.takes_left.ensures.same ∙ c.loop-count.invariant.same;
-  quiet = elim c.if-takes_left.branch [
-    | then-takes_left+in-Some w ↦ rw w.nodes-is (g.met.N.Nodes.quiet_on _ _ _ c.loop-count.invariant.quiet w.push_back-left.ensures.quiet)
-    | else-takes_left+in-Some-right w ↦ rw w.nodes-is (g.met.N.Nodes.quiet_on _ _ _ c.loop-count.invariant.quiet w.push_back-right.ensures.quiet)
+  keeps_links = elim c.if-takes_left.branch [
+    | then-takes_left+in-Some w ↦ rw w.nodes-is (g.met.N.NodeStore.keeps_links_on _ _ _ c.loop-count.invariant.keeps_links w.push_back-left.ensures.keeps_links)
+    | else-takes_left+in-Some-right w ↦ rw w.nodes-is (g.met.N.NodeStore.keeps_links_on _ _ _ c.loop-count.invariant.keeps_links w.push_back-right.ensures.keeps_links)
   ];
 }
 
@@ -64,6 +64,6 @@ pub returns-clause-merged : goal.returns-clause-merged
 returns-clause-merged g c s u a b d =
     absurd (omega (
       arith,
-      few_merged g.N.Nodes.node (compared_at (g.C.Compares.order c.args.order.now) (g.O.Values.values c.args.objects.now)) (g.O.Values.values c.args.objects.now) (c.loop-count.invariant.merging s u a b d),
+      few_merged g.N.NodeStore.node (compared_at (g.C.Compares.order c.args.order.now) (g.O.Values.values c.args.objects.now)) (g.O.Values.values c.args.objects.now) (c.loop-count.invariant.merging s u a b d),
       c.loop-count-test.false,
     ))

@@ -1,6 +1,5 @@
 use Rattle.std.proofs.Common.{◌≡◌, ◌≤◌, ◌+◌, List, ◌++◌}
-use Rattle.ic_unsafe_ref.specs.declared.place.Place.{Place}
-use Rattle.ic_link_ops.specs.Sequences.{IsDistinct}
+use Rattle.ic_link_ops.specs.Prelude.{Place, IsDistinct}
 use Rattle.ic_tree_merges.specs.Merges.{compared_at}
 use Rattle.ic_tree_merges.specs.Vines.{ends_of, IsRun}
 use Rattle.ic_tree_merges.proofs.MergedRuns.{Merging}
@@ -8,11 +7,11 @@ use Rattle.ic_tree_merges.proofs.merging.merge_runs.Given as goal
 
 abbrev pub invariant-loop-count : goal.invariant-loop-count
 invariant-loop-count g l = record {
-  merging : (s u : List Place) → IsRun g.N.Nodes.node (g.O.Values.values l.objects) (g.N.Nodes.table l.fn.nodes) l.fn.first s
-      → IsRun g.N.Nodes.node (g.O.Values.values l.objects) (g.N.Nodes.table l.fn.nodes) l.fn.second u → IsDistinct (s ++ u)
-      → Merging g.N.Nodes.node (compared_at (g.C.Compares.order l.fn.order) (g.O.Values.values l.objects)) (g.O.Values.values l.objects)
-      (g.N.Nodes.table l.fn.nodes) (g.N.Nodes.table l.nodes) s u l.left l.right (ends_of l.merged) l._count;
+  merging : (s u : List Place) → IsRun g.N.NodeStore.node (g.O.Values.values l.objects) (g.N.NodeStore.table l.fn.nodes) l.fn.first s
+      → IsRun g.N.NodeStore.node (g.O.Values.values l.objects) (g.N.NodeStore.table l.fn.nodes) l.fn.second u → IsDistinct (s ++ u)
+      → Merging g.N.NodeStore.node (compared_at (g.C.Compares.order l.fn.order) (g.O.Values.values l.objects)) (g.O.Values.values l.objects)
+      (g.N.NodeStore.table l.fn.nodes) (g.N.NodeStore.table l.nodes) s u l.left l.right (ends_of l.merged) l._count;
   few : g.C.Compares.looks l.order ≤ g.C.Compares.looks l.fn.order + l._count;
   same : g.C.Compares.order l.order ≡ g.C.Compares.order l.fn.order;
-  quiet : g.N.Nodes.Quiet l.fn.nodes l.nodes;
+  keeps_links : g.N.NodeStore.KeepsLinks l.fn.nodes l.nodes;
 }

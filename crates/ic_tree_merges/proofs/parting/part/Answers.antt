@@ -18,14 +18,14 @@ build-common-requires g c =
     let two = c.requires.two in
     let one = c.into_builder-run.ensures.taken_apart two.first two.shown in
     let m = c.part_run.ensures.parted two.first two.second (vine_run one c.first-front.ensures two.placed) two.shown.held.distinct (other_still one two.apart two.other) (disjoint_sym two.first two.second two.apart) in
-    record { shown = (m.0.common, rw c.from_ends-common_builder.ensures.ends m.0.common_shown) }
+    record { shown = (m.0.common, rw c.from_ends-common_builder.ensures.ends m.0.common_represented) }
 
 pub build-rest-requires : goal.build-rest-requires
 build-rest-requires g c =
     let two = c.requires.two in
     let one = c.into_builder-run.ensures.taken_apart two.first two.shown in
     let m = c.part_run.ensures.parted two.first two.second (vine_run one c.first-front.ensures two.placed) two.shown.held.distinct (other_still one two.apart two.other) (disjoint_sym two.first two.second two.apart) in
-    let built = c.build-common.ensures.built m.0.common (rw c.from_ends-common_builder.ensures.ends m.0.common_shown) in
+    let built = c.build-common.ensures.built m.0.common (rw c.from_ends-common_builder.ensures.ends m.0.common_represented) in
     record { shown = (m.0.rest, rw c.from_ends-rest_builder.ensures.ends (rest_still m built)) }
 
 pub returns-clause-parted : goal.returns-clause-parted
@@ -33,7 +33,7 @@ returns-clause-parted g c s u shown other apart =
     let two = c.requires.two in
     let one = c.into_builder-run.ensures.taken_apart s shown in
     let m = c.part_run.ensures.parted s u (vine_run one c.first-front.ensures (placed_first two shown)) shown.held.distinct (other_still one apart other) (disjoint_sym s u apart) in
-    let built = c.build-common.ensures.built m.0.common (rw c.from_ends-common_builder.ensures.ends m.0.common_shown) in
+    let built = c.build-common.ensures.built m.0.common (rw c.from_ends-common_builder.ensures.ends m.0.common_represented) in
     parted_tree one m built (c.build-rest.ensures.built m.0.rest (rw c.from_ends-rest_builder.ensures.ends (rest_still m built)))
 
 pub returns-clause-lowest : goal.returns-clause-lowest
@@ -41,7 +41,7 @@ returns-clause-lowest g c =
     let two = c.requires.two in
     let one = c.into_builder-run.ensures.taken_apart two.first two.shown in
     let m = c.part_run.ensures.parted two.first two.second (vine_run one c.first-front.ensures two.placed) two.shown.held.distinct (other_still one two.apart two.other) (disjoint_sym two.first two.second two.apart) in
-    let built = c.build-common.ensures.built m.0.common (rw c.from_ends-common_builder.ensures.ends m.0.common_shown) in
+    let built = c.build-common.ensures.built m.0.common (rw c.from_ends-common_builder.ensures.ends m.0.common_represented) in
     let last = c.build-rest.ensures.built m.0.rest (rw c.from_ends-rest_builder.ensures.ends (rest_still m built)) in
     (lowest_still built.shows m.0.apart last.frame c.build-common.ensures.lowest, c.build-rest.ensures.lowest)
 
@@ -50,7 +50,7 @@ returns-clause-few g c s u shown other apart =
     let one = c.into_builder-run.ensures.taken_apart s shown in
     c.part_run.ensures.few s u (vine_run one c.first-front.ensures (placed_first c.requires.two shown)) shown.held.distinct (other_still one apart other) (disjoint_sym s u apart)
 
-pub returns-clause-quiet : goal.returns-clause-quiet
-returns-clause-quiet g c =
-    let on = g.met.N.Nodes.quiet_on in
-    on _ _ _ (on _ _ _ (on _ _ _ c.into_builder-run.ensures.quiet c.part_run.ensures.quiet) c.build-common.ensures.quiet) c.build-rest.ensures.quiet
+pub returns-clause-keeps_links : goal.returns-clause-keeps_links
+returns-clause-keeps_links g c =
+    let on = g.met.N.NodeStore.keeps_links_on in
+    on _ _ _ (on _ _ _ (on _ _ _ c.into_builder-run.ensures.keeps_links c.part_run.ensures.keeps_links) c.build-common.ensures.keeps_links) c.build-rest.ensures.keeps_links

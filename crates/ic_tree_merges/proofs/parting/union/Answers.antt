@@ -15,19 +15,19 @@ merge-requires g c =
 pub returns-clause-united : goal.returns-clause-united
 returns-clause-united g c s u shown other apart =
     let m = c.part-doubles.ensures.parted u s other shown (disjoint_sym s u apart) in
-    united_trees shown apart m (rw c.part-doubles.ensures.same at (c.merge.ensures.merged s m.rest (tree_still shown apart m) m.rest_shown (added_apart shown apart m)))
+    united_trees shown apart m (rw c.part-doubles.ensures.same at (c.merge.ensures.merged s m.rest (tree_still shown apart m) m.rest_represented (added_apart shown apart m)))
 
 pub returns-clause-lowest : goal.returns-clause-lowest
 returns-clause-lowest g c =
     let two = c.requires.two in
     let m = c.part-doubles.ensures.parted two.second two.first two.other two.shown (disjoint_sym two.first two.second two.apart) in
-    let merged = rw c.part-doubles.ensures.same at (c.merge.ensures.merged two.first m.rest (tree_still two.shown two.apart m) m.rest_shown (added_apart two.shown two.apart m)) in
+    let merged = rw c.part-doubles.ensures.same at (c.merge.ensures.merged two.first m.rest (tree_still two.shown two.apart m) m.rest_represented (added_apart two.shown two.apart m)) in
     (c.merge.ensures.lowest, doubles_lowest two.shown two.apart m merged c.part-doubles.ensures.lowest.0)
 
 pub returns-clause-few : goal.returns-clause-few
 returns-clause-few g c s u shown other apart =
     let m = c.part-doubles.ensures.parted u s other shown (disjoint_sym s u apart) in
-    omega (arith, c.part-doubles.ensures.few u s other shown (disjoint_sym s u apart), c.merge.ensures.few s m.rest (tree_still shown apart m) m.rest_shown (added_apart shown apart m), few_added shown apart m)
+    omega (arith, c.part-doubles.ensures.few u s other shown (disjoint_sym s u apart), c.merge.ensures.few s m.rest (tree_still shown apart m) m.rest_represented (added_apart shown apart m), few_added shown apart m)
 
-pub returns-clause-quiet : goal.returns-clause-quiet
-returns-clause-quiet g c = g.met.N.Nodes.quiet_on _ _ _ c.part-doubles.ensures.quiet c.merge.ensures.quiet
+pub returns-clause-keeps_links : goal.returns-clause-keeps_links
+returns-clause-keeps_links g c = g.met.N.NodeStore.keeps_links_on _ _ _ c.part-doubles.ensures.keeps_links c.merge.ensures.keeps_links

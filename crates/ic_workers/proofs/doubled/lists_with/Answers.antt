@@ -22,12 +22,12 @@ module _ (g : given.Over) (c : goal.Joined-stands_in g) where
       let up : i + 1 ≡ suc i = omega arith in
       let cut : take (i + 1) c.args.lists.now ≡ before ++ c.list-item.result ∷ [] =
       ap (λ (k : ℕ). take k c.args.lists.now) up ∙ (take-suc c.args.lists.now i c.list-item.result c.loop-list-test.true ∙ ap (λ list. before ++ list ∷ []) (sym c.list-item.is)) in
-      let told : has c.list-item.result.items c.args.index ≡ c.stands_in.result = ap (λ s. has s c.args.index) (sym c.deref.ensures.value) ∙ sym c.stands_in.ensures in
+      let reported : has c.list-item.result.items c.args.index ≡ c.stands_in.result = ap (λ s. has s c.args.index) (sym c.deref.ensures.value) ∙ sym c.stands_in.ensures in
       ap (λ lists. times (places_in lists) c.args.index) cut
       ∙ (ap (λ lists. times lists c.args.index) (places_more before c.list-item.result)
       ∙ (times_more (places_in before) c.list-item.result.items c.args.index
       ∙ (ap (λ (k : ℕ). k + cond (has c.list-item.result.items c.args.index) 1 0) (sym c.loop-list.invariant.counted)
-      ∙ ap (λ b. c.loop-list.count + cond b 1 0) told)))
+      ∙ ap (λ b. c.loop-list.count + cond b 1 0) reported)))
 
 pub loop-list-preserved : goal.loop-list-preserved
 loop-list-preserved g c =

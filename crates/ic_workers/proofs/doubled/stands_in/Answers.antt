@@ -2,7 +2,7 @@ use Rattle.std.proofs.Common.{◌≡◌, ◌<◌, ◌+◌, ◌-◌, ◌/◌, ℕ
 use Rattle.std.specs.Prelude.{slice_index_or}
 use Rattle.ic_unsafe_ref.specs.Places.{index_of}
 use Rattle.ic_workers.specs.SharedOut.{has}
-use Rattle.ic_workers.proofs.Searching.{not_in_front, not_behind, stands_there, stands_nowhere}
+use Rattle.ic_workers.proofs.Searching.{not_before, not_after, stands_there, stands_nowhere}
 use Rattle.ic_workers.proofs.doubled.stands_in.Goals as goal
 
 pub returns-then-found-index : goal.returns-then-found-index
@@ -24,7 +24,7 @@ loop-low-preserved-then-found-index-2 c =
     record {
       order = omega (arith, c.loop-low-test.true);
       inside = i.inside;
-      front = subst (λ (k : ℕ). has (take k c.args.list.now) c.args.index ≡ false) up (not_in_front 0 r.0 c.args.list.now r.1 m c.index-list-middle.result inside c.args.index less);
+      front = subst (λ (k : ℕ). has (take k c.args.list.now) c.args.index ≡ false) up (not_before 0 r.0 c.args.list.now r.1 m c.index-list-middle.result inside c.args.index less);
       back = i.back;
     }
 
@@ -40,7 +40,7 @@ loop-low-preserved c =
       order = omega (arith, c.loop-low-test.true);
       inside = omega (arith, c.loop-low-test.true, i.inside);
       front = i.front;
-      back = not_behind 0 r.0 c.args.list.now r.1 m c.index-list-middle.result inside c.args.index more;
+      back = not_after 0 r.0 c.args.list.now r.1 m c.index-list-middle.result inside c.args.index more;
     }
 
 pub returns : goal.returns

@@ -1,9 +1,8 @@
 use Rattle.std.proofs.Common.{◌≡◌, ◌++◌, [], ◌∷◌, Some, List, refl, sym, ◌∙◌, subst}
-use Rattle.ic_unsafe_ref.specs.declared.place.Place.{Place}
-use Rattle.ic_link_ops.specs.Sequences.{Cut, join, IsAfter, IsBefore}
-use Rattle.ic_link_ops.specs.LinkedList.{Shows}
+use Rattle.ic_link_ops.specs.Prelude.{Place, Cut, join, IsAfter, IsBefore}
+use Rattle.ic_link_ops.specs.LinkedList.{Represents}
 use Rattle.ic_link_ops.proofs.Clearing.{releases_fewer}
-use Rattle.ic_link_ops.proofs.DoublyLists.{neighbors_covered, members_behind}
+use Rattle.ic_link_ops.proofs.DoublyLists.{neighbors_covered, members_after}
 use Rattle.ic_link_ops.proofs.SequenceLemmas.{gap_after}
 use Rattle.ic_cursors.specs.Cursor.{position}
 use Rattle.ic_chain.proofs.Standing.{stands_here}
@@ -29,7 +28,7 @@ move_next-requires g c =
     record { stands = stands_here gap.0 (rw (i.links, i.list, gap.1) (rw k.is at s.1)) gap.2 tt refl }
 
 -- the member that the cursor was on has been seen, and it is on the next one
-module _ (g : given.Over) (c : goal.After-move_next g) (s : List Place) (shown : Shows g.L.LinkedListOps.neighbors (g.L.LinkOps.table c.args.links.now) c.args.list.now s) where
+module _ (g : given.Over) (c : goal.After-move_next g) (s : List Place) (shown : Represents g.L.LinkedListOps.neighbors (g.L.LinkOps.table c.args.links.now) c.args.list.now s) where
   here : Some c.in-Some.place ≡ position (λ at. at) c.loop-place.cursor
   here = sym c.in-Some.is ∙ c.get_ptr.ensures
 
@@ -37,7 +36,7 @@ module _ (g : given.Over) (c : goal.After-move_next g) (s : List Place) (shown :
   more =
       let i = c.loop-place.invariant in
       let leads : (gap : Cut) → s ≡ join gap → IsAfter gap (position (λ at. at) c.loop-place.cursor) → IsBefore gap (position (λ at. at) c.move_next.new.self) =
-      λ gap is after. c.move_next.ensures.moved.leads gap (rw (i.links, i.list) (subst (Shows g.L.LinkedListOps.neighbors (g.L.LinkOps.table c.args.links.now) c.args.list.now) is shown)) after in
+      λ gap is after. c.move_next.ensures.moved.leads gap (rw (i.links, i.list) (subst (Represents g.L.LinkedListOps.neighbors (g.L.LinkOps.table c.args.links.now) c.args.list.now) is shown)) after in
       seen_more (i.seen s shown) c.in-Some.place here leads
 
 pub loop-place-smaller : goal.loop-place-smaller
@@ -49,8 +48,8 @@ loop-place-smaller g c =
     let k = c.loop-place.invariant.seen s.0 s.1 in
     let m = more g c s.0 s.1 in
     releases_fewer
-    (members_behind {n = n} t covered c.loop-place.places.items k.rest (rw k.is at s.1) k.at)
-    (members_behind {n = n} t covered (c.loop-place.places.items ++ c.in-Some.place ∷ []) m.rest (rw m.is at s.1) m.at)
+    (members_after {n = n} t covered c.loop-place.places.items k.rest (rw k.is at s.1) k.at)
+    (members_after {n = n} t covered (c.loop-place.places.items ++ c.in-Some.place ∷ []) m.rest (rw m.is at s.1) m.at)
     (seen_less k m)
 
 pub loop-place-preserved : goal.loop-place-preserved

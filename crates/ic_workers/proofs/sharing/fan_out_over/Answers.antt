@@ -38,5 +38,5 @@ returns-clause-shared g c = shared_out c.args.claims.now c.in_ok-holders.holders
 pub returns-clause-one_list : goal.returns-clause-one_list
 returns-clause-one_list g c = as_one_list c.args.claims.now c.in_ok-holders.holders.items (places_in c.in_ok-holders.lists.items) c.in_ok-holders.ensures.taken (apart g c) (whole g c) (each g c)
 
-pub returns-clause-told : goal.returns-clause-told
-returns-clause-told g c worker some few = c.in_ok-done.ensures.told worker some (omega (arith, few, workers g c))
+pub returns-clause-reported : goal.returns-clause-reported
+returns-clause-reported g c worker some few = c.in_ok-done.ensures.reported worker some (omega (arith, few, workers g c))

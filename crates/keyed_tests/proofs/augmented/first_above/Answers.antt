@@ -1,7 +1,6 @@
 use Rattle.std.proofs.Common.{refl, ap, ◌∙◌, ◌<◌, ℕ, Option}
-use Rattle.ic_unsafe_ref.specs.declared.place.Place.{Place}
-use Rattle.ic_unsafe_ref.specs.Places.{index_of}
-use Rattle.ic_augmented.specs.Consistent.{ShowsConsistent}
+use Rattle.ic_link_ops.specs.Prelude.{Place, index_of}
+use Rattle.ic_augmented.specs.Consistent.{RepresentsConsistent}
 use Rattle.ic_augmented.specs.Greatest.{greatest}
 use Rattle.ic_augmented.specs.GreatestLaws.{greatest_tells}
 use Rattle.ic_augmented.specs.SumTables.{room_of}
@@ -31,7 +30,7 @@ returns-clause-ready g c =
     let q = c.requires.ready in
     let e = c.set_value.ensures in
     let old = q.consistent in
-    let shown : ShowsConsistent n (greatest c.set_value.new.summed.sums) (g.L.LinkOps.table c.set_value.new.summed.links) c.args.tree.now.head q.members
+    let shown : RepresentsConsistent n (greatest c.set_value.new.summed.sums) (g.L.LinkOps.table c.set_value.new.summed.links) c.args.tree.now.head q.members
     = (rw e.links old.0, e.consistent q.members old.1) in
     record {
       members = q.members;

@@ -1,6 +1,6 @@
 use Rattle.std.proofs.Common.{subst, ◌∙◌}
-use Rattle.ic_link_ops.specs.RedBlackTree.{Shows}
-use Rattle.ic_augmented.specs.Consistent.{ShowsSummed}
+use Rattle.ic_link_ops.specs.RedBlackTree.{Represents}
+use Rattle.ic_augmented.specs.Consistent.{RepresentsSummed}
 use Rattle.ic_augmented.specs.Counts.{counts}
 use Rattle.keyed_tests.proofs.Positions.{at_position, past_all, least_here, least_past}
 use Rattle.keyed_tests.proofs.augmented.position_of_nth.Goals as goal
@@ -9,7 +9,7 @@ pub index_of-requires : goal.index_of-requires
 index_of-requires g c =
     let q = c.requires.ready in
     let a = at_position q.members c.args.position (c.in-Some.ensures q.members q.shown) in
-    (_, record { front = a.front; back = a.back; shown = subst (Shows g.N.Nodes.node (g.N.Nodes.table c.args.summed.now.links) _) a.same q.shown.shows })
+    (_, record { front = a.front; back = a.back; shown = subst (Represents g.N.NodeStore.node (g.N.NodeStore.table c.args.summed.now.links) _) a.same q.shown.shows })
 
 pub nth-requires : goal.nth-requires
 nth-requires g c = (c.requires.ready.members, c.requires.ready.shown)
@@ -18,7 +18,7 @@ pub returns-in-Some : goal.returns-in-Some
 returns-in-Some g c = record {
   least = λ s shown.
       let a = at_position s c.args.position (c.in-Some.ensures s shown) in
-      c.index_of.ensures _ a.front a.back (subst (ShowsSummed g.N.Nodes.node (counts c.args.summed.now.sums) (g.N.Nodes.table c.args.summed.now.links) _) a.same shown)
+      c.index_of.ensures _ a.front a.back (subst (RepresentsSummed g.N.NodeStore.node (counts c.args.summed.now.sums) (g.N.NodeStore.table c.args.summed.now.links) _) a.same shown)
       ∙ (a.position ∙ least_here s c.args.position a);
 }
 

@@ -10,7 +10,7 @@ refresh-requires g c =
     let n = g.L.RBTreeOps.node in
     let e = c.insert_keyed.ensures in
     let q = c.requires.ready in
-    let x = after_insert g.L.LinkOps.Does g.L.RBTreeOps.node g.L.LinkOps.table g.M.Sums.sums g.M.Sums.Covers g.L.LinkOps.Refused g.met.L.LinkOps.refused_keeps c.args.summed.now c.insert_keyed.new.links
+    let x = after_insert g.L.LinkOps.Trace g.L.RBTreeOps.node g.L.LinkOps.table g.M.Sums.sums g.M.Sums.Covers g.L.LinkOps.Refused g.met.L.LinkOps.refused_keeps c.args.summed.now c.insert_keyed.new.links
     c.args.tree.now c.insert_keyed.new.self c.args.object _ _ c.insert_keyed.result q.members q.consistent (e.inserted q.members q.consistent.0) e.acquired e.refused e.unchanged in
     record {
       shown = (x.members, x.right.0);
@@ -23,7 +23,7 @@ returns g c =
     let n = g.L.RBTreeOps.node in
     let e = c.insert_keyed.ensures in
     let q = c.requires.ready in
-    let x = after_insert g.L.LinkOps.Does g.L.RBTreeOps.node g.L.LinkOps.table g.M.Sums.sums g.M.Sums.Covers g.L.LinkOps.Refused g.met.L.LinkOps.refused_keeps c.args.summed.now c.insert_keyed.new.links
+    let x = after_insert g.L.LinkOps.Trace g.L.RBTreeOps.node g.L.LinkOps.table g.M.Sums.sums g.M.Sums.Covers g.L.LinkOps.Refused g.met.L.LinkOps.refused_keeps c.args.summed.now c.insert_keyed.new.links
     c.args.tree.now c.insert_keyed.new.self c.args.object _ _ c.insert_keyed.result q.members q.consistent (e.inserted q.members q.consistent.0) e.acquired e.refused e.unchanged in
     record {
       ready = record {

@@ -1,5 +1,5 @@
 use Rattle.std.proofs.Common.{◌≡◌, ◌∙◌, ◌++◌, ◌∷◌, true, sym, rules}
-use Rattle.ic_augmented.specs.Consistent.{ShowsConsistent}
+use Rattle.ic_augmented.specs.Consistent.{RepresentsConsistent}
 use Rattle.ic_augmented.proofs.StepLemmas.{inserted_right}
 use Rattle.keyed_tests.proofs.Ready.{on_ok, room_covered, room_linked}
 use Rattle.keyed_tests.proofs.augmented.put_and_propagate.Goals as goal
@@ -34,7 +34,7 @@ returns g c =
     let x = inserted_right d q.consistent.1 (on_ok c.insert_keyed-inserted.result ok (e.inserted q.members q.consistent.0)) in
     let extent = x.inserted.frame.extent in
     let place = c.place-place.result in
-    let right : ShowsConsistent n (g.M.Sums.sums c.insert_keyed-inserted.new.links.sums) (g.L.LinkOps.table c.insert_keyed-inserted.new.links.links) c.insert_keyed-inserted.new.self.head (x.gap.front ++ place ∷ x.gap.back)
+    let right : RepresentsConsistent n (g.M.Sums.sums c.insert_keyed-inserted.new.links.sums) (g.L.LinkOps.table c.insert_keyed-inserted.new.links.links) c.insert_keyed-inserted.new.self.head (x.gap.front ++ place ∷ x.gap.back)
     = rw c.place-place.ensures x.inserted.shows in
     record {
       ready = record {

@@ -1,8 +1,7 @@
 use Rattle.std.proofs.Common.{◌≡◌, ◌<◌, sym, subst, ◌++◌, ◌∷◌}
-use Rattle.ic_unsafe_ref.specs.declared.place.Place.{Place}
-use Rattle.ic_unsafe_ref.specs.Places.{index_of}
-use Rattle.ic_link_ops.specs.RedBlackTree.{Shows}
-use Rattle.ic_augmented.specs.Consistent.{ShowsConsistent}
+use Rattle.ic_link_ops.specs.Prelude.{Place, index_of}
+use Rattle.ic_link_ops.specs.RedBlackTree.{Represents}
+use Rattle.ic_augmented.specs.Consistent.{RepresentsConsistent}
 use Rattle.ic_augmented.specs.Counts.{counts}
 use Rattle.ic_augmented.specs.SumTables.{room_of}
 use Rattle.ic_augmented.proofs.StepLemmas.{removed_right}
@@ -18,7 +17,7 @@ remove-requires g c =
     let q = c.requires.ready in
     let a = at_position q.members c.args.position (c.in-Some.ensures q.members q.shown) in
     let same = subst (λ (p : Place). q.members ≡ a.front ++ p ∷ a.back) (sym c.new.ensures) a.same in
-    record { member = record { front = a.front; back = a.back; shown = subst (Shows g.L.RBTreeOps.node (g.L.LinkOps.table c.args.summed.now.links) c.args.tree.now.head) same q.shown.shows } }
+    record { member = record { front = a.front; back = a.back; shown = subst (Represents g.L.RBTreeOps.node (g.L.LinkOps.table c.args.summed.now.links) c.args.tree.now.head) same q.shown.shows } }
 
 pub refresh-requires : goal.refresh-requires
 refresh-requires g c =
@@ -27,10 +26,10 @@ refresh-requires g c =
     let e = c.remove.ensures in
     let a = at_position q.members c.args.position (c.in-Some.ensures q.members q.shown) in
     let same = subst (λ (p : Place). q.members ≡ a.front ++ p ∷ a.back) (sym c.new.ensures) a.same in
-    let old = subst (ShowsConsistent n (counts c.args.summed.now.sums) (g.L.LinkOps.table c.args.summed.now.links) c.args.tree.now.head) same q.consistent in
+    let old = subst (RepresentsConsistent n (counts c.args.summed.now.sums) (g.L.LinkOps.table c.args.summed.now.links) c.args.tree.now.head) same q.consistent in
     let d = e.released in
     let extent = (e.frame q.members q.shown.shows).extent in
-    let right : ShowsConsistent n (counts c.remove.new.links.sums) (g.L.LinkOps.table c.remove.new.links.links) c.remove.new.self.head (a.front ++ a.back)
+    let right : RepresentsConsistent n (counts c.remove.new.links.sums) (g.L.LinkOps.table c.remove.new.links.links) c.remove.new.self.head (a.front ++ a.back)
     = (e.removed a.front a.back old.0, removed_right a.front a.back d old.1) in
     record {
       shown = (_, right.0);
@@ -45,10 +44,10 @@ returns g c =
     let e = c.remove.ensures in
     let a = at_position q.members c.args.position (c.in-Some.ensures q.members q.shown) in
     let same = subst (λ (p : Place). q.members ≡ a.front ++ p ∷ a.back) (sym c.new.ensures) a.same in
-    let old = subst (ShowsConsistent n (counts c.args.summed.now.sums) (g.L.LinkOps.table c.args.summed.now.links) c.args.tree.now.head) same q.consistent in
+    let old = subst (RepresentsConsistent n (counts c.args.summed.now.sums) (g.L.LinkOps.table c.args.summed.now.links) c.args.tree.now.head) same q.consistent in
     let d = e.released in
     let extent = (e.frame q.members q.shown.shows).extent in
-    let right : ShowsConsistent n (counts c.remove.new.links.sums) (g.L.LinkOps.table c.remove.new.links.links) c.remove.new.self.head (a.front ++ a.back)
+    let right : RepresentsConsistent n (counts c.remove.new.links.sums) (g.L.LinkOps.table c.remove.new.links.links) c.remove.new.self.head (a.front ++ a.back)
     = (e.removed a.front a.back old.0, removed_right a.front a.back d old.1) in
     record {
       ready = record {

@@ -1,6 +1,5 @@
 use Rattle.std.proofs.Common.{ap}
-use Rattle.ic_link_ops.specs.Sequences.{insert, at_back}
-use Rattle.ic_link_ops.specs.Tables.{Table}
+use Rattle.ic_link_ops.specs.Prelude.{insert, at_back, Table}
 use Rattle.ic_link_ops.proofs.Calling.{either}
 use Rattle.keyed_tests.proofs.builder.push.Goals as goal
 

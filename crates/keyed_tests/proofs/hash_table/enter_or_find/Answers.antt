@@ -1,9 +1,6 @@
 use Rattle.std.proofs.Common.{rules, ◌≡◌, ℕ, Option, List, Result, Ok, Err, IfOk, sym, ap, subst}
-use Rattle.ic_unsafe_ref.specs.Objects.{Objects}
-use Rattle.ic_unsafe_ref.specs.declared.place.Place.{Place}
-use Rattle.ic_link_ops.specs.LinkSteps.{LinkStep}
+use Rattle.ic_link_ops.specs.Prelude.{Place, Objects, Table, LinkStep}
 use Rattle.ic_link_ops.specs.SinglyLinkedList.{Successor}
-use Rattle.ic_link_ops.specs.Tables.{Table}
 use Rattle.ic_hash_table.specs.declared.entry.Entry.{Entry}
 use Rattle.ic_hash_table.specs.declared.entry.Entry.TheVariants.{Occupied, Vacant}
 use Rattle.ic_hash_table.specs.declared.entry.OccupiedEntry.{OccupiedEntry}
@@ -12,7 +9,7 @@ use Rattle.ic_hash_table.specs.declared.entry.VacantEntry.{VacantEntry}
 use Rattle.ic_hash_table.specs.declared.table.HashTable.{HashTable}
 use Rattle.ic_hash_table.specs.Entry.{EntersAt, IfOccupied, IfVacant}
 use Rattle.ic_hash_table.specs.HashTable.{Holds}
-use Rattle.ic_hash_table.proofs.Callers.{held_shown}
+use Rattle.ic_hash_table.proofs.Callers.{held_represented}
 use Rattle.keyed_tests.proofs.hash_table.enter_or_find.Goals as goal
 
 -- what holds of an entry that is occupied, or vacant, holds in part
@@ -27,16 +24,16 @@ module _ {A B L : Type 0} where
 
 -- the member that has the key, or that went in, is of a table of links with the same extent
 module _ {E A B L V K : Type 0} (successor : E → Successor) (table : L → Table E) (fronts : B → List (Option Place)) (Rewrites : B → B → Type 0) (hash : A → V → ℕ)
-    (Does : L → L → List LinkStep → Type 0) (Refused : L → L → Place → Type 0) (objects : Objects V) (object : Place) where
+    (Trace : L → L → List LinkStep → Type 0) (Refused : L → L → Place → Type 0) (objects : Objects V) (object : Place) where
   entered_extent : (entry : Entry A B L) (result : Result (OccupiedEntry A B L) (RefusedInsert A B L V K))
       (members : HashTable A B) (links : L) (s : List Place)
-      → IfOccupied entry (λ e. result ≡ Ok e) → IfVacant entry (λ v. EntersAt successor table fronts Rewrites hash Does Refused objects v object result)
+      → IfOccupied entry (λ e. result ≡ Ok e) → IfVacant entry (λ v. EntersAt successor table fronts Rewrites hash Trace Refused objects v object result)
       → IfOccupied entry (λ e. e.links.now ≡ links) → IfVacant entry (λ v. (v.table.now ≡ members) × (v.links.now ≡ links))
       → Holds successor hash fronts (table links) members objects s → IfOk result (λ e. (table e.links.now).extent ≡ (table links).extent)
   entered_extent (Occupied e) result members links s same entered found vacant held =
       subst (λ r. IfOk r (λ e. (table e.links.now).extent ≡ (table links).extent)) (sym same) (ap (λ l. (table l).extent) found)
   entered_extent (Vacant v) (Ok e) members links s same entered found vacant held =
-      (rw (vacant.0, vacant.1) at entered.kept.chains.frame s (held_shown held)).extent
+      (rw (vacant.0, vacant.1) at entered.kept.chains.frame s (held_represented held)).extent
   entered_extent (Vacant v) (Err r) members links s same entered found vacant held = tt
 
 pub returns-in-Ok-clause-extent : goal.returns-in-Ok-clause-extent

@@ -1,10 +1,10 @@
 use Rattle.ic_hash_table.specs.HashTable.{number, Holds}
-use Rattle.ic_hash_table.proofs.Callers.{held_shown, removed_some}
+use Rattle.ic_hash_table.proofs.Callers.{held_represented, removed_some}
 use Rattle.keyed_tests.proofs.Extents.{places_of}
 use Rattle.keyed_tests.proofs.hash_table.take.Goals as goal
 
 pub returns-clause-covers : goal.returns-clause-covers
-returns-clause-covers g c = let q = c.requires.held in places_of (c.remove-is_taken.ensures.kept.chains.frame q.0 (held_shown q.1)).extent c.requires.covers
+returns-clause-covers g c = let q = c.requires.held in places_of (c.remove-is_taken.ensures.kept.chains.frame q.0 (held_represented q.1)).extent c.requires.covers
 
 pub returns-clause-held : goal.returns-clause-held
 returns-clause-held g c =

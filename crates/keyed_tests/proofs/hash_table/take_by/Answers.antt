@@ -1,11 +1,11 @@
 use Rattle.ic_hash_table.specs.HashTable.{number, Holds}
-use Rattle.ic_hash_table.proofs.Callers.{held_shown}
+use Rattle.ic_hash_table.proofs.Callers.{held_represented}
 use Rattle.keyed_tests.proofs.HashTables.{taken_either}
 use Rattle.keyed_tests.proofs.Extents.{places_of}
 use Rattle.keyed_tests.proofs.hash_table.take_by.Goals as goal
 
 pub returns-clause-covers : goal.returns-clause-covers
-returns-clause-covers g c = let q = c.requires.held in places_of (c.remove_by-taken.ensures.kept.chains.frame q.0 (held_shown q.1)).extent c.requires.covers
+returns-clause-covers g c = let q = c.requires.held in places_of (c.remove_by-taken.ensures.kept.chains.frame q.0 (held_represented q.1)).extent c.requires.covers
 
 pub returns-clause-held : goal.returns-clause-held
 returns-clause-held g c =

@@ -1,5 +1,5 @@
 use Rattle.std.proofs.Common.{[], refl}
-use Rattle.keyed_tests.proofs.HashTables.{gap_behind_first}
+use Rattle.keyed_tests.proofs.HashTables.{gap_after_first}
 use Rattle.keyed_tests.proofs.hash_table.write_steps.Goals as goal
 
 pub next-first-requires : goal.next-first-requires
@@ -8,5 +8,5 @@ next-first-requires g c = let q = c.requires.held in record { stands = (record {
 pub next-requires : goal.next-requires
 next-requires g c =
     let q = c.requires.held in
-    let b = gap_behind_first q.0 c.next-first.result (c.next-first.ensures (record { front = []; back = q.0 }) q.1 refl) in
+    let b = gap_after_first q.0 c.next-first.result (c.next-first.ensures (record { front = []; back = q.0 }) q.1 refl) in
     record { stands = (b.0, rw b.1 q.1, b.2) }

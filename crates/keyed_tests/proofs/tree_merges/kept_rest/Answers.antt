@@ -9,6 +9,6 @@ returns g c =
     let k = c.difference.ensures.parted q.first q.second q.shown q.other q.apart in
     let placed = all_parts (λ p. IsSome (object_at c.args.objects.now p)) k.common k.rest q.first k.is.interleaved q.placed in
     record {
-      common = record { members = k.common; shown = k.common_shown; placed = placed.0 };
-      kept = record { members = k.rest; shown = k.rest_shown; placed = placed.1 };
+      common = record { members = k.common; shown = k.common_represented; placed = placed.0 };
+      kept = record { members = k.rest; shown = k.rest_represented; placed = placed.1 };
     }

@@ -1,6 +1,5 @@
 use Rattle.std.proofs.Common.{[], ◌∷◌, ap}
-use Rattle.ic_link_ops.specs.LinkSteps.{acquires}
-use Rattle.ic_link_ops.specs.Tables.{Table}
+use Rattle.ic_link_ops.specs.Prelude.{Table, acquires}
 use Rattle.ic_link_ops.proofs.Calling.{either}
 use Rattle.keyed_tests.proofs.Extents.{places_of}
 use Rattle.keyed_tests.proofs.TwoTrees.{both_ways, one_more}

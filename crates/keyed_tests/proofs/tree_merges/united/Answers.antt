@@ -17,5 +17,5 @@ returns g c =
         placed = permuted_all (λ p. IsSome (object_at c.args.objects.now p)) (q.first ++ k.added) k.united k.is.permutes
             (all_both (λ p. IsSome (object_at c.args.objects.now p)) q.first k.added q.placed placed.1);
       };
-      doubles = record { members = k.doubles; shown = k.doubles_shown; placed = placed.0 };
+      doubles = record { members = k.doubles; shown = k.doubles_represented; placed = placed.0 };
     }

@@ -1,4 +1,4 @@
-use Rattle.ic_link_ops.proofs.ShownTrees.{one_sequence}
+use Rattle.ic_link_ops.proofs.RepresentedTrees.{one_sequence}
 use Rattle.ic_rbtree.proofs.SortedKeys.{sorted_less}
 use Rattle.scheduler.proofs.timer_queue.cancel.Goals as goal
 

@@ -1,6 +1,6 @@
 use Rattle.std.proofs.Common.{◌≤◌, List, length, vec_capacity}
 use Rattle.ic_unsafe_ref.specs.declared.place.Place.{Place}
-use Rattle.ic_link_ops.specs.RedBlackTree.{Shows}
+use Rattle.ic_link_ops.specs.RedBlackTree.{Represents}
 use Rattle.ic_rbtree.specs.Members.{members}
 use Rattle.ic_rbtree.specs.Tree.{root_of}
 use Rattle.ic_rbtree.specs.CursorMut.{tree_of, links_of, site_of, SameBorrows}
@@ -12,8 +12,8 @@ abbrev pub invariant-loop-timer : goal.invariant-loop-timer
 invariant-loop-timer g l = record {
   borrows : SameBorrows l.initial.cursor l.cursor;
   front : IsAtFront g.T.HasDeadline.deadline g.L.RBTreeOps.node g.L.LinkOps.table l.objects (site_of l.cursor);
-  takes : (s : List Place) → Shows g.L.RBTreeOps.node (g.L.LinkOps.table l.fn.links) (root_of l.fn.timers) s
-      → Takes g.T.HasDeadline.deadline g.L.RBTreeOps.node g.L.LinkOps.table g.L.LinkOps.Does l.objects l.now l.fn.links s l.fn.due.items (links_of l.cursor) (root_of (tree_of l.cursor)) l.due.items;
+  takes : (s : List Place) → Represents g.L.RBTreeOps.node (g.L.LinkOps.table l.fn.links) (root_of l.fn.timers) s
+      → Takes g.T.HasDeadline.deadline g.L.RBTreeOps.node g.L.LinkOps.table g.L.LinkOps.Trace l.objects l.now l.fn.links s l.fn.due.items (links_of l.cursor) (root_of (tree_of l.cursor)) l.due.items;
   room : vec_capacity l.fn.due ≤ vec_capacity l.due;
 }
 

@@ -1,5 +1,5 @@
 use Rattle.std.proofs.Common.{rules}
-use Rattle.ic_link_ops.proofs.ShownTrees.{one_sequence}
+use Rattle.ic_link_ops.proofs.RepresentedTrees.{one_sequence}
 use Rattle.scheduler.proofs.TimersDue.{taken_earliest}
 use Rattle.scheduler.proofs.timer_queue.take_due.Goals as goal
 

@@ -1,15 +1,15 @@
 use Rattle.std.proofs.Common.{[], rules}
 use Rattle.ic_link_ops.specs.ThreeWords.{node_of}
 use Rattle.ic_link_ops.proofs.Positions.{stands_null}
-use Rattle.ic_link_ops.proofs.ShownTrees.{shows_nothing}
+use Rattle.ic_link_ops.proofs.RepresentedTrees.{represents_nothing}
 use Rattle.ic_link_ops.specs.Sequences.{join}
-use Rattle.ic_rbtree.specs.PlainTrees.{plain_table, PlainShowsSome}
+use Rattle.ic_rbtree.specs.PlainTrees.{plain_table, PlainRepresentsSome}
 use Rattle.ic_rbtree.specs.Tree.{root_of}
 use Rattle.structure_tests.proofs.check.tree_of_three.Goals.{then-index-covers, else-index-covers}
 use Rattle.structure_tests.proofs.check.tree_of_three.Goals as goal
 
 pub loop-index-init : goal.loop-index-init
-loop-index-init c = record { shown = ([], rw c.new-tree.ensures.empty (shows_nothing {n = node_of} (plain_table c.args.links.now))) }
+loop-index-init c = record { shown = ([], rw c.new-tree.ensures.empty (represents_nothing {n = node_of} (plain_table c.args.links.now))) }
 
 pub insert_before-requires-clause-stands : goal.insert_before-requires-clause-stands
 insert_before-requires-clause-stands c =
@@ -22,7 +22,7 @@ loop-index-preserved c =
     elim c.if-index-covers.branch [
       | then-index-covers w ↦
           let k = w.insert_before.ensures.kept in
-          let shown : PlainShowsSome w.insert_before.new.self.links.now (root_of w.insert_before.new.self.list.now) = (join k.stands.gap, k.stands.shown) in
+          let shown : PlainRepresentsSome w.insert_before.new.self.links.now (root_of w.insert_before.new.self.list.now) = (join k.stands.gap, k.stands.shown) in
           let names = k.borrows in
           record { shown = search rules }
       | else-index-covers w ↦ record { shown = rw (w.tree-is, w.links-is) c.loop-index.invariant.shown }

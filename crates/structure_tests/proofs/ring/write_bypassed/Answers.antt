@@ -10,19 +10,19 @@ bypass-requires g c = record {
 
 pub next-requires : goal.next-requires
 next-requires g c = record {
-  linked = rw c.head-head.ensures (g.met.L.LinkOps.does_replay _ _ [] c.bypass.ensures.no_step _ ∙ head_linked g.met.L.LinkedListOps.linked_alike c.requires.1);
+  linked = rw c.head-head.ensures (g.met.L.LinkOps.does_replay _ _ [] c.bypass.ensures.trace_stays _ ∙ head_linked g.met.L.LinkedListOps.linked_alike c.requires.1);
 }
 
 pub turn_to-requires : goal.turn_to-requires
 turn_to-requires g c = record {
-  before = g.met.L.LinkOps.does_replay _ _ [] c.bypass.ensures.no_step _ ∙ head_linked g.met.L.LinkedListOps.linked_alike c.prev-before.ensures.ring.1;
-  behind = g.met.L.LinkOps.does_replay _ _ [] c.bypass.ensures.no_step _ ∙ head_linked g.met.L.LinkedListOps.linked_alike c.next-behind.ensures.ring.1;
+  before = g.met.L.LinkOps.does_replay _ _ [] c.bypass.ensures.trace_stays _ ∙ head_linked g.met.L.LinkedListOps.linked_alike c.prev-before.ensures.ring.1;
+  behind = g.met.L.LinkOps.does_replay _ _ [] c.bypass.ensures.trace_stays _ ∙ head_linked g.met.L.LinkedListOps.linked_alike c.next-behind.ensures.ring.1;
   place = g.met.L.LinkOps.covered_has_name _ _ (g.met.L.LinkOps.linked_is_covered _ _ (head_linked g.met.L.LinkedListOps.linked_alike c.next-first.ensures.ring.1));
 }
 
 pub next-requires-2 : goal.next-requires-2
 next-requires-2 g c = record {
   linked = rw c.head-head.ensures
-      (g.met.L.LinkOps.does_replay _ _ [] c.turn_to.ensures.no_step _
-      ∙ (g.met.L.LinkOps.does_replay _ _ [] c.bypass.ensures.no_step _ ∙ head_linked g.met.L.LinkedListOps.linked_alike c.requires.1));
+      (g.met.L.LinkOps.does_replay _ _ [] c.turn_to.ensures.trace_stays _
+      ∙ (g.met.L.LinkOps.does_replay _ _ [] c.bypass.ensures.trace_stays _ ∙ head_linked g.met.L.LinkedListOps.linked_alike c.requires.1));
 }

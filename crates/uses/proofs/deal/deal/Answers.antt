@@ -15,5 +15,5 @@ returns-clause-dealt g c s shown =
     let rest = over.0 in
     let none : rest.0 ≡ [] = elim over.2 [ inl takes ↦ nothing_first rest.0 (takes.answer rest.0 rest.1) | inr takes ↦ nothing_last rest.0 (takes.answer rest.0 rest.1) ] in
     rw (gained_is _ _ _ e.1.at_fronts, gained_is _ _ _ e.1.at_backs)
-    (two_ended_taking kind g.L.LinkOps.table g.L.LinkOps.Does rest_of c.into_iter.result e.0 s e.1.items
+    (two_ended_taking kind g.L.LinkOps.table g.L.LinkOps.Trace rest_of c.into_iter.result e.0 s e.1.items
     (rw (c.into_iter.ensures.links, c.into_iter.ensures.list) shown) e.1.leads (rw none at rest.1))) e.2

@@ -3,8 +3,8 @@ use Rattle.std.specs.Option.{option_copied}
 use Rattle.std.specs.Fn.{FnReturnsAt}
 use Rattle.ic_cursors.specs.CursorMut.{site_of}
 use Rattle.ic_unsafe_ref.specs.declared.place.Place.{Place}
-use Rattle.ic_link_ops.specs.LinkedList.{Shows}
-use Rattle.ic_link_ops.proofs.CollectionLaws.{one_sequence_is_shown}
+use Rattle.ic_link_ops.specs.LinkedList.{Represents}
+use Rattle.ic_link_ops.proofs.CollectionLaws.{one_sequence_is_represented}
 use Rattle.ic_link_ops.proofs.DoublyLists.{neighbors_covered, doubly_lists}
 use Rattle.ic_chain.proofs.Standing.{stands_here}
 use Rattle.ic_link_ops.proofs.EditingWalks.{walk_begins}
@@ -26,7 +26,7 @@ loop-object-init g c =
           gone = [];
           walked = rw (← e.borrows.3) (walk_begins (g.met.L.LinkOps.does_nothing _) (rw (e.borrows.2, e.borrows.3) shown) (e.position s shown));
           parted = λ k g parts. parts;
-          placed = rw (one_sequence_is_shown kind p.shown shown) at p.placed;
+          placed = rw (one_sequence_is_represented kind p.shown shown) at p.placed;
         },
       );
     }
@@ -38,25 +38,25 @@ pub remove-requires : goal.remove-requires
 remove-requires g c = let gap = retains_gap (c.loop-object.invariant.retains _ c.requires.placed.shown).1 in record { stands = stands_here gap.0 gap.1 gap.2 tt refl }
 
 -- the turn that kept the member, and the one that took it off
-kept : (g : Over) (c : goal.After-move_next g) (s : List Place) → Shows g.L.LinkedListOps.neighbors (g.L.LinkOps.table c.args.links.now) c.args.list.now s
-    → Turns g.L.LinkedListOps.neighbors g.L.LinkOps.table g.L.LinkOps.Does c.args.objects.now (FnReturnsAt g.F.Fn c.args.keeps) c.args.links.now s
+kept : (g : Over) (c : goal.After-move_next g) (s : List Place) → Represents g.L.LinkedListOps.neighbors (g.L.LinkOps.table c.args.links.now) c.args.list.now s
+    → Turns g.L.LinkedListOps.neighbors g.L.LinkOps.table g.L.LinkOps.Trace c.args.objects.now (FnReturnsAt g.F.Fn c.args.keeps) c.args.links.now s
     (site_of (λ list. list) (λ at. at) c.loop-object.cursor) (site_of (λ list. list) (λ at. at) c.move_next.new.self)
 kept g c s shown =
     let h = c.loop-object.invariant.retains s shown in
     let m = c.move_next.ensures in
-    let told : FnReturnsAt g.F.Fn c.args.keeps c.in-Some.object.now c.keeps.result = record { shown = c.in-Some.object; shows = refl; says = record { met = c.keeps.ensures } } in
+    let answered : FnReturnsAt g.F.Fn c.args.keeps c.in-Some.object.now c.keeps.result = record { shown = c.in-Some.object; shows = refl; says = record { met = c.keeps.ensures } } in
     rw (m.stays.2, m.stays.3)
     (retains_kept (neighbors_covered g.L.LinkedListOps.neighbors g.L.LinkOps.table g.met.L.LinkOps.linked_is_covered g.met.L.LinkedListOps.linked_alike)
-    h.0 h.1 (sym c.get.ensures ∙ ap option_copied c.in-Some.is) (rw c.if-keeps.true at told) m.moved)
+    h.0 h.1 (sym c.get.ensures ∙ ap option_copied c.in-Some.is) (rw c.if-keeps.true at answered) m.moved)
 
-gone : (g : Over) (c : goal.After-drop-remove g) (s : List Place) → Shows g.L.LinkedListOps.neighbors (g.L.LinkOps.table c.args.links.now) c.args.list.now s
-    → Turns g.L.LinkedListOps.neighbors g.L.LinkOps.table g.L.LinkOps.Does c.args.objects.now (FnReturnsAt g.F.Fn c.args.keeps) c.args.links.now s
+gone : (g : Over) (c : goal.After-drop-remove g) (s : List Place) → Represents g.L.LinkedListOps.neighbors (g.L.LinkOps.table c.args.links.now) c.args.list.now s
+    → Turns g.L.LinkedListOps.neighbors g.L.LinkOps.table g.L.LinkOps.Trace c.args.objects.now (FnReturnsAt g.F.Fn c.args.keeps) c.args.links.now s
     (site_of (λ list. list) (λ at. at) c.loop-object.cursor) (site_of (λ list. list) (λ at. at) c.remove.new.self)
 gone g c s shown =
     let h = c.loop-object.invariant.retains s shown in
-    let told : FnReturnsAt g.F.Fn c.args.keeps c.in-Some.object.now c.keeps.result = record { shown = c.in-Some.object; shows = refl; says = record { met = c.keeps.ensures } } in
+    let answered : FnReturnsAt g.F.Fn c.args.keeps c.in-Some.object.now c.keeps.result = record { shown = c.in-Some.object; shows = refl; says = record { met = c.keeps.ensures } } in
     retains_gone (neighbors_covered g.L.LinkedListOps.neighbors g.L.LinkOps.table g.met.L.LinkOps.linked_is_covered g.met.L.LinkedListOps.linked_alike)
-    g.met.L.LinkOps.does_on h.0 h.1 (sym c.get.ensures ∙ ap option_copied c.in-Some.is) (rw c.if-keeps.false at told) c.remove.ensures.removed
+    g.met.L.LinkOps.does_on h.0 h.1 (sym c.get.ensures ∙ ap option_copied c.in-Some.is) (rw c.if-keeps.false at answered) c.remove.ensures.removed
 
 pub loop-object-smaller-then-keeps : goal.loop-object-smaller-then-keeps
 loop-object-smaller-then-keeps g c = (kept g c _ c.requires.placed.shown).2

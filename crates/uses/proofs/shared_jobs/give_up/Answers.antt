@@ -1,5 +1,5 @@
 use Rattle.std.proofs.Common.{rules}
-use Rattle.ic_link_ops.specs.DoublyEntries.{is_linked, plain_table, PlainShows}
+use Rattle.ic_link_ops.specs.DoublyEntries.{is_linked, plain_table, PlainRepresents}
 use Rattle.ic_link_ops.specs.Tables.{IsLinked}
 use Rattle.ic_link_ops.proofs.Calling.{has_member}
 use Rattle.ic_atomic.specs.AtomicLinks.{links_of}
@@ -10,7 +10,7 @@ pub remove-requires : goal.remove-requires
 remove-requires g c =
     let j = c.requires.jobs in
     let linked : IsLinked is_linked (plain_table (links_of c.args.links.now)) c.args.job.now = search rules in
-    record { member = has_member (PlainShows (links_of c.args.links.now) c.args.jobs.now) j.0 j.1.shown (is_listed j.1 _ linked) }
+    record { member = has_member (PlainRepresents (links_of c.args.links.now) c.args.jobs.now) j.0 j.1.shown (is_listed j.1 _ linked) }
 
 pub returns-clause-off : goal.returns-clause-off
 returns-clause-off g c s all =

@@ -1,11 +1,11 @@
-use Rattle.ic_rbtree.specs.PlainTrees.{PlainShows}
+use Rattle.ic_rbtree.specs.PlainTrees.{PlainRepresents}
 use Rattle.ic_rbtree.specs.Tree.{root_of}
-use Rattle.ic_rbtree.specs.SortedObjects.{ShowsSorted}
+use Rattle.ic_rbtree.specs.SortedObjects.{RepresentsSorted}
 use Rattle.uses.specs.Ring.{point}
 use Rattle.uses_tests.proofs.trees.a_key_belongs_to_the_next_node.Given as goal
 
 abbrev pub invariant-loop-index : goal.invariant-loop-index
-invariant-loop-index g l = record { ring : ShowsSorted point (PlainShows l.links (root_of l.ring)) l.objects }
+invariant-loop-index g l = record { ring : RepresentsSorted point (PlainRepresents l.links (root_of l.ring)) l.objects }
 
 abbrev pub invariant-loop-hash : goal.invariant-loop-hash
-invariant-loop-hash g l = record { ring : ShowsSorted point (PlainShows l.links (root_of l.ring)) l.objects }
+invariant-loop-hash g l = record { ring : RepresentsSorted point (PlainRepresents l.links (root_of l.ring)) l.objects }

@@ -1,8 +1,7 @@
 use Rattle.std.proofs.Common.{◌≡◌, true, rules, subst}
-use Rattle.ic_unsafe_ref.specs.declared.place.Place.{Place}
-use Rattle.ic_link_ops.specs.Positions.{HasMember}
+use Rattle.ic_link_ops.specs.Prelude.{Place, HasMember}
 use Rattle.ic_link_ops.proofs.Calling.{has_member}
-use Rattle.ic_rbtree.specs.PlainTrees.{PlainShows}
+use Rattle.ic_rbtree.specs.PlainTrees.{PlainRepresents}
 use Rattle.ic_rbtree.specs.Tree.{root_of}
 use Rattle.ic_rbtree.proofs.SortedKeys.{new_is_sorted}
 use Rattle.uses_tests.specs.declared.trees.Timer.{Timer}
@@ -14,7 +13,7 @@ loop-index-init g c = record { queue = new_is_sorted (λ (timer : Timer). timer.
 pub cancel-requires : goal.cancel-requires
 cancel-requires g c =
     let s = c.loop-index.invariant.queue.placed in
-    let shows = PlainShows c.loop-index.links (root_of c.loop-index.timers) in
+    let shows = PlainRepresents c.loop-index.links (root_of c.loop-index.timers) in
     let there : c.contains.result ≡ true = search rules in
     record { member = subst (λ (q : Place). HasMember shows q) c.place.ensures (has_member shows s.members s.shown ((c.contains.ensures s.members s.shown).0 there)) }
 

@@ -1,6 +1,6 @@
 use Rattle.std.proofs.Common.{sym, subst}
-use Rattle.ic_link_ops.specs.PlacedObjects.{ShowsPlaced}
-use Rattle.ic_rbtree.specs.Kept.{ShowsWithEnds}
+use Rattle.ic_link_ops.specs.PlacedObjects.{RepresentsPlaced}
+use Rattle.ic_rbtree.specs.Kept.{RepresentsWithEnds}
 use Rattle.ic_rbtree.specs.Tree.{ends_of}
 use Rattle.ic_rbtree.proofs.PlacedMembers.{inserted_placed}
 use Rattle.collections_tests.proofs.tree.beside.write_inserted_cached.Goals as goal
@@ -13,8 +13,8 @@ returns g c =
     let e = c.insert_keyed.ensures in
     let r = c.requires.placed in
     let here = g.met.L.LinkValues.covered_has_value _ _ c.requires.covered in
-    let put = inserted_placed ends_of (ShowsWithEnds g.L.RBTreeOps.node) g.L.LinkOps.table _ _ (g.L.Values.values c.args.links.now) g.L.LinkOps.Refused g.met.L.LinkOps.refused_keeps _ c.insert_keyed.result here r (e.inserted r.members r.shown) e.refused e.unchanged in
+    let put = inserted_placed ends_of (RepresentsWithEnds g.L.RBTreeOps.node) g.L.LinkOps.table _ _ (g.L.Values.values c.args.links.now) g.L.LinkOps.Refused g.met.L.LinkOps.refused_keeps _ c.insert_keyed.result here r (e.inserted r.members r.shown) e.refused e.unchanged in
     record {
-      placed = subst (ShowsPlaced (ShowsWithEnds g.L.RBTreeOps.node (g.L.LinkOps.table c.insert_keyed.new.links) (ends_of c.insert_keyed.new.self))) (sym e.values) put.0;
+      placed = subst (RepresentsPlaced (RepresentsWithEnds g.L.RBTreeOps.node (g.L.LinkOps.table c.insert_keyed.new.links) (ends_of c.insert_keyed.new.self))) (sym e.values) put.0;
       extent = put.1;
     }

@@ -1,7 +1,5 @@
 use Rattle.std.proofs.Common.{◌≡◌, ◌<◌, ◌∙◌, [], ◌∷◌, true, sym, ap, arith, inr, rules, subst}
-use Rattle.ic_unsafe_ref.specs.Places.{index_of}
-use Rattle.ic_link_ops.specs.Sequences.{Cut, join, insert}
-use Rattle.ic_link_ops.specs.Tables.{Extent}
+use Rattle.ic_link_ops.specs.Prelude.{index_of, Cut, join, insert, Extent}
 use Rattle.ic_link_ops.proofs.Times.{times_append}
 use Rattle.ic_rbtree.proofs.KeptHeads.{shown}
 use Rattle.collections_tests.proofs.Ready.{on_ok, one_more, parts_right, ready_behind}
@@ -36,7 +34,7 @@ returns g c =
     let kept = g.E.TreeHead.kept in
     record {
       ready = ready_behind kept steps (ap (λ (x : Extent). x.places) s.frame.extent ∙ q.covers)
-          (λ p covered. e.no_step.covers p (q.room p (subst (λ (x : Extent). index_of p < x.places) s.frame.extent covered))) put.frame.extent
-          (join gap) (insert gap c.args.object) (parts_right kept q e.no_step (join gap) (join gap) m.shown (λ p there. inr there)) put.shows
+          (λ p covered. e.trace_stays.covers p (q.room p (subst (λ (x : Extent). index_of p < x.places) s.frame.extent covered))) put.frame.extent
+          (join gap) (insert gap c.args.object) (parts_right kept q e.trace_stays (join gap) (join gap) m.shown (λ p there. inr there)) put.shows
           (one_more c.args.object [] (join gap) (insert gap c.args.object) (λ p. omega (arith, times_append p gap.front gap.back, times_append p gap.front (c.args.object ∷ gap.back))));
     }

@@ -2,7 +2,7 @@ use Rattle.std.proofs.Common.{Some, ◌∙◌, sym, ap, subst}
 use Rattle.ic_link_ops.specs.declared.side.Side.TheVariants.{Left}
 use Rattle.ic_link_ops.specs.Positions.{HasMember}
 use Rattle.ic_link_ops.proofs.Positions.{stands_first, member_there}
-use Rattle.ic_rbtree.specs.Kept.{ShowsKept}
+use Rattle.ic_rbtree.specs.Kept.{RepresentsKept}
 use Rattle.ic_rbtree.proofs.KeptHeads.{has_ends, end_is}
 use Rattle.collections_tests.proofs.tree.summaries.member_at.Goals as goal
 

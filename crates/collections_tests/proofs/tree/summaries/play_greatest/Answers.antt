@@ -2,7 +2,7 @@ use Rattle.std.proofs.Common.{◌≡◌, ◌<◌, ◌∙◌, [], true, sym, arit
 use Rattle.ic_unsafe_ref.specs.Places.{index_of}
 use Rattle.ic_link_ops.specs.ThreeWords.{node_of}
 use Rattle.ic_rbtree.specs.PlainTrees.{plain_table}
-use Rattle.collections_tests.proofs.Ready.{on_ok, nothing_shown}
+use Rattle.collections_tests.proofs.Ready.{on_ok, nothing_represented}
 use Rattle.collections_tests.proofs.tree.summaries.play_greatest.Goals as goal
 
 pub loop-index-init : goal.loop-index-init
@@ -27,7 +27,7 @@ play-requires g c =
       ready = record {
         covers = l.covers;
         members = [];
-        shown = nothing_shown node_of (plain_table c.loop-index.summed.links) (g.E.TreeHead.kept c.args.tree.head) c.requires.empty;
+        shown = nothing_represented node_of (plain_table c.loop-index.summed.links) (g.E.TreeHead.kept c.args.tree.head) c.requires.empty;
         right = λ q member but x fresh. absurd (omega (arith, member));
         room = λ q covered. l.room q (subst (λ k. index_of q < k) l.covers covered);
       };

@@ -1,6 +1,5 @@
 use Rattle.std.proofs.Common.{◌≡◌, ◌<◌}
-use Rattle.ic_unsafe_ref.specs.declared.place.Place.{Place}
-use Rattle.ic_unsafe_ref.specs.Places.{index_of}
+use Rattle.ic_link_ops.specs.Prelude.{Place, index_of}
 use Rattle.ic_rbtree.specs.PlainTrees.{plain_table}
 use Rattle.ic_augmented.specs.Summed.{links_of, sums_of}
 use Rattle.ic_augmented.specs.SumTables.{room_of}

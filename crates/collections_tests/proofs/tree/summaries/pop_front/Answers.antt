@@ -8,4 +8,4 @@ pub returns : goal.returns
 returns g c =
     let q = c.requires.ready in
     let e = c.pop_front.ensures in
-    record { ready = first_popped g.L.LinkOps.Does g.E.TreeHead.kept q c.pop_front.result e.released e.empty (e.frame q.members q.shown).extent (e.removed q.members q.shown) }
+    record { ready = first_popped g.L.LinkOps.Trace g.E.TreeHead.kept q c.pop_front.result e.released e.empty (e.frame q.members q.shown).extent (e.removed q.members q.shown) }

@@ -1,12 +1,10 @@
 use Rattle.std.proofs.Common.{◌<◌, ◌∙◌, [], ◌∷◌, refl, sym, ap, arith, inr, subst}
-use Rattle.ic_unsafe_ref.specs.Places.{index_of}
-use Rattle.ic_link_ops.specs.Sequences.{Cut, join}
-use Rattle.ic_link_ops.specs.Tables.{Extent}
+use Rattle.ic_link_ops.specs.Prelude.{index_of, Cut, join, Extent}
 use Rattle.ic_link_ops.proofs.Times.{times_append, distinct_times, times_absent}
 use Rattle.ic_rbtree.proofs.KeptHeads.{shown}
 use Rattle.ic_augmented.specs.MarkLaws.{marks_still}
 use Rattle.ic_augmented.specs.StepLaws.{right_still}
-use Rattle.ic_augmented.specs.SummedSteps.{DoesSummed}
+use Rattle.ic_augmented.specs.SummedSteps.{TraceSummed}
 use Rattle.ic_augmented.proofs.EditLemmas.{others_consistent}
 use Rattle.collections_tests.proofs.Ready.{both_right, parts_right, ready_behind}
 use Rattle.collections_tests.proofs.tree.summaries.write_parts.Goals as goal
@@ -22,7 +20,7 @@ refresh-requires g c =
     let s = e.split m.front m.back m.shown in
     record {
       shown = (m.front, shown (g.E.TreeHead.kept c.split_off-rest.new.self.head) s.keeps);
-      covered = λ p is. e.no_step.covers p (q.room p (subst (λ (x : Extent). index_of p < x.places) s.frame.extent
+      covered = λ p is. e.trace_stays.covers p (q.room p (subst (λ (x : Extent). index_of p < x.places) s.frame.extent
           (g.met.L.LinkOps.linked_is_covered _ p (sym (g.met.L.RBTreeOps.linked_alike _) ∙ is))));
     }
 
@@ -35,7 +33,7 @@ note-requires g c =
     let e = c.split_off-rest.ensures in
     let s = e.split m.front m.back m.shown in
     let gap : Cut = record { front = m.front; back = back } in
-    let right = parts_right kept q e.no_step (join gap) m.front m.shown (λ p there. inr (omega (arith, there, times_append p m.front back))) in
+    let right = parts_right kept q e.trace_stays (join gap) m.front m.shown (λ p there. inr (omega (arith, there, times_append p m.front back))) in
     record { shown = (m.front, c.refresh.ensures.summed m.front (shown (kept c.split_off-rest.new.self.head) s.keeps, right)) }
 
 pub refresh-requires-2 : goal.refresh-requires-2
@@ -48,7 +46,7 @@ refresh-requires-2 g c =
     let f = c.refresh.ensures in
     record {
       shown = (back, rw f.links (shown (g.E.TreeHead.kept c.split_off-rest.result.head) s.hands_out));
-      covered = λ p is. f.covers p (e.no_step.covers p (q.room p (subst (λ (x : Extent). index_of p < x.places) s.frame.extent
+      covered = λ p is. f.covers p (e.trace_stays.covers p (q.room p (subst (λ (x : Extent). index_of p < x.places) s.frame.extent
           (g.met.L.LinkOps.linked_is_covered _ p (sym (g.met.L.RBTreeOps.linked_alike _) ∙ (rw f.links at is))))));
     }
 
@@ -64,7 +62,7 @@ note-requires-2 g c =
     let f = c.refresh.ensures in
     let gap : Cut = record { front = m.front; back = back } in
     let once = distinct_times (join gap) (shown (kept c.args.tree.now.head) m.shown).held.distinct in
-    let right = parts_right kept q e.no_step (join gap) back m.shown (λ p there. inr (omega (arith, there, times_append p m.front back))) in
+    let right = parts_right kept q e.trace_stays (join gap) back m.shown (λ p there. inr (omega (arith, there, times_append p m.front back))) in
     let other = others_consistent n _ _ _ _ back f.join (λ p there. f.others m.front (shown (kept c.split_off-rest.new.self.head) s.keeps) p (times_absent p m.front (omega (arith, there, once p, times_append p m.front back))))
     (shown (kept c.split_off-rest.result.head) s.hands_out, right) in
     record { shown = (back, c.refresh-2.ensures.summed back (rw f.links other)) }
@@ -92,17 +90,17 @@ returns g c =
     let gap : Cut = record { front = m.front; back = back } in
     let whole = (shown (kept c.args.tree.now.head) m.shown).held.distinct in
     let once = distinct_times (join gap) whole in
-    let front_shown = shown (kept c.split_off-rest.new.self.head) s.keeps in
-    let back_shown = shown (kept c.split_off-rest.result.head) s.hands_out in
-    let front_right = parts_right kept q e.no_step (join gap) m.front m.shown (λ p there. inr (omega (arith, there, times_append p m.front back))) in
-    let back_right = parts_right kept q e.no_step (join gap) back m.shown (λ p there. inr (omega (arith, there, times_append p m.front back))) in
-    let back_then = others_consistent n _ _ _ _ back f.join (λ p there. f.others m.front front_shown p (times_absent p m.front (omega (arith, there, once p, times_append p m.front back)))) (back_shown, back_right) in
-    let front_then = f.consistent m.front (front_shown, front_right) in
+    let front_represented = shown (kept c.split_off-rest.new.self.head) s.keeps in
+    let back_represented = shown (kept c.split_off-rest.result.head) s.hands_out in
+    let front_right = parts_right kept q e.trace_stays (join gap) m.front m.shown (λ p there. inr (omega (arith, there, times_append p m.front back))) in
+    let back_right = parts_right kept q e.trace_stays (join gap) back m.shown (λ p there. inr (omega (arith, there, times_append p m.front back))) in
+    let back_then = others_consistent n _ _ _ _ back f.join (λ p there. f.others m.front front_represented p (times_absent p m.front (omega (arith, there, once p, times_append p m.front back)))) (back_represented, back_right) in
+    let front_then = f.consistent m.front (front_represented, front_right) in
     let back_now = f2.consistent back (rw f.links back_then) in
     let front_now = others_consistent n _ _ _ _ m.front f2.join
-    (λ p there. f2.others back (rw f.links back_shown) p (times_absent p back (omega (arith, there, once p, times_append p m.front back)))) front_then in
+    (λ p there. f2.others back (rw f.links back_represented) p (times_absent p back (omega (arith, there, once p, times_append p m.front back)))) front_then in
     let mid = c.refresh-2.new.summed in
-    let still : DoesSummed g.L.LinkOps.Does n g.L.LinkOps.table g.M.Sums.sums g.M.Sums.Covers mid mid []
+    let still : TraceSummed g.L.LinkOps.Trace n g.L.LinkOps.table g.M.Sums.sums g.M.Sums.Covers mid mid []
     = record {
       links = g.met.L.LinkOps.does_nothing mid.links;
       right = right_still n (g.L.LinkOps.table mid.links) (g.M.Sums.sums mid.sums);
@@ -112,7 +110,7 @@ returns g c =
     } in
     let put = c.append.ensures.appended gap (rw (f2.links, f.links) (record { front = s.keeps; back = s.hands_out; distinct = whole })) in
     record {
-      ready = ready_behind kept (c.append.ensures.quiet _ [] still) (rw (f2.links, f.links) (ap (λ (x : Extent). x.places) s.frame.extent ∙ q.covers))
-          (λ p covered. f2.covers p (f.covers p (e.no_step.covers p (q.room p (subst (λ (x : Extent). index_of p < x.places) s.frame.extent (rw (f2.links, f.links) at covered))))))
+      ready = ready_behind kept (c.append.ensures.keeps_links _ [] still) (rw (f2.links, f.links) (ap (λ (x : Extent). x.places) s.frame.extent ∙ q.covers))
+          (λ p covered. f2.covers p (f.covers p (e.trace_stays.covers p (q.room p (subst (λ (x : Extent). index_of p < x.places) s.frame.extent (rw (f2.links, f.links) at covered))))))
           put.frame.extent (join gap) (join gap) (both_right n (g.L.LinkOps.table mid.links) (g.M.Sums.sums mid.sums) m.front back (rw f2.links front_now.1) back_now.1) put.shows (λ p there. inr there);
     }

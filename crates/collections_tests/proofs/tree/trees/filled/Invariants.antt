@@ -1,6 +1,6 @@
-use Rattle.ic_rbtree.specs.PlainTrees.{PlainShowsSome}
+use Rattle.ic_rbtree.specs.PlainTrees.{PlainRepresentsSome}
 use Rattle.ic_rbtree.specs.Tree.{root_of}
 use Rattle.collections_tests.proofs.tree.trees.filled.Given as goal
 
 abbrev pub invariant-loop-index : goal.invariant-loop-index
-invariant-loop-index l = record { shown : PlainShowsSome l.links (root_of l.tree) }
+invariant-loop-index l = record { shown : PlainRepresentsSome l.links (root_of l.tree) }

@@ -1,6 +1,5 @@
 use Rattle.std.proofs.Common.{◌≡◌, ◌≢◌, ◌∙◌, [], ◌∷◌, true, sym, ap, arith, rules, subst}
-use Rattle.ic_unsafe_ref.specs.Places.{index_of}
-use Rattle.ic_unsafe_ref.specs.declared.place.Place.{Place}
+use Rattle.ic_link_ops.specs.Prelude.{Place, index_of}
 use Rattle.ic_augmented.specs.Counts.{counts}
 use Rattle.collections_tests.proofs.Ready.{on_ok}
 use Rattle.collections_tests.proofs.TwoTrees.{nothing_there, nothing_right, alone, within_itself, beside_stays}

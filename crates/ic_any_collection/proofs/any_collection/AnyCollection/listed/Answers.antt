@@ -1,4 +1,4 @@
-use Rattle.ic_any_collection.specs.AnyTables.{look}
+use Rattle.ic_any_collection.specs.AnyTables.{table_in}
 use Rattle.ic_any_collection.proofs.AllKinds.{distinct}
 use Rattle.ic_any_collection.proofs.Reading.{gap_at, walks_next, walks_fewer}
 use Rattle.ic_any_collection.proofs.any_collection.AnyCollection.listed.Goals as goal
@@ -9,7 +9,7 @@ behind-current-requires-clause-member g c = gap_at (rw c.in-Some.is at c.loop-cu
 pub loop-current-smaller : goal.loop-current-smaller
 loop-current-smaller g c =
     let was = rw c.in-Some.is at c.loop-current.invariant.walks in
-    rw c.in-Some.is (walks_fewer (distinct (look c.args.links.now) c.args.self.now _ c.requires.held.shown) was (walks_next was c.behind-current.ensures))
+    rw c.in-Some.is (walks_fewer (distinct (table_in c.args.links.now) c.args.self.now _ c.requires.held.shown) was (walks_next was c.behind-current.ensures))
 
 pub loop-current-preserved : goal.loop-current-preserved
 loop-current-preserved g c =

@@ -1,12 +1,12 @@
 use Rattle.std.proofs.Common.{length}
-use Rattle.ic_any_collection.specs.AnyTables.{look}
+use Rattle.ic_any_collection.specs.AnyTables.{table_in}
 use Rattle.ic_any_collection.specs.AnyCollection.{members_in}
 use Rattle.ic_any_collection.proofs.Reading.{Walks, from}
 use Rattle.ic_any_collection.proofs.any_collection.AnyCollection.listed.Given as goal
 
--- the places so far are those of the members in front of `current`
+-- the places so far are those of the members before `current`
 abbrev pub invariant-loop-current : goal.invariant-loop-current
-invariant-loop-current g l = record { walks : Walks (members_in (look l.fn.links) l.fn.self) l.places.items l.prev l.current }
+invariant-loop-current g l = record { walks : Walks (members_in (table_in l.fn.links) l.fn.self) l.places.items l.prev l.current }
 
 abbrev pub decreases-loop-current : goal.decreases-loop-current
-decreases-loop-current g l = length (from l.current (members_in (look l.fn.links) l.fn.self))
+decreases-loop-current g l = length (from l.current (members_in (table_in l.fn.links) l.fn.self))

@@ -1,38 +1,39 @@
-use Rattle.std.proofs.Common.{refl}
-use Rattle.ic_any_collection.proofs.Standing.{stands_plainly, knows, gap_after_cursor}
-use Rattle.ic_any_collection.proofs.Moving.{singly_turned, doubly_turned, xor_turned, tree_turned, goes_on}
+use Rattle.ic_any_collection.proofs.Made.{singly_made, doubly_made, xor_made, tree_made}
+use Rattle.ic_any_collection.proofs.Editing.{at_cursor, goes_on}
 use Rattle.ic_any_collection.proofs.any_collection.AnyCollection.move_next.Goals as goal
 
 pub next_of-requires : goal.next_of-requires
-next_of-requires g c = let held = rw (c.in-Singly.is) at c.requires.held in record { stands = stands_plainly _ held.shown held.stands }
+next_of-requires g c = record { stands = at_cursor singly_made (rw c.in-Singly.is at c.requires.held) }
 
 pub returns-in-Singly-clause-moved : goal.returns-in-Singly-clause-moved
 returns-in-Singly-clause-moved g c =
-    let held = rw (c.in-Singly.is) at c.requires.held in
+    let held = rw c.in-Singly.is at c.requires.held in
     let e = c.next_of.ensures in
-    rw (c.in-Singly.is, c.moved_to.ensures.moved) (goes_on e.moved (singly_turned e.moved.stands) refl held (gap_after_cursor _ held))
+    rw (c.in-Singly.is, c.moved_to.ensures.moved) (goes_on singly_made e.moved e.kept held)
 
-pub next_of-requires-in-WithPrev : goal.next_of-requires-in-WithPrev
-next_of-requires-in-WithPrev g c = let held = rw (c.in-Doubly.is, c.in-WithPrev.is) at c.requires.held in record { stands = stands_plainly _ held.shown held.stands }
+pub next_of-requires-in-Doubly : goal.next_of-requires-in-Doubly
+next_of-requires-in-Doubly g c = record { stands = at_cursor doubly_made (rw (c.in-Doubly.is, c.with_prev.ensures) at c.requires.held) }
 
-pub returns-in-WithPrev-clause-moved : goal.returns-in-WithPrev-clause-moved
-returns-in-WithPrev-clause-moved g c =
-    let held = rw (c.in-Doubly.is, c.in-WithPrev.is) at c.requires.held in
-    let e = c.next_of-in-WithPrev.ensures in
-    rw (c.in-Doubly.is, c.in-WithPrev.is, c.moved_to-in-WithPrev.ensures.moved) (goes_on e.moved (doubly_turned e.moved.stands) refl held (gap_after_cursor _ held))
+pub returns-in-Doubly-clause-moved : goal.returns-in-Doubly-clause-moved
+returns-in-Doubly-clause-moved g c =
+    let held = rw (c.in-Doubly.is, c.with_prev.ensures) at c.requires.held in
+    let e = c.next_of-in-Doubly.ensures in
+    rw (c.in-Doubly.is, c.with_prev.ensures, c.moved_to-in-Doubly.ensures.moved) (goes_on doubly_made e.moved e.kept held)
 
 pub next_of-requires-in-Xor : goal.next_of-requires-in-Xor
-next_of-requires-in-Xor g c = let held = rw (c.in-Xor.is) at c.requires.held in record { stands = knows _ held.shown held.stands }
+next_of-requires-in-Xor g c = record { stands = at_cursor xor_made (rw c.in-Xor.is at c.requires.held) }
 
 pub returns-in-Xor-clause-moved : goal.returns-in-Xor-clause-moved
 returns-in-Xor-clause-moved g c =
-    let held = rw (c.in-Xor.is) at c.requires.held in
+    let held = rw c.in-Xor.is at c.requires.held in
     let e = c.next_of-in-Xor.ensures in
-    rw (c.in-Xor.is, c.moved_to-in-Xor.ensures.moved) (goes_on e.moved (xor_turned e.kept) refl held (gap_after_cursor _ held))
+    rw (c.in-Xor.is, c.moved_to-in-Xor.ensures.moved) (goes_on xor_made e.moved e.kept held)
 
-pub returns-in-WithPrev-Tree-clause-moved : goal.returns-in-WithPrev-Tree-clause-moved
-returns-in-WithPrev-Tree-clause-moved g c =
-    let inner = rw c.in-WithPrev-Tree.is at c.in-WithPrev-Tree.field-0-is in
-    let held = rw (c.in-Tree.is, c.in-WithPrev-Tree.is, inner) at c.requires.held in
-    let e = c.next_of-in-WithPrev-Tree.ensures in
-    rw (c.in-Tree.is, c.in-WithPrev-Tree.is, inner, c.moved_to-in-WithPrev-Tree.ensures.moved) (goes_on e.moved (tree_turned e.moved.stands) refl held (gap_after_cursor _ held))
+pub returns-in-Tree-clause-moved : goal.returns-in-Tree-clause-moved
+returns-in-Tree-clause-moved g c =
+    let held = rw (c.in-Tree.is, c.tree.ensures) at c.requires.held in
+    let e = c.next_of-in-Tree.ensures in
+    rw (c.in-Tree.is, c.tree.ensures, c.moved_to-in-Tree.ensures.moved) (goes_on tree_made e.moved e.moved.stands held)
+
+pub next_of-requires-in-Tree : goal.next_of-requires-in-Tree
+next_of-requires-in-Tree g c = record { stands = at_cursor tree_made {links = c.tree.result.now} (rw (c.in-Tree.is, c.tree.ensures) at c.requires.held) }

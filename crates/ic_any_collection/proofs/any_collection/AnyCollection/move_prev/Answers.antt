@@ -1,29 +1,30 @@
-use Rattle.std.proofs.Common.{refl}
-use Rattle.ic_any_collection.proofs.Standing.{stands_plainly, knows, gap_before_cursor}
-use Rattle.ic_any_collection.proofs.Moving.{doubly_turned, xor_turned, tree_turned, goes_back}
+use Rattle.ic_any_collection.proofs.Made.{doubly_made, xor_made, tree_made}
+use Rattle.ic_any_collection.proofs.Editing.{at_cursor, goes_back}
 use Rattle.ic_any_collection.proofs.any_collection.AnyCollection.move_prev.Goals as goal
 
 pub prev_of-requires : goal.prev_of-requires
-prev_of-requires g c = let held = rw (c.in-Doubly.is, c.in-WithPrev.is) at c.requires.held in record { stands = stands_plainly _ held.shown held.stands }
+prev_of-requires g c = record { stands = at_cursor doubly_made (rw (c.in-Doubly.is, c.with_prev.ensures) at c.requires.held) }
 
-pub returns-in-WithPrev-clause-moved : goal.returns-in-WithPrev-clause-moved
-returns-in-WithPrev-clause-moved g c =
-    let held = rw (c.in-Doubly.is, c.in-WithPrev.is) at c.requires.held in
+pub returns-in-Doubly-clause-moved : goal.returns-in-Doubly-clause-moved
+returns-in-Doubly-clause-moved g c =
+    let held = rw (c.in-Doubly.is, c.with_prev.ensures) at c.requires.held in
     let e = c.prev_of.ensures in
-    rw (c.in-Doubly.is, c.in-WithPrev.is, c.moved_to.ensures.moved) (goes_back e.moved (doubly_turned e.moved.stands) refl held (gap_before_cursor _ held))
+    rw (c.in-Doubly.is, c.with_prev.ensures, c.moved_to.ensures.moved) (goes_back doubly_made e.moved e.kept held)
 
 pub prev_of-requires-in-Xor : goal.prev_of-requires-in-Xor
-prev_of-requires-in-Xor g c = let held = rw (c.in-Xor.is) at c.requires.held in record { stands = knows _ held.shown held.stands }
+prev_of-requires-in-Xor g c = record { stands = at_cursor xor_made (rw c.in-Xor.is at c.requires.held) }
 
 pub returns-in-Xor-clause-moved : goal.returns-in-Xor-clause-moved
 returns-in-Xor-clause-moved g c =
-    let held = rw (c.in-Xor.is) at c.requires.held in
+    let held = rw c.in-Xor.is at c.requires.held in
     let e = c.prev_of-in-Xor.ensures in
-    rw (c.in-Xor.is, c.moved_to-in-Xor.ensures.moved) (goes_back e.moved (xor_turned e.kept) refl held (gap_before_cursor _ held))
+    rw (c.in-Xor.is, c.moved_to-in-Xor.ensures.moved) (goes_back xor_made e.moved e.kept held)
 
-pub returns-in-WithPrev-Tree-clause-moved : goal.returns-in-WithPrev-Tree-clause-moved
-returns-in-WithPrev-Tree-clause-moved g c =
-    let inner = rw c.in-WithPrev-Tree.is at c.in-WithPrev-Tree.field-0-is in
-    let held = rw (c.in-Tree.is, c.in-WithPrev-Tree.is, inner) at c.requires.held in
-    let e = c.prev_of-in-WithPrev-Tree.ensures in
-    rw (c.in-Tree.is, c.in-WithPrev-Tree.is, inner, c.moved_to-in-WithPrev-Tree.ensures.moved) (goes_back e.moved (tree_turned e.moved.stands) refl held (gap_before_cursor _ held))
+pub returns-in-Tree-clause-moved : goal.returns-in-Tree-clause-moved
+returns-in-Tree-clause-moved g c =
+    let held = rw (c.in-Tree.is, c.tree.ensures) at c.requires.held in
+    let e = c.prev_of-in-Tree.ensures in
+    rw (c.in-Tree.is, c.tree.ensures, c.moved_to-in-Tree.ensures.moved) (goes_back tree_made e.moved e.moved.stands held)
+
+pub prev_of-requires-in-Tree : goal.prev_of-requires-in-Tree
+prev_of-requires-in-Tree g c = record { stands = at_cursor tree_made {links = c.tree.result.now} (rw (c.in-Tree.is, c.tree.ensures) at c.requires.held) }

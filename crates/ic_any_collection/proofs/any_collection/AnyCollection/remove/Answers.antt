@@ -1,33 +1,37 @@
-use Rattle.ic_any_collection.proofs.Standing.{stands_plainly, knows, gap_before_cursor}
-use Rattle.ic_any_collection.proofs.Moving.{doubly_turned, xor_turned, tree_turned}
-use Rattle.ic_any_collection.proofs.Editing.{takes, nothing_taken}
+use Rattle.std.proofs.Common.{refl}
+use Rattle.ic_any_collection.proofs.Made.{singly_made, doubly_made, xor_made, tree_made}
+use Rattle.ic_any_collection.proofs.Parting.{at_null}
+use Rattle.ic_any_collection.proofs.InGaps.{removes_there}
+use Rattle.ic_any_collection.proofs.Editing.{at_start, at_cursor, removed_before, removes}
 use Rattle.ic_any_collection.proofs.any_collection.AnyCollection.remove.Goals as goal
 
+pub remove_after-requires-clause-stands : goal.remove_after-requires-clause-stands
+remove_after-requires-clause-stands g c = at_start singly_made _ c.args.gap (rw c.in-Singly.is at c.requires.held) (λ s. at_null refl)
+
+pub returns-in-Singly : goal.returns-in-Singly
+returns-in-Singly g c =
+    let held = rw c.in-Singly.is at c.requires.held in rw c.in-Singly.is (removes singly_made c.remove_after.ensures held)
+
+pub remove-requires-clause-stands : goal.remove-requires-clause-stands
+remove-requires-clause-stands g c = at_cursor doubly_made (rw (c.in-Doubly.is, c.with_prev_mut.ensures.inner) at c.requires.held)
+
+pub returns-in-Doubly : goal.returns-in-Doubly
+returns-in-Doubly g c =
+    let held = rw (c.in-Doubly.is, c.with_prev_mut.ensures.inner) at c.requires.held in
+    rw (c.in-Doubly.is, c.with_prev_mut.ensures.inner) (removes doubly_made c.remove.ensures held)
+
+pub remove-requires-in-Xor-clause-stands : goal.remove-requires-in-Xor-clause-stands
+remove-requires-in-Xor-clause-stands g c = at_cursor xor_made (rw c.in-Xor.is at c.requires.held)
+
+pub returns-in-Xor : goal.returns-in-Xor
+returns-in-Xor g c = let held = rw c.in-Xor.is at c.requires.held in rw c.in-Xor.is (removes xor_made c.remove-in-Xor.ensures held)
+
+pub returns-in-Tree : goal.returns-in-Tree
+returns-in-Tree g c =
+    let held = rw (c.in-Tree.is, c.tree_mut.ensures.inner) at c.requires.held in
+    let gap = removed_before c.args.gap (rw c.in-Tree.is at c.requires.can) in
+    let e = c.remove_at.ensures in
+    rw (c.in-Tree.is, c.tree_mut.ensures.inner) (removes tree_made (removes_there gap e.removed e.removed.stands) held)
+
 pub remove_at-requires : goal.remove_at-requires
-remove_at-requires g c = let held = rw (c.in-Doubly.is, c.in-WithPrev.is) at c.requires.held in record { stands = stands_plainly _ held.shown held.stands }
-
-pub remove_at-requires-in-Xor : goal.remove_at-requires-in-Xor
-remove_at-requires-in-Xor g c =
-    let held = rw c.in-Xor.is at c.requires.held in record { stands = knows _ held.shown held.stands }
-
-pub returns-in-WithPrev-clause-taken : goal.returns-in-WithPrev-clause-taken
-returns-in-WithPrev-clause-taken g c =
-    let held = rw (c.in-Doubly.is, c.in-WithPrev.is) at c.requires.held in
-    let e = c.remove_at.ensures.removed in
-    rw (c.in-Doubly.is, c.in-WithPrev.is) (takes e (doubly_turned e.stands) held (gap_before_cursor _ held))
-
-pub returns-in-Xor-clause-taken : goal.returns-in-Xor-clause-taken
-returns-in-Xor-clause-taken g c =
-    let held = rw c.in-Xor.is at c.requires.held in
-    let e = c.remove_at-in-Xor.ensures in
-    rw c.in-Xor.is (takes e.removed (xor_turned e.kept.stands) held (gap_before_cursor _ held))
-
-pub returns-in-WithPrev-Tree-clause-taken : goal.returns-in-WithPrev-Tree-clause-taken
-returns-in-WithPrev-Tree-clause-taken g c =
-    let held = rw (c.in-Tree.is, c.in-WithPrev-Tree.is, c.in-WithPrev-Tree.field-0-is) at c.requires.held in
-    let e = c.remove_at-in-WithPrev-Tree.ensures in
-    rw (c.in-Tree.is, c.in-WithPrev-Tree.is, c.in-WithPrev-Tree.field-0-is)
-    (takes e.removed (tree_turned e.removed.stands) held (gap_before_cursor _ held))
-
-pub returns-in-Xor-clause-null : goal.returns-in-Xor-clause-null
-returns-in-Xor-clause-null g c = rw c.in-Xor.is (nothing_taken _ _ _ _ c.remove_at-in-Xor.ensures.removed)
+remove_at-requires g c = record { stands = at_cursor tree_made {links = c.tree_mut.result.now} (rw (c.in-Tree.is, c.tree_mut.ensures.inner) at c.requires.held) }

@@ -1,5 +1,5 @@
 use Rattle.std.proofs.Common.{refl}
-use Rattle.ic_any_collection.specs.AnyTables.{look}
+use Rattle.ic_any_collection.specs.AnyTables.{table_in}
 use Rattle.ic_any_collection.specs.TablesWithPrev as with_prev
 use Rattle.ic_any_collection.proofs.Standing.{stands_plainly, gap_after_cursor, knows, known}
 use Rattle.ic_any_collection.proofs.Parting.{parts, singly_list, doubly_list, xor_list, at_null, at_end, xor_null}
@@ -13,17 +13,17 @@ returns-in-Singly g c =
     let held = rw (c.in-Singly.is) at c.requires.held in
     let at = gap_after_cursor _ held in
     let e = c.split_after_at.ensures in
-    rw (c.in-Singly.is) (at.0, at.1, (at.2, parts singly_list look held at.0 at.1 at.2 e.split (λ here shown. at_end at.0 here) c.null.ensures.null (at_null c.null.ensures.null)))
+    rw (c.in-Singly.is) (at.0, at.1, (at.2, parts singly_list table_in held at.0 at.1 at.2 e.split (λ here shown. at_end at.0 here) c.null.ensures.null (at_null c.null.ensures.null)))
 
-pub split_after_at-requires-in-WithPrev : goal.split_after_at-requires-in-WithPrev
-split_after_at-requires-in-WithPrev g c = let held = rw (c.in-Doubly.is, c.in-WithPrev.is) at c.requires.held in record { stands = stands_plainly _ held.shown held.stands }
+pub split_after_at-requires-in-Doubly : goal.split_after_at-requires-in-Doubly
+split_after_at-requires-in-Doubly g c = let held = rw (c.in-Doubly.is, c.with_prev_mut.ensures.inner) at c.requires.held in record { stands = stands_plainly _ held.shown held.stands }
 
-pub returns-in-WithPrev : goal.returns-in-WithPrev
-returns-in-WithPrev g c =
-    let held = rw (c.in-Doubly.is, c.in-WithPrev.is) at c.requires.held in
+pub returns-in-Doubly : goal.returns-in-Doubly
+returns-in-Doubly g c =
+    let held = rw (c.in-Doubly.is, c.with_prev_mut.ensures.inner) at c.requires.held in
     let at = gap_after_cursor _ held in
-    let e = c.split_after_at-in-WithPrev.ensures in
-    rw (c.in-Doubly.is, c.in-WithPrev.is) (at.0, at.1, (at.2, parts doubly_list with_prev.look held at.0 at.1 at.2 e.split (λ here shown. at_end at.0 here) c.null-in-WithPrev.ensures.null (at_null c.null-in-WithPrev.ensures.null)))
+    let e = c.split_after_at-in-Doubly.ensures in
+    rw (c.in-Doubly.is, c.with_prev_mut.ensures.inner) (at.0, at.1, (at.2, parts doubly_list with_prev.table_in held at.0 at.1 at.2 e.split (λ here shown. at_end at.0 here) c.null-in-Doubly.ensures.null (at_null c.null-in-Doubly.ensures.null)))
 
 pub split_after_at-requires-in-Xor : goal.split_after_at-requires-in-Xor
 split_after_at-requires-in-Xor g c = let held = rw (c.in-Xor.is) at c.requires.held in record { stands = knows _ held.shown held.stands }
@@ -33,4 +33,4 @@ returns-in-Xor g c =
     let held = rw (c.in-Xor.is) at c.requires.held in
     let at = gap_after_cursor _ held in
     let e = c.split_after_at-in-Xor.ensures in
-    rw (c.in-Xor.is) (at.0, at.1, (at.2, parts xor_list look held at.0 at.1 at.2 e.split (λ here shown. known _ shown e.kept.stands) (rw c.null-in-Xor.ensures.null refl) (xor_null _ c.null-in-Xor.ensures.null)))
+    rw (c.in-Xor.is) (at.0, at.1, (at.2, parts xor_list table_in held at.0 at.1 at.2 e.split (λ here shown. known _ shown e.kept.stands) (rw c.null-in-Xor.ensures.null refl) (xor_null _ c.null-in-Xor.ensures.null)))

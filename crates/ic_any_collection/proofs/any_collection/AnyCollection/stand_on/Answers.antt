@@ -1,29 +1,47 @@
-use Rattle.std.proofs.Common.{refl, ◌∙◌}
-use Rattle.ic_link_ops.proofs.Positions.{stands_by_gap}
-use Rattle.ic_any_collection.specs.AnyTables.{look}
-use Rattle.ic_any_collection.proofs.Moving.{singly_turned, doubly_turned, xor_turned, tree_turned, moves}
+use Rattle.std.proofs.Common.{◌≡◌, ◌∙◌, Option, Some, List, refl, subst}
+use Rattle.ic_link_ops.specs.Prelude.{Place, Cut, join, IsBefore}
+use Rattle.ic_any_collection.specs.AnyTables.{table_in}
+use Rattle.ic_any_collection.specs.AnyCollection.{IsAt}
+use Rattle.ic_any_collection.proofs.Standing.{known}
+use Rattle.ic_any_collection.proofs.Parting.{at_before}
 use Rattle.ic_any_collection.proofs.any_collection.AnyCollection.stand_on.Goals as goal
+
+-- a position on a member is one of the sequence
+on_member : {s : List Place} {position : Option Place} {p : Place} (gap : Cut) → join gap ≡ s → IsBefore gap (Some p) → position ≡ Some p → IsAt s position
+on_member {position = position} gap same before is = subst (λ s. IsAt s position) same (at_before gap (is ∙ before))
 
 pub returns-in-Singly : goal.returns-in-Singly
 returns-in-Singly g c =
     let held = rw c.in-Singly.is at c.requires.held in
     let gap = rw c.in-Singly.is at c.requires.member in
-    let is = c.of.ensures in
-    rw c.in-Singly.is (moves (singly_turned {table = λ t. t} {new = look c.args.links.now} (stands_by_gap gap.0 (rw gap.1 held.shown) (is ∙ gap.2.0))) refl held is)
+    let is = c.of-there.ensures in
+    rw c.in-Singly.is (record {
+      kept = record { carried = held.carried; shown = held.shown; stands = on_member gap.0 gap.1 gap.2.0 is };
+      alike = refl;
+      cursor_is = is;
+    })
 
 pub returns-in-Doubly : goal.returns-in-Doubly
 returns-in-Doubly g c =
     let held = rw c.in-Doubly.is at c.requires.held in
     let gap = rw c.in-Doubly.is at c.requires.member in
-    let is = c.of-in-Doubly.ensures in
-    rw c.in-Doubly.is (moves (doubly_turned {table = λ t. t} {new = look c.args.links.now} (stands_by_gap gap.0 (rw gap.1 held.shown) (is ∙ gap.2.0))) refl held is)
+    let is = c.of-there.ensures in
+    rw c.in-Doubly.is (record {
+      kept = record { carried = held.carried; shown = held.shown; stands = on_member gap.0 gap.1 gap.2.0 is };
+      alike = refl;
+      cursor_is = is;
+    })
 
 pub returns-in-Tree : goal.returns-in-Tree
 returns-in-Tree g c =
     let held = rw c.in-Tree.is at c.requires.held in
     let gap = rw c.in-Tree.is at c.requires.member in
-    let is = c.of-in-Tree.ensures in
-    rw c.in-Tree.is (moves (tree_turned {table = λ t. t} {new = look c.args.links.now} (stands_by_gap gap.0 (rw gap.1 held.shown) (is ∙ gap.2.0))) refl held is)
+    let is = c.of-there.ensures in
+    rw c.in-Tree.is (record {
+      kept = record { carried = held.carried; shown = held.shown; stands = on_member gap.0 gap.1 gap.2.0 is };
+      alike = refl;
+      cursor_is = is;
+    })
 
 pub position_at-requires : goal.position_at-requires
 position_at-requires g c =
@@ -36,5 +54,12 @@ returns-in-Xor g c =
     let held = rw c.in-Xor.is at c.requires.held in
     let gap = rw c.in-Xor.is at c.requires.member in
     let at = c.position_at.ensures in
-    rw c.in-Xor.is
-    (moves (xor_turned {table = look} {new = c.args.links.now} (at.kept gap.0 (rw gap.1 held.shown) (gap.2.1 refl) gap.2.0)) refl held at.on)
+    rw c.in-Xor.is (record {
+      kept = record {
+        carried = held.carried;
+        shown = held.shown;
+        stands = known {table = table_in} {links = c.args.links.now} _ held.shown (at.kept gap.0 (rw gap.1 held.shown) (gap.2.1 refl) gap.2.0);
+      };
+      alike = refl;
+      cursor_is = at.on;
+    })

@@ -1,7 +1,6 @@
 use Rattle.std.proofs.Common.{[], subst}
-use Rattle.ic_any_collection.specs.AnyTables.{look}
-use Rattle.ic_link_ops.specs.LinkSteps.{Replays, releases_each}
-use Rattle.ic_link_ops.specs.Tables.{KeepsBeside}
+use Rattle.ic_any_collection.specs.AnyTables.{table_in}
+use Rattle.ic_link_ops.specs.Prelude.{ChangesOnlyIn, TraceIs, releases_each}
 use Rattle.ic_any_collection.specs.Entries.{is_linked}
 use Rattle.ic_any_collection.proofs.AllKinds.{lawful, keeps_frame, held_of, one_sequence}
 use Rattle.ic_any_collection.proofs.any_collection.AnyCollection.unlink_all.Goals as goal
@@ -11,11 +10,11 @@ dispose-requires g c = record { held = held_of (lawful c.args.links.now) c.take.
 
 pub returns : goal.returns
 returns g c =
-    let t = look c.args.links.now in
-    let t' = look c.dispose.new.links in
+    let t = table_in c.args.links.now in
+    let t' = table_in c.dispose.new.links in
     let taken = c.take.ensures.whole t _ c.requires.held in
     let same = one_sequence t (lawful c.args.links.now) c.take.result _ taken.shown in
-    let frame = subst (KeepsBeside t t') same c.dispose.ensures.frame in
+    let frame = subst (ChangesOnlyIn t t') same c.dispose.ensures.frame in
     let empty = c.take.ensures.empty t _ c.requires.held in
     record {
       leaves = record {
@@ -24,5 +23,5 @@ returns g c =
         cursor_is = c.take.ensures.empty_null;
         frame = frame;
       };
-      links = subst (λ s. Replays is_linked t t' (releases_each s)) same c.dispose.ensures.released;
+      links = subst (λ s. TraceIs is_linked t t' (releases_each s)) same c.dispose.ensures.released;
     }

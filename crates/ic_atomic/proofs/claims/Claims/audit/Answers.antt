@@ -5,7 +5,7 @@ use Rattle.ic_atomic.specs.declared.claims.Holder.{Holder}
 use Rattle.ic_atomic.specs.Hands.{hand, both_hands}
 use Rattle.ic_atomic.specs.Holders.{holders_of, record_of, AreOneList}
 use Rattle.ic_atomic.proofs.RuleLemmas.{compares}
-use Rattle.ic_atomic.proofs.HolderLemmas.{HasHand, rest_back, first_back, one_back, others_empty, all_back, told, told_whole, none_twice}
+use Rattle.ic_atomic.proofs.HolderLemmas.{HasHand, rest_back, first_back, one_back, others_empty, all_back, reported, told_whole, none_twice}
 use Rattle.ic_atomic.proofs.claims.Claims.audit.Goals as goal
 
 pub load-requires : goal.load-requires
@@ -24,7 +24,7 @@ loop-i-2-preserved g c =
     let in_now : i < length now = omega (arith, in_hs, long) in
     let all : Hand = c.loop-i-2.all.me.0 in
     let first = c.first_of-record-in-loop-i-2 in
-    let seat = c.put_behind-in-loop-i-2.new.seat in
+    let seat = c.put_after-in-loop-i-2.new.seat in
     let new : Holder = record { seat = seat } in
     let empty_here : HasHand claims [] (c.index_mut-in-loop-i-2.result.now) = subst (HasHand claims []) (sym c.index_mut-in-loop-i-2.ensures.value) (was.empty i _ (omega arith) in_hs) in
     record {
@@ -32,8 +32,8 @@ loop-i-2-preserved g c =
       table = first.ensures.seat;
       gathered = first.ensures.rest ∙ rest_back size hs i (get_or hs i c.index_mut-in-loop-i-2.result.now) in_hs all was.gathered;
       done = one_back claims hs now i new in_now was.done (λ d. (
-        c.put_behind-in-loop-i-2.ensures.seat,
-        c.put_behind-in-loop-i-2.ensures.both ∙ (λ j. both_hands (empty_here.1 j) ((first.ensures.first ∙ first_back size hs i d in_hs all was.gathered) j)),
+        c.put_after-in-loop-i-2.ensures.seat,
+        c.put_after-in-loop-i-2.ensures.both ∙ (λ j. both_hands (empty_here.1 j) ((first.ensures.first ∙ first_back size hs i d in_hs all was.gathered) j)),
       ));
       empty = others_empty claims now i (length hs) new was.empty;
     }
@@ -48,7 +48,7 @@ returns-clause-one_list g c =
     let hs : List Holder = c.args.holders.now.items in
     let whole : take c.loop-i.i hs ≡ hs = take_all c.loop-i.i hs (omega (arith, c.loop-i-test.false, c.loop-i.invariant.long)) in
     let gathered : c.loop-i.all.me.0 ≡ hand claims.table.shared.key (map record_of hs) = c.loop-i.invariant.gathered ∙ ap (λ (l : List Holder). hand claims.table.shared.key (map record_of l)) whole in
-    subst (AreOneList claims) (sym (returns-clause-same g c)) (told claims (map record_of hs) c.loop-i.all.me.0 gathered c.load.ensures.2.1)
+    subst (AreOneList claims) (sym (returns-clause-same g c)) (reported claims (map record_of hs) c.loop-i.all.me.0 gathered c.load.ensures.2.1)
 
 pub returns-clause-apart : goal.returns-clause-apart
 returns-clause-apart g c = let all = returns-clause-one_list g c in none_twice all.words (map record_of c.loop-i-2.holders.items) all.others all.one

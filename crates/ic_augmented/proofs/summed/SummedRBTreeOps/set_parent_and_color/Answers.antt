@@ -4,9 +4,9 @@ use Rattle.ic_augmented.specs.MarkLaws.{marks_still}
 use Rattle.ic_augmented.proofs.StepLemmas.{set_beside}
 use Rattle.ic_augmented.proofs.summed.SummedRBTreeOps.set_parent_and_color.Goals as goal
 
-pub returns-clause-no_step : goal.returns-clause-no_step
-returns-clause-no_step g c = record {
-  links = c.set_parent_and_color.ensures.no_step;
+pub returns-clause-trace_stays : goal.returns-clause-trace_stays
+returns-clause-trace_stays g c = record {
+  links = c.set_parent_and_color.ensures.trace_stays;
   right = set_beside g.L.RBTreeOps.node _ _ _ (ap (λ (x : Node). x.left) c.set_parent_and_color.ensures.set) (ap (λ (x : Node). x.right) c.set_parent_and_color.ensures.set) c.set_parent_and_color.ensures.frame;
   marks = marks_still _;
   covers = λ q h. h;

@@ -1,11 +1,10 @@
 use Rattle.std.proofs.Common.{drop, ◌∙◌, sym}
-use Rattle.ic_link_ops.specs.Sequences.{Cut, join, IsBefore}
+use Rattle.ic_link_ops.specs.Prelude.{Cut, join, IsBefore, IsSecondAfter}
 use Rattle.ic_link_ops.specs.Edits.{Removes}
-use Rattle.ic_link_ops.specs.Positions.{IsBehind}
 use Rattle.ic_link_ops.proofs.SequenceLemmas.{first_is}
 use Rattle.ic_link_ops.proofs.Positions.{gap_there, removed_stands}
-use Rattle.ic_link_ops.specs.Chains.{ShowsChain}
-use Rattle.ic_chain.proofs.Standing.{stands, behind_on}
+use Rattle.ic_link_ops.specs.Chains.{RepresentsChain}
+use Rattle.ic_chain.proofs.Standing.{stands, after_on}
 use Rattle.ic_chain.proofs.edits.ChainBidirectional.remove_at.Goals as goal
 use Rattle.ic_chain.proofs.edits.ChainBidirectional.remove_at.Given.{Over}
 
@@ -21,7 +20,7 @@ unlink-requires g c =
         rest,
         whole,
         c.before-before.ensures k.0 k.1 k.2,
-        behind_on g.met.K.ForwardLinks.leads c.behind-behind.ensures k.0.front rest c.in_ok-place.place whole on,
+        after_on g.met.K.ForwardLinks.leads c.behind-behind.ensures k.0.front rest c.in_ok-place.place whole on,
       );
     }
 
@@ -32,30 +31,30 @@ position_at-requires g c =
     let rest = drop 1 k.0.back in
     let whole = rw (first_is k.0.back (sym on ∙ k.2)) at k.1 in
     let before = c.before-before.ensures k.0 k.1 k.2 in
-    let behind = behind_on g.met.K.ForwardLinks.leads c.behind-behind.ensures k.0.front rest c.in_ok-place.place whole on in
+    let behind = after_on g.met.K.ForwardLinks.leads c.behind-behind.ensures k.0.front rest c.in_ok-place.place whole on in
     record { shown = λ reads. (record { front = k.0.front; back = rest }, c.unlink.ensures.removed k.0.front rest whole before behind, before, behind) }
 
--- the member is gone, of whatever sequence was shown
-removes : (g : Over) (c : goal.After-drop-at g) (gap : Cut) → ShowsChain g.K.ForwardLinks.Between g.K.ListKind.kept (g.L.LinkOps.table c.args.links.now) c.args.self.now (join gap)
+-- the member is gone, of whatever sequence was represented
+removes : (g : Over) (c : goal.After-drop-at g) (gap : Cut) → RepresentsChain g.K.ForwardLinks.Between g.K.ListKind.kept (g.L.LinkOps.table c.args.links.now) c.args.self.now (join gap)
     → IsBefore gap (g.K.Position.Position.member c.args.at.now)
-    → Removes (ShowsChain g.K.ForwardLinks.Between g.K.ListKind.kept) (g.L.LinkOps.table c.args.links.now) (g.L.LinkOps.table c.unlink.new.links) c.unlink.new.self gap
+    → Removes (RepresentsChain g.K.ForwardLinks.Between g.K.ListKind.kept) (g.L.LinkOps.table c.args.links.now) (g.L.LinkOps.table c.unlink.new.links) c.unlink.new.self gap
 removes g c gap shown is_before =
     let on = sym c.get.ensures ∙ c.in_ok-place.was in
     let rest = drop 1 gap.back in
     let is = first_is gap.back (sym on ∙ is_before) in
     let whole = rw is at shown in
     let before = c.before-before.ensures gap shown is_before in
-    let behind = behind_on g.met.K.ForwardLinks.leads c.behind-behind.ensures gap.front rest c.in_ok-place.place whole on in record {
+    let behind = after_on g.met.K.ForwardLinks.leads c.behind-behind.ensures gap.front rest c.in_ok-place.place whole on in record {
       shows = c.unlink.ensures.removed gap.front rest whole before behind;
       frame = rw is (c.unlink.ensures.frame gap.front rest whole before behind);
     }
 
--- and what was read behind it stands behind it
-moves : (g : Over) (c : goal.After-drop-at g) (gap : Cut) → ShowsChain g.K.ForwardLinks.Between g.K.ListKind.kept (g.L.LinkOps.table c.args.links.now) c.args.self.now (join gap)
-    → IsBefore gap (g.K.Position.Position.member c.args.at.now) → IsBehind gap c.behind-behind.result
+-- and what was read after it stands after it
+moves : (g : Over) (c : goal.After-drop-at g) (gap : Cut) → RepresentsChain g.K.ForwardLinks.Between g.K.ListKind.kept (g.L.LinkOps.table c.args.links.now) c.args.self.now (join gap)
+    → IsBefore gap (g.K.Position.Position.member c.args.at.now) → IsSecondAfter gap c.behind-behind.result
 moves g c gap shown is_before =
     let on = sym c.get.ensures ∙ c.in_ok-place.was in
-    behind_on g.met.K.ForwardLinks.leads c.behind-behind.ensures gap.front (drop 1 gap.back) c.in_ok-place.place (rw (first_is gap.back (sym on ∙ is_before)) at shown) on
+    after_on g.met.K.ForwardLinks.leads c.behind-behind.ensures gap.front (drop 1 gap.back) c.in_ok-place.place (rw (first_is gap.back (sym on ∙ is_before)) at shown) on
 
 pub returns-clause-removed : goal.returns-clause-removed
 returns-clause-removed g c =

@@ -4,8 +4,8 @@ use Rattle.ic_link_ops.specs.Edits.{Replaces}
 use Rattle.ic_link_ops.proofs.SequenceLemmas.{first_is}
 use Rattle.ic_link_ops.proofs.Positions.{gap_there, replaced_stands}
 use Rattle.ic_cursors.proofs.Placed.{put_there}
-use Rattle.ic_link_ops.specs.Chains.{ShowsChain}
-use Rattle.ic_chain.proofs.Standing.{stands, stands_on_member, behind_on}
+use Rattle.ic_link_ops.specs.Chains.{RepresentsChain}
+use Rattle.ic_chain.proofs.Standing.{stands, stands_on_member, after_on}
 use Rattle.ic_chain.proofs.edits.ChainBidirectional.replace_at.Goals as goal
 use Rattle.ic_chain.proofs.edits.ChainBidirectional.replace_at.Given.{Over}
 
@@ -15,19 +15,19 @@ replace-requires-clause-shown g c =
     let on = sym c.get.ensures ∙ c.in-Some.is in
     let rest = drop 1 k.0.back in
     let whole = rw (first_is k.0.back (sym on ∙ k.2)) at k.1 in
-    (k.0.front, rest, whole, c.before-before.ensures k.0 k.1 k.2, behind_on g.met.K.ForwardLinks.leads c.behind-behind.ensures k.0.front rest c.in-Some.out whole on)
+    (k.0.front, rest, whole, c.before-before.ensures k.0 k.1 k.2, after_on g.met.K.ForwardLinks.leads c.behind-behind.ensures k.0.front rest c.in-Some.out whole on)
 
--- the object stands in the member's place, in whatever sequence was shown
-replaces : (g : Over) (c : goal.After-drop-at g) (gap : Cut) → ShowsChain g.K.ForwardLinks.Between g.K.ListKind.kept (g.L.LinkOps.table c.args.links.now) c.args.self.now (join gap)
+-- the object stands in the member's place, in whatever sequence was represented
+replaces : (g : Over) (c : goal.After-drop-at g) (gap : Cut) → RepresentsChain g.K.ForwardLinks.Between g.K.ListKind.kept (g.L.LinkOps.table c.args.links.now) c.args.self.now (join gap)
     → IsBefore gap (g.K.Position.Position.member c.args.at.now)
-    → Replaces (ShowsChain g.K.ForwardLinks.Between g.K.ListKind.kept) (g.L.LinkOps.table c.args.links.now) (g.L.LinkOps.table c.replace.new.links) c.replace.new.self gap c.args.object
+    → Replaces (RepresentsChain g.K.ForwardLinks.Between g.K.ListKind.kept) (g.L.LinkOps.table c.args.links.now) (g.L.LinkOps.table c.replace.new.links) c.replace.new.self gap c.args.object
 replaces g c gap shown is_before =
     let on = sym c.get.ensures ∙ c.in-Some.is in
     let rest = drop 1 gap.back in
     let is = first_is gap.back (sym on ∙ is_before) in
     let whole = rw is at shown in
     let before = c.before-before.ensures gap shown is_before in
-    let behind = behind_on g.met.K.ForwardLinks.leads c.behind-behind.ensures gap.front rest c.in-Some.out whole on in
+    let behind = after_on g.met.K.ForwardLinks.leads c.behind-behind.ensures gap.front rest c.in-Some.out whole on in
     let e = c.if-not-replace.ensures in record {
       shows = e.replaced gap.front rest whole before behind;
       frame = rw is (e.frame gap.front rest whole before behind);
@@ -53,6 +53,6 @@ returns-clause-kept g c =
     let rest = drop 1 k.0.back in
     let whole = rw (first_is k.0.back (sym on ∙ k.2)) at k.1 in record {
       stands = stands_on_member k.0.front rest c.args.object (replaces g c k.0 k.1 k.2).shows c.of.ensures.on c.of.ensures.caches
-          (behind_on g.met.K.ForwardLinks.leads c.behind-behind.ensures k.0.front rest c.in-Some.out whole on);
+          (after_on g.met.K.ForwardLinks.leads c.behind-behind.ensures k.0.front rest c.in-Some.out whole on);
       keeps = tt;
     }

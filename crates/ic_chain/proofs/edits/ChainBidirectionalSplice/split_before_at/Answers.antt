@@ -2,9 +2,9 @@ use Rattle.std.proofs.Common.{[], refl, ◌∙◌, sym}
 use Rattle.ic_link_ops.specs.Sequences.{Cut, join, IsBefore}
 use Rattle.ic_link_ops.specs.Edits.{Splits}
 use Rattle.ic_link_ops.proofs.SequenceLemmas.{absent_turned}
-use Rattle.ic_link_ops.proofs.ShownLists.{gap_linked, gap_behind_linked}
-use Rattle.ic_link_ops.proofs.Positions.{gap_there, split_in_front}
-use Rattle.ic_link_ops.specs.Chains.{ShowsChain}
+use Rattle.ic_link_ops.proofs.RepresentedLists.{gap_linked, gap_after_linked}
+use Rattle.ic_link_ops.proofs.Positions.{gap_there, split_before}
+use Rattle.ic_link_ops.specs.Chains.{RepresentsChain}
 use Rattle.ic_link_ops.proofs.Naming.{end_named}
 use Rattle.ic_chain.proofs.Standing.{stands, stays}
 use Rattle.ic_chain.proofs.edits.ChainBidirectionalSplice.split_before_at.Goals as goal
@@ -18,18 +18,18 @@ split_between-rest-requires-clause-before g c q e =
 pub split_between-rest-requires-clause-behind : goal.split_between-rest-requires-clause-behind
 split_between-rest-requires-clause-behind g c names q e =
     let k = gap_there (stands c.requires.stands) in
-    gap_behind_linked g.met.K.ForwardLinks.between_linked k.0.front k.0.back k.1 (sym e ∙ c.get-current.ensures ∙ k.2)
+    gap_after_linked g.met.K.ForwardLinks.between_linked k.0.front k.0.back k.1 (sym e ∙ c.get-current.ensures ∙ k.2)
 
 pub split_between-rest-requires-clause-next : goal.split_between-rest-requires-clause-next
 split_between-rest-requires-clause-next g c =
     let L = g.met.L.LinkOps in
     let k = gap_there (stands c.requires.stands) in
-    end_named _ _ (λ q e. L.covered_has_name _ q (L.linked_is_covered _ q (gap_behind_linked g.met.K.ForwardLinks.between_linked k.0.front k.0.back k.1 (sym e ∙ c.get-current.ensures ∙ k.2))))
+    end_named _ _ (λ q e. L.covered_has_name _ q (L.linked_is_covered _ q (gap_after_linked g.met.K.ForwardLinks.between_linked k.0.front k.0.back k.1 (sym e ∙ c.get-current.ensures ∙ k.2))))
 
--- what is kept and what is handed out, by the gap in front of the position
-splits : (g : Over) (c : goal.After-replace g) (gap : Cut) → ShowsChain g.K.ForwardLinks.Between g.K.ListKind.kept (g.L.LinkOps.table c.args.links.now) c.args.self.now (join gap)
+-- what is kept and what is handed out, by the gap before the position
+splits : (g : Over) (c : goal.After-replace g) (gap : Cut) → RepresentsChain g.K.ForwardLinks.Between g.K.ListKind.kept (g.L.LinkOps.table c.args.links.now) c.args.self.now (join gap)
     → IsBefore gap (g.K.Position.Position.member c.args.at.now)
-    → Splits (ShowsChain g.K.ForwardLinks.Between g.K.ListKind.kept) (g.L.LinkOps.table c.args.links.now) (g.L.LinkOps.table c.split_between-rest.new.links) c.replace.new.dest c.replace.result gap.back gap.front
+    → Splits (RepresentsChain g.K.ForwardLinks.Between g.K.ListKind.kept) (g.L.LinkOps.table c.args.links.now) (g.L.LinkOps.table c.split_between-rest.new.links) c.replace.new.dest c.replace.result gap.back gap.front
 splits g c gap shown before =
     let split = c.split_between-rest.ensures.split gap shown (c.before-before.ensures gap shown before) (c.get-current.ensures ∙ before) in record {
       keeps = rw c.replace.ensures.after split.hands_out;
@@ -40,9 +40,9 @@ splits g c gap shown before =
 pub returns-clause-split : goal.returns-clause-split
 returns-clause-split g c = record {
   split = splits g c;
-  no_step = c.split_between-rest.ensures.no_step;
+  trace_stays = c.split_between-rest.ensures.trace_stays;
   position = refl;
-  stands = split_in_front (stands c.requires.stands) (splits g c) refl;
+  stands = split_before (stands c.requires.stands) (splits g c) refl;
 }
 
 pub returns-clause-kept : goal.returns-clause-kept

@@ -2,9 +2,9 @@ use Rattle.std.proofs.Common.{drop, ◌∙◌, sym}
 use Rattle.ic_link_ops.specs.Sequences.{Cut, join, IsAfter}
 use Rattle.ic_link_ops.specs.Edits.{Removes}
 use Rattle.ic_link_ops.proofs.SequenceLemmas.{first_is}
-use Rattle.ic_link_ops.proofs.ShownLists.{shows_middle}
+use Rattle.ic_link_ops.proofs.RepresentedLists.{represents_middle}
 use Rattle.ic_link_ops.proofs.Positions.{next_removed_stands}
-use Rattle.ic_link_ops.specs.Chains.{ShowsChain}
+use Rattle.ic_link_ops.specs.Chains.{RepresentsChain}
 use Rattle.ic_chain.proofs.Standing.{stands, stands_here, next_is}
 use Rattle.ic_chain.proofs.edits.ChainForwardOnly.remove_next_at.Goals as goal
 use Rattle.ic_chain.proofs.edits.ChainForwardOnly.remove_next_at.Given.{Over}
@@ -13,7 +13,7 @@ pub next-behind-requires : goal.next-behind-requires
 next-behind-requires g c =
     let at = c.requires.stands in
     let whole = rw (first_is at.gap.back (sym c.in_ok-place.was ∙ c.behind.ensures at.gap at.shown at.after)) at at.shown in
-    record { linked = g.met.K.ForwardLinks.between_linked _ _ _ (shows_middle at.gap.front (drop 1 at.gap.back) whole) }
+    record { linked = g.met.K.ForwardLinks.between_linked _ _ _ (represents_middle at.gap.front (drop 1 at.gap.back) whole) }
 
 pub unlink-requires : goal.unlink-requires
 unlink-requires g c =
@@ -23,10 +23,10 @@ unlink-requires g c =
     let before = c.get-current.ensures ∙ at.after in
     record { shown = (at.gap.front, rest, whole, before, next_is g.met.K.ForwardLinks.leads at.gap.front rest whole before c.next-behind.ensures) }
 
--- the member behind is gone, of whatever sequence was shown
-removes : (g : Over) (c : goal.After-drop-at g) (gap : Cut) → ShowsChain g.K.ForwardLinks.Between g.K.ListKind.kept (g.L.LinkOps.table c.args.links.now) c.args.self.now (join gap)
+-- the member after is gone, of whatever sequence was represented
+removes : (g : Over) (c : goal.After-drop-at g) (gap : Cut) → RepresentsChain g.K.ForwardLinks.Between g.K.ListKind.kept (g.L.LinkOps.table c.args.links.now) c.args.self.now (join gap)
     → IsAfter gap (g.K.Position.Position.member c.args.at.now)
-    → Removes (ShowsChain g.K.ForwardLinks.Between g.K.ListKind.kept) (g.L.LinkOps.table c.args.links.now) (g.L.LinkOps.table c.unlink.new.links) c.unlink.new.self gap
+    → Removes (RepresentsChain g.K.ForwardLinks.Between g.K.ListKind.kept) (g.L.LinkOps.table c.args.links.now) (g.L.LinkOps.table c.unlink.new.links) c.unlink.new.self gap
 removes g c gap shown after =
     let rest = drop 1 gap.back in
     let is = first_is gap.back (sym c.in_ok-place.was ∙ c.behind.ensures gap shown after) in

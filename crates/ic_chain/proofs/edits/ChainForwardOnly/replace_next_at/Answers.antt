@@ -2,9 +2,9 @@ use Rattle.std.proofs.Common.{◌∷◌, drop, ◌∙◌, sym, refl}
 use Rattle.ic_link_ops.specs.Sequences.{Cut, join, IsAfter}
 use Rattle.ic_link_ops.specs.Edits.{Replaces}
 use Rattle.ic_link_ops.proofs.SequenceLemmas.{first_is}
-use Rattle.ic_link_ops.proofs.ShownLists.{shows_middle}
+use Rattle.ic_link_ops.proofs.RepresentedLists.{represents_middle}
 use Rattle.ic_link_ops.proofs.Positions.{next_replaced_stands}
-use Rattle.ic_link_ops.specs.Chains.{ShowsChain}
+use Rattle.ic_link_ops.specs.Chains.{RepresentsChain}
 use Rattle.ic_chain.proofs.Standing.{stands, stands_here, next_is}
 use Rattle.ic_chain.proofs.edits.ChainForwardOnly.replace_next_at.Goals as goal
 use Rattle.ic_chain.proofs.edits.ChainForwardOnly.replace_next_at.Given.{Over}
@@ -13,7 +13,7 @@ pub next-behind-requires : goal.next-behind-requires
 next-behind-requires g c =
     let at = c.requires.stands in
     let whole = rw (first_is at.gap.back (sym c.in-Some.is ∙ c.behind-next.ensures at.gap at.shown at.after)) at at.shown in
-    record { linked = g.met.K.ForwardLinks.between_linked _ _ _ (shows_middle at.gap.front (drop 1 at.gap.back) whole) }
+    record { linked = g.met.K.ForwardLinks.between_linked _ _ _ (represents_middle at.gap.front (drop 1 at.gap.back) whole) }
 
 pub replace-requires-clause-shown : goal.replace-requires-clause-shown
 replace-requires-clause-shown g c =
@@ -23,10 +23,10 @@ replace-requires-clause-shown g c =
     let before = c.get-current.ensures ∙ at.after in
     (at.gap.front, rest, whole, before, next_is g.met.K.ForwardLinks.leads at.gap.front rest whole before c.next-behind.ensures)
 
--- the object stands in the following member's place, in whatever sequence was shown
-replaces : (g : Over) (c : goal.After-drop-at g) (gap : Cut) → ShowsChain g.K.ForwardLinks.Between g.K.ListKind.kept (g.L.LinkOps.table c.args.links.now) c.args.self.now (join gap)
+-- the object stands in the following member's place, in whatever sequence was represented
+replaces : (g : Over) (c : goal.After-drop-at g) (gap : Cut) → RepresentsChain g.K.ForwardLinks.Between g.K.ListKind.kept (g.L.LinkOps.table c.args.links.now) c.args.self.now (join gap)
     → IsAfter gap (g.K.Position.Position.member c.args.at.now)
-    → Replaces (ShowsChain g.K.ForwardLinks.Between g.K.ListKind.kept) (g.L.LinkOps.table c.args.links.now) (g.L.LinkOps.table c.replace.new.links) c.replace.new.self gap c.args.object
+    → Replaces (RepresentsChain g.K.ForwardLinks.Between g.K.ListKind.kept) (g.L.LinkOps.table c.args.links.now) (g.L.LinkOps.table c.replace.new.links) c.replace.new.self gap c.args.object
 replaces g c gap shown after =
     let rest = drop 1 gap.back in
     let is = first_is gap.back (sym c.in-Some.is ∙ c.behind-next.ensures gap shown after) in

@@ -1,8 +1,8 @@
 use Rattle.std.proofs.Common.{[], ◌++◌, ◌∙◌, ap, sym}
 use Rattle.std.specs.Option.{option_or}
 use Rattle.ic_link_ops.specs.Sequences.{first}
-use Rattle.ic_link_ops.proofs.ShownLists.{gap_linked, gap_behind_linked, last_linked}
-use Rattle.ic_link_ops.proofs.Positions.{put_behind}
+use Rattle.ic_link_ops.proofs.RepresentedLists.{gap_linked, gap_after_linked, last_linked}
+use Rattle.ic_link_ops.proofs.Positions.{put_after}
 use Rattle.ic_link_ops.proofs.Naming.{end_named}
 use Rattle.ic_chain.proofs.Standing.{first_of_both, stands_here}
 use Rattle.ic_chain.proofs.Walking.{told_some}
@@ -15,11 +15,11 @@ splice_between-requires-clause-before g c q e =
 pub splice_between-requires-clause-behind : goal.splice_between-requires-clause-behind
 splice_between-requires-clause-behind g c names q e =
     let at = c.requires.stands in
-    gap_behind_linked g.met.K.ForwardLinks.between_linked at.gap.front at.gap.back at.shown (sym e ∙ c.behind-behind.ensures at.gap at.shown at.after)
+    gap_after_linked g.met.K.ForwardLinks.between_linked at.gap.front at.gap.back at.shown (sym e ∙ c.behind-behind.ensures at.gap at.shown at.after)
 
 pub splice_between-requires-clause-first : goal.splice_between-requires-clause-first
 splice_between-requires-clause-first g c names q e =
-    let given = c.requires.given in gap_behind_linked g.met.K.ForwardLinks.between_linked [] given.0 given.1 (sym e ∙ given.1.head)
+    let given = c.requires.given in gap_after_linked g.met.K.ForwardLinks.between_linked [] given.0 given.1 (sym e ∙ given.1.head)
 
 pub splice_between-requires-clause-end : goal.splice_between-requires-clause-end
 splice_between-requires-clause-end g c q e =
@@ -29,7 +29,7 @@ pub splice_between-requires-clause-next : goal.splice_between-requires-clause-ne
 splice_between-requires-clause-next g c =
     let L = g.met.L.LinkOps in
     let at = c.requires.stands in
-    end_named _ _ (λ q e. L.covered_has_name _ q (L.linked_is_covered _ q (gap_behind_linked g.met.K.ForwardLinks.between_linked at.gap.front at.gap.back at.shown (sym e ∙ c.behind-behind.ensures at.gap at.shown at.after))))
+    end_named _ _ (λ q e. L.covered_has_name _ q (L.linked_is_covered _ q (gap_after_linked g.met.K.ForwardLinks.between_linked at.gap.front at.gap.back at.shown (sym e ∙ c.behind-behind.ensures at.gap at.shown at.after))))
 
 pub returns-clause-spliced : goal.returns-clause-spliced
 returns-clause-spliced g c =
@@ -37,10 +37,10 @@ returns-clause-spliced g c =
     let stays = c.of.ensures.on ∙ c.get-current.ensures in record {
       spliced = λ gap t shown after given apart.
           e.spliced gap t shown (c.get-current.ensures ∙ after) (c.behind-behind.ensures gap shown after) given (c.last_before-last.ensures t given) apart;
-      no_step = e.no_step;
+      trace_stays = e.trace_stays;
       position = stays;
       stands = λ gap t shown after given apart.
-          put_behind gap t (e.spliced gap t shown (c.get-current.ensures ∙ after) (c.behind-behind.ensures gap shown after) given (c.last_before-last.ensures t given) apart).shows (stays ∙ after);
+          put_after gap t (e.spliced gap t shown (c.get-current.ensures ∙ after) (c.behind-behind.ensures gap shown after) given (c.last_before-last.ensures t given) apart).shows (stays ∙ after);
     }
 
 pub returns-clause-kept : goal.returns-clause-kept

@@ -1,7 +1,7 @@
 use Rattle.std.proofs.Common.{◌∙◌, refl, append-nil, sym}
 use Rattle.ic_link_ops.specs.Sequences.{at_back}
-use Rattle.ic_link_ops.proofs.ShownLists.{gap_linked, gap_behind_linked}
-use Rattle.ic_link_ops.proofs.Positions.{split_behind}
+use Rattle.ic_link_ops.proofs.RepresentedLists.{gap_linked, gap_after_linked}
+use Rattle.ic_link_ops.proofs.Positions.{split_after}
 use Rattle.ic_link_ops.proofs.Naming.{end_named}
 use Rattle.ic_chain.proofs.Standing.{stands, stands_here}
 use Rattle.ic_chain.proofs.edits.ChainSplice.split_after_at.Goals as goal
@@ -13,22 +13,22 @@ split_between-rest-requires-clause-before g c q e =
 pub split_between-rest-requires-clause-behind : goal.split_between-rest-requires-clause-behind
 split_between-rest-requires-clause-behind g c names q e =
     let at = c.requires.stands in
-    gap_behind_linked g.met.K.ForwardLinks.between_linked at.gap.front at.gap.back at.shown (sym e ∙ c.behind-behind.ensures at.gap at.shown at.after)
+    gap_after_linked g.met.K.ForwardLinks.between_linked at.gap.front at.gap.back at.shown (sym e ∙ c.behind-behind.ensures at.gap at.shown at.after)
 
 pub split_between-rest-requires-clause-next : goal.split_between-rest-requires-clause-next
 split_between-rest-requires-clause-next g c =
     let L = g.met.L.LinkOps in
     let at = c.requires.stands in
-    end_named _ _ (λ q e. L.covered_has_name _ q (L.linked_is_covered _ q (gap_behind_linked g.met.K.ForwardLinks.between_linked at.gap.front at.gap.back at.shown (sym e ∙ c.behind-behind.ensures at.gap at.shown at.after))))
+    end_named _ _ (λ q e. L.covered_has_name _ q (L.linked_is_covered _ q (gap_after_linked g.met.K.ForwardLinks.between_linked at.gap.front at.gap.back at.shown (sym e ∙ c.behind-behind.ensures at.gap at.shown at.after))))
 
 pub returns-clause-split : goal.returns-clause-split
 returns-clause-split g c =
     let e = c.split_between-rest.ensures in
     let stays = c.of.ensures.on ∙ c.get-current.ensures in record {
       split = λ gap shown after. e.split gap shown (c.get-current.ensures ∙ after) (c.behind-behind.ensures gap shown after);
-      no_step = e.no_step;
+      trace_stays = e.trace_stays;
       position = stays;
-      stands = split_behind (stands c.requires.stands)
+      stands = split_after (stands c.requires.stands)
           (λ gap shown after. e.split gap shown (c.get-current.ensures ∙ after) (c.behind-behind.ensures gap shown after)) stays;
     }
 

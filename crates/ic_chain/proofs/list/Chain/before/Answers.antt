@@ -1,25 +1,25 @@
 use Rattle.std.proofs.Common.{◌∙◌, sym, ap, drop}
 use Rattle.ic_link_ops.proofs.Positions.{gap_there}
 use Rattle.ic_link_ops.proofs.SequenceLemmas.{first_is}
-use Rattle.ic_link_ops.proofs.ShownLists.{gap_behind_linked, shows_middle}
+use Rattle.ic_link_ops.proofs.RepresentedLists.{gap_after_linked, represents_middle}
 use Rattle.ic_chain.proofs.Standing.{stands, cached_on}
 use Rattle.ic_chain.proofs.list.Chain.before.Goals as goal
 
 pub next_at-behind-requires : goal.next_at-behind-requires
 next_at-behind-requires g c =
     let k = gap_there (stands c.requires) in
-    record { linked = gap_behind_linked g.met.K.ForwardLinks.between_linked k.0.front k.0.back k.1 (sym c.in-Some.is ∙ c.get.ensures ∙ k.2); on = sym c.get.ensures ∙ c.in-Some.is }
+    record { linked = gap_after_linked g.met.K.ForwardLinks.between_linked k.0.front k.0.back k.1 (sym c.in-Some.is ∙ c.get.ensures ∙ k.2); on = sym c.get.ensures ∙ c.in-Some.is }
 
 pub prev-requires : goal.prev-requires
 prev-requires g c =
     let k = gap_there (stands c.requires) in
-    record { linked = gap_behind_linked g.met.K.ForwardLinks.between_linked k.0.front k.0.back k.1 (sym c.in-Some.is ∙ c.get.ensures ∙ k.2) }
+    record { linked = gap_after_linked g.met.K.ForwardLinks.between_linked k.0.front k.0.back k.1 (sym c.in-Some.is ∙ c.get.ensures ∙ k.2) }
 
 pub returns-in-Some : goal.returns-in-Some
 returns-in-Some g c gap shown is_before =
     let on = sym c.get.ensures ∙ c.in-Some.is in
     let rest = drop 1 gap.back in
     let whole = rw (first_is gap.back (sym on ∙ is_before)) at shown in
-    let middle = shows_middle gap.front rest whole in
+    let middle = represents_middle gap.front rest whole in
     let behind = c.next_at-behind.ensures _ _ middle (cached_on g.met.K.ForwardLinks.leads c.requires gap.front rest c.in-Some.place whole on) in
     c.prev.ensures ∙ ap (g.K.BidirectionalLinks.step_back ((g.L.LinkOps.table c.args.links.now).entry c.in-Some.place)) behind ∙ g.met.K.BidirectionalLinks.leads_back _ _ _ middle

@@ -1,7 +1,7 @@
 use Rattle.std.proofs.Common.{◌∙◌, sym}
 use Rattle.ic_link_ops.proofs.SequenceLemmas.{first_of_back}
-use Rattle.ic_link_ops.proofs.ShownLists.{gap_linked, before_gap}
-use Rattle.ic_chain.proofs.Standing.{cached_behind}
+use Rattle.ic_link_ops.proofs.RepresentedLists.{gap_linked, before_gap}
+use Rattle.ic_chain.proofs.Standing.{cached_after}
 use Rattle.ic_chain.proofs.list.Chain.behind.Goals as goal
 
 pub next_at-requires : goal.next_at-requires
@@ -16,4 +16,4 @@ returns-in-None g c gap shown after =
 pub returns-in-Some : goal.returns-in-Some
 returns-in-Some g c gap shown after =
     let on = sym c.get.ensures ∙ c.in-Some.is in
-    c.next_at.ensures _ _ (before_gap gap.front gap.back shown (sym on ∙ after)) (cached_behind g.met.K.ForwardLinks.leads c.requires gap shown after c.in-Some.place on)
+    c.next_at.ensures _ _ (before_gap gap.front gap.back shown (sym on ∙ after)) (cached_after g.met.K.ForwardLinks.leads c.requires gap shown after c.in-Some.place on)

@@ -1,7 +1,5 @@
 use Rattle.std.proofs.Common.{◌≡◌, Option, Some, None, List, [], ◌∷◌, drop, refl, sym, ap, ◌∙◌}
-use Rattle.ic_unsafe_ref.specs.declared.place.Place.{Place}
-use Rattle.ic_link_ops.specs.Sequences.{first, last, IsDistinct}
-use Rattle.ic_link_ops.specs.Tables.{Table}
+use Rattle.ic_link_ops.specs.Prelude.{Place, first, last, IsDistinct, Table}
 use Rattle.ic_link_ops.specs.Walk.{walked}
 use Rattle.ic_link_ops.proofs.Clearing.{Releases, releases_none, releases_more, releases_all, releases_left, releases_fewer, next_between}
 use Rattle.ic_link_ops.proofs.SequenceLemmas.{last_of_push}
@@ -9,7 +7,7 @@ use Rattle.ic_link_ops.proofs.StepLemmas.{releases_append}
 use Rattle.ic_chain.proofs.list.Chain.clear.Goals as goal
 use Rattle.ic_chain.proofs.list.Chain.clear.Given.{Over}
 
--- the one behind the member that is next
+-- the one after the member that is next
 behind : (g : Over) {old new : Table g.row.L-Entry.Denot} {s : List Place} {p : Place} {prev next : Option Place}
     → (k : Releases g.K.ForwardLinks.Between old new s (Some p)) → prev ≡ last k.done → next ≡ g.K.ForwardLinks.step (new.entry p) prev
     → next ≡ first (drop 1 k.rest)

@@ -1,18 +1,16 @@
 use Rattle.std.proofs.Common.{◌≡◌, None, List, length}
-use Rattle.ic_unsafe_ref.specs.declared.place.Place.{Place}
-use Rattle.ic_link_ops.specs.Sequences.{last}
-use Rattle.ic_link_ops.specs.LinkSteps.{releases_each}
+use Rattle.ic_link_ops.specs.Prelude.{Place, last, releases_each}
 use Rattle.ic_link_ops.specs.Walk.{walked}
-use Rattle.ic_link_ops.specs.Chains.{ShowsChain}
+use Rattle.ic_link_ops.specs.Chains.{RepresentsChain}
 use Rattle.ic_link_ops.proofs.Clearing.{Releases}
 use Rattle.ic_chain.proofs.list.Chain.clear.Given as goal
 
 abbrev pub invariant-loop-current : goal.invariant-loop-current
 invariant-loop-current g l = record {
   extent : (g.L.LinkOps.table l.links).extent ≡ (g.L.LinkOps.table l.fn.links).extent;
-  released : (s : List Place) → ShowsChain g.K.ForwardLinks.Between g.K.ListKind.kept (g.L.LinkOps.table l.fn.links) l.fn.self s
+  released : (s : List Place) → RepresentsChain g.K.ForwardLinks.Between g.K.ListKind.kept (g.L.LinkOps.table l.fn.links) l.fn.self s
       → (k : Releases g.K.ForwardLinks.Between (g.L.LinkOps.table l.fn.links) (g.L.LinkOps.table l.links) s l.current)
-      × (l.prev ≡ last k.done) × g.L.LinkOps.Does l.fn.links l.links (releases_each k.done);
+      × (l.prev ≡ last k.done) × g.L.LinkOps.Trace l.fn.links l.links (releases_each k.done);
 }
 
 abbrev pub decreases-loop-current : goal.decreases-loop-current

@@ -1,15 +1,14 @@
 use Rattle.std.proofs.Common.{◌≡◌, None, List, length}
-use Rattle.ic_unsafe_ref.specs.declared.place.Place.{Place}
-use Rattle.ic_link_ops.specs.Sequences.{last}
+use Rattle.ic_link_ops.specs.Prelude.{Place, last}
 use Rattle.ic_link_ops.specs.Walk.{walked}
 use Rattle.ic_link_ops.proofs.Membership.{Seeks}
-use Rattle.ic_link_ops.specs.Chains.{ShowsChain}
+use Rattle.ic_link_ops.specs.Chains.{RepresentsChain}
 use Rattle.ic_chain.proofs.list.Chain.contains.Given as goal
 
--- whichever sequence is shown, the place is no member before `current`, and `prev` stands in front of that
+-- whichever sequence is represented, the place is no member before `current`, and `prev` stands before that
 abbrev pub invariant-loop-current : goal.invariant-loop-current
 invariant-loop-current g l = record {
-  sought : (s : List Place) → ShowsChain g.K.ForwardLinks.Between g.K.ListKind.kept (g.L.LinkOps.table l.fn.links) l.fn.self s
+  sought : (s : List Place) → RepresentsChain g.K.ForwardLinks.Between g.K.ListKind.kept (g.L.LinkOps.table l.fn.links) l.fn.self s
       → (k : Seeks g.K.ForwardLinks.Between (g.L.LinkOps.table l.fn.links) s l.fn.place l.current) × (l.prev ≡ last k.walk.done);
 }
 

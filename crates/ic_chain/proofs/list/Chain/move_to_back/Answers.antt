@@ -1,7 +1,7 @@
 use Rattle.std.proofs.Common.{[], ◌++◌, ◌∷◌, append-nil, refl, sym, ◌∙◌}
 use Rattle.ic_link_ops.proofs.SequenceLemmas.{absent_right, absent_without, distinct_middle, gap_not}
-use Rattle.ic_link_ops.proofs.ShownLists.{last_linked}
-use Rattle.ic_chain.proofs.Standing.{last_kept, one_shown}
+use Rattle.ic_link_ops.proofs.RepresentedLists.{last_linked}
+use Rattle.ic_chain.proofs.Standing.{last_kept, one_represented}
 use Rattle.ic_chain.proofs.list.Chain.move_to_back.Goals as goal
 
 pub detach-requires : goal.detach-requires
@@ -23,8 +23,8 @@ returns-clause-moved g c front back shown =
     (c.last-last.ensures ∙ last_kept g.K.ListKind.kept g.K.ListKind.kept_last g.met.K.DoubleEnded.keeps_both g.met.K.ListKind.tells_last off.tail) refl
     (rw append-nil (distinct_middle front back c.place-place.result whole.distinct)))
 
-pub returns-clause-no_step : goal.returns-clause-no_step
-returns-clause-no_step g c = g.met.L.LinkOps.does_on _ _ _ _ _ c.detach.ensures.no_step c.insert_linked.ensures.no_step
+pub returns-clause-trace_stays : goal.returns-clause-trace_stays
+returns-clause-trace_stays g c = g.met.L.LinkOps.does_on _ _ _ _ _ c.detach.ensures.trace_stays c.insert_linked.ensures.trace_stays
 
 pub returns-clause-frame : goal.returns-clause-frame
 returns-clause-frame g c s shown =
@@ -36,7 +36,7 @@ returns-clause-frame g c s shown =
     record {
       extent = c.insert_linked.ensures.extent ∙ first.extent;
       others = λ q out.
-          let apart = rw (← one_shown g.met.K.ForwardLinks.leads m.shown shown) at out in
+          let apart = rw (← one_represented g.met.K.ForwardLinks.leads m.shown shown) at out in
           let rest = absent_without m.front m.back c.args.object.now q apart in
           c.insert_linked.ensures.others q (gap_not (m.front ++ m.back) [] was_last refl (rw append-nil rest)).0
           (rw c.place-place.ensures (absent_right q m.front (c.args.object.now ∷ m.back) apart).0) (λ _ e. cc)

@@ -1,12 +1,12 @@
 use Rattle.std.proofs.Common.{[], ◌∙◌, refl}
 use Rattle.ic_link_ops.specs.Chains.{list_head}
 use Rattle.ic_link_ops.proofs.SequenceLemmas.{gap_not}
-use Rattle.ic_link_ops.proofs.ShownLists.{shows_split}
+use Rattle.ic_link_ops.proofs.RepresentedLists.{represents_split}
 use Rattle.ic_link_ops.proofs.Naming.{end_named}
 use Rattle.ic_chain.proofs.list.Chain.split_between.Goals as goal
 
 pub set_prev_or_tail-requires-clause-linked : goal.set_prev_or_tail-requires-clause-linked
-set_prev_or_tail-requires-clause-linked g c names q e = g.met.L.LinkOps.does_replay _ _ [] c.set_next_or_head.ensures.no_step q ∙ c.requires.behind names q e
+set_prev_or_tail-requires-clause-linked g c names q e = g.met.L.LinkOps.does_replay _ _ [] c.set_next_or_head.ensures.trace_stays q ∙ c.requires.behind names q e
 
 pub set_prev_or_tail-requires-clause-from : goal.set_prev_or_tail-requires-clause-from
 set_prev_or_tail-requires-clause-from g c =
@@ -15,7 +15,7 @@ set_prev_or_tail-requires-clause-from g c =
 
 pub returns-clause-split : goal.returns-clause-split
 returns-clause-split g c gap shown before behind =
-    let parts = shows_split {t2 = g.L.LinkOps.table c.set_prev_or_tail.new.links} {fronts = list_head c.set_next_or_head.new.head c.keep.result} {backs = list_head c.args.behind c.set_prev_or_tail.new.tail}
+    let parts = represents_split {t2 = g.L.LinkOps.table c.set_prev_or_tail.new.links} {fronts = list_head c.set_next_or_head.new.head c.keep.result} {backs = list_head c.args.behind c.set_prev_or_tail.new.tail}
     gap.front gap.back before behind (rw (← c.self.view_is) at shown) c.set_next_or_head.ensures.turns c.set_prev_or_tail.ensures.turns
     c.set_next_or_head.ensures.head c.keep.ensures refl c.set_prev_or_tail.ensures.tail in
     record {
@@ -29,8 +29,8 @@ returns-clause-split g c gap shown before behind =
       };
     }
 
-pub returns-clause-no_step : goal.returns-clause-no_step
-returns-clause-no_step g c = g.met.L.LinkOps.does_on _ _ _ _ _ c.set_next_or_head.ensures.no_step c.set_prev_or_tail.ensures.no_step
+pub returns-clause-trace_stays : goal.returns-clause-trace_stays
+returns-clause-trace_stays g c = g.met.L.LinkOps.does_on _ _ _ _ _ c.set_next_or_head.ensures.trace_stays c.set_prev_or_tail.ensures.trace_stays
 
 pub returns-clause-ends : goal.returns-clause-ends
 returns-clause-ends g c =

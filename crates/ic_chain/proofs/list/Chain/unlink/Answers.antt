@@ -1,6 +1,6 @@
 use Rattle.std.proofs.Common.{[], ◌∷◌, ◌∙◌, sym}
 use Rattle.ic_link_ops.proofs.SequenceLemmas.{absent_right, beside_not, distinct_middle}
-use Rattle.ic_link_ops.proofs.ShownLists.{shows_middle, shows_beside, gap_linked, next_linked}
+use Rattle.ic_link_ops.proofs.RepresentedLists.{represents_middle, represents_beside, gap_linked, next_linked}
 use Rattle.ic_link_ops.proofs.Naming.{end_named}
 use Rattle.ic_chain.proofs.list.Chain.unlink.Goals as goal
 
@@ -20,20 +20,20 @@ pub bypass-requires-clause-out : goal.bypass-requires-clause-out
 bypass-requires-clause-out g c =
     let L = g.met.L.LinkOps in
     let r = c.requires.shown in
-    L.covered_has_name _ _ (L.linked_is_covered _ _ (g.met.K.ForwardLinks.between_linked _ _ _ (shows_middle r.0 r.1 r.2)))
+    L.covered_has_name _ _ (L.linked_is_covered _ _ (g.met.K.ForwardLinks.between_linked _ _ _ (represents_middle r.0 r.1 r.2)))
 
 pub release_link-requires : goal.release_link-requires
 release_link-requires g c =
     let r = c.requires.shown in
-    record { linked = g.met.L.LinkOps.does_replay _ _ [] c.bypass.ensures.no_step c.args.place ∙ g.met.K.ForwardLinks.between_linked _ _ _ (shows_middle r.0 r.1 r.2) }
+    record { linked = g.met.L.LinkOps.does_replay _ _ [] c.bypass.ensures.trace_stays c.args.place ∙ g.met.K.ForwardLinks.between_linked _ _ _ (represents_middle r.0 r.1 r.2) }
 
 pub returns-clause-removed : goal.returns-clause-removed
 returns-clause-removed g c front back shown before behind =
     let off = c.bypass.ensures.shows front back shown before behind in
-    shows_beside {new = g.L.LinkOps.table c.release_link.new.self} off (distinct_middle front back c.args.place shown.distinct) c.release_link.ensures.frame.others
+    represents_beside {new = g.L.LinkOps.table c.release_link.new.self} off (distinct_middle front back c.args.place shown.distinct) c.release_link.ensures.frame.others
 
 pub returns-clause-released : goal.returns-clause-released
-returns-clause-released g c = g.met.L.LinkOps.does_on _ _ _ _ _ c.bypass.ensures.no_step c.release_link.ensures.released
+returns-clause-released g c = g.met.L.LinkOps.does_on _ _ _ _ _ c.bypass.ensures.trace_stays c.release_link.ensures.released
 
 pub returns-clause-frame : goal.returns-clause-frame
 returns-clause-frame g c front back shown before behind =

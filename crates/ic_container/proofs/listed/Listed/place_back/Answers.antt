@@ -1,4 +1,4 @@
-use Rattle.ic_container.proofs.ListedEnds.{listed_behind, order_behind}
+use Rattle.ic_container.proofs.ListedEnds.{listed_after, order_after}
 use Rattle.ic_container.proofs.ListedLemmas.{listed_grown, listed_off, order_grown}
 use Rattle.ic_container.proofs.listed.Listed.place_back.Goals as goal
 
@@ -17,9 +17,9 @@ push_back-requires-clause-shown g c = (_, (listed_grown c.self.invariant c.place
 pub invariant_of-self-2 : goal.invariant_of-self-2
 invariant_of-self-2 g c =
     let e = c.in-Ok.ensures in
-    listed_behind c.self.invariant c.place.new.self.links e.keeps e.placed c.push_back.new.links c.push_back.new.list (rw c.place-2.ensures at c.push_back.ensures)
+    listed_after c.self.invariant c.place.new.self.links e.keeps e.placed c.push_back.new.links c.push_back.new.list (rw c.place-2.ensures at c.push_back.ensures)
 
 pub returns-clause-back : goal.returns-clause-back
 returns-clause-back g c =
     let e = c.in-Ok.ensures in
-    rw (← c.self.view_is) (order_behind c.self.invariant c.place.new.self.links e.keeps e.placed c.push_back.new.links c.push_back.new.list (rw c.place-2.ensures at c.push_back.ensures))
+    rw (← c.self.view_is) (order_after c.self.invariant c.place.new.self.links e.keeps e.placed c.push_back.new.links c.push_back.new.list (rw c.place-2.ensures at c.push_back.ensures))

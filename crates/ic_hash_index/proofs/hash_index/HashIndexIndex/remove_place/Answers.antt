@@ -1,6 +1,6 @@
 use Rattle.std.proofs.Common.{refl}
 use Rattle.ic_link_ops.proofs.Covering.{still_covered}
-use Rattle.ic_hash_table.proofs.Callers.{held_shown}
+use Rattle.ic_hash_table.proofs.Callers.{held_represented}
 use Rattle.ic_hash_index.proofs.HashLemmas.{hash_freed, on_true, singly_covered}
 use Rattle.ic_hash_index.proofs.hash_index.HashIndexIndex.remove_place.Goals as goal
 
@@ -28,4 +28,4 @@ returns-clause-covered g c =
     let a = c.requires.all in
     let e = rw c.new.ensures at c.remove.ensures in
     let off = on_true c.remove.result e.released ((e.answer a.members a.held).1 (a.all c.args.place c.requires.placed)) in
-    still_covered c.args.place (e.kept.chains.frame a.members (held_shown a.held)) (singly_covered g.W.Words.width g.W.Words.unlinked g.W.Words.is_linked g.met.W.Words.starts_unlinked c.args.links.now c.args.place off.was)
+    still_covered c.args.place (e.kept.chains.frame a.members (held_represented a.held)) (singly_covered g.W.Words.width g.W.Words.unlinked g.W.Words.is_linked g.met.W.Words.starts_unlinked c.args.links.now c.args.place off.was)

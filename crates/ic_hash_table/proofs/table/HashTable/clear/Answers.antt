@@ -14,13 +14,13 @@ loop-at-init g c = record {
   rewrites = g.met.B.BucketRow.rewrites_none c.args.self.now.buckets;
   within = omega arith;
   none = λ j less. absurd (omega (arith, less));
-  each = λ s shown. empties_none g.L.SinglyLinkedListOps.successor g.L.LinkOps.table g.L.LinkOps.Does g.met.L.LinkOps.does_nothing c.args.links.now (g.B.BucketRow.fronts c.args.self.now.buckets) s shown.chained;
+  each = λ s shown. empties_none g.L.SinglyLinkedListOps.successor g.L.LinkOps.table g.L.LinkOps.Trace g.met.L.LinkOps.does_nothing c.args.links.now (g.B.BucketRow.fronts c.args.self.now.buckets) s shown.chained;
 }
 
 pub clear_chain-requires-clause-shown : goal.clear_chain-requires-clause-shown
 clear_chain-requires-clause-shown g c =
     let within : c.loop-at.at < length (g.B.BucketRow.fronts c.loop-at.self.buckets) = omega (arith, c.loop-at-test.true, c.loop-at.invariant.count) in
-    let k = next_chain g.L.SinglyLinkedListOps.successor g.L.LinkOps.table g.L.LinkOps.Does within (c.loop-at.invariant.each c.requires.shown.0 c.requires.shown.1) in
+    let k = next_chain g.L.SinglyLinkedListOps.successor g.L.LinkOps.table g.L.LinkOps.Trace within (c.loop-at.invariant.each c.requires.shown.0 c.requires.shown.1) in
     (k.chain, k.shown)
 
 pub loop-at-preserved : goal.loop-at-preserved
@@ -37,9 +37,9 @@ loop-at-preserved g c =
       none = rw c.clear_chain.ensures.empty (none_below c.loop-at.at (g.B.BucketRow.fronts c.loop-at.self.buckets) within i.none);
       each = λ s shown.
           let k = i.each s shown in
-          let n = next_chain g.L.SinglyLinkedListOps.successor g.L.LinkOps.table g.L.LinkOps.Does within k in
+          let n = next_chain g.L.SinglyLinkedListOps.successor g.L.LinkOps.table g.L.LinkOps.Trace within k in
           rw c.clear_chain.ensures.empty
-          (empties_more g.L.SinglyLinkedListOps.successor g.L.LinkOps.table g.L.LinkOps.Does within k g.met.L.LinkOps.does_on c.clear_chain.new.links i.none shown.distinct
+          (empties_more g.L.SinglyLinkedListOps.successor g.L.LinkOps.table g.L.LinkOps.Trace within k g.met.L.LinkOps.does_on c.clear_chain.new.links i.none shown.distinct
           (c.clear_chain.ensures.released n.chain n.shown) (c.clear_chain.ensures.frame n.chain n.shown));
     }
 

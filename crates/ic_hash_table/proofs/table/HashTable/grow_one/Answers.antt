@@ -5,8 +5,8 @@ use Rattle.ic_hash_table.specs.SideBySide.{same_key}
 use Rattle.ic_hash_table.specs.Growth.{belongs_at, IsParted}
 use Rattle.ic_hash_table.specs.Searches.{matches}
 use Rattle.ic_hash_table.specs.Slots.{split_of}
-use Rattle.ic_link_ops.specs.Tables.{KeepsBeside}
-use Rattle.ic_hash_table.proofs.Callers.{shown_is_held}
+use Rattle.ic_link_ops.specs.Tables.{ChangesOnlyIn}
+use Rattle.ic_hash_table.proofs.Callers.{represented_is_held}
 use Rattle.ic_hash_table.proofs.FoundMembers.{chain_placed}
 use Rattle.ic_hash_table.proofs.GrownTables.{parted_chain, held_grown, beside_grown}
 use Rattle.ic_hash_table.proofs.HeldTables.{frame_taken}
@@ -28,7 +28,7 @@ set_front-requires-clause-kept g c =
     let k = parted_chain g.L.SinglyLinkedListOps.successor (number g.A.HashAdapter.key_of g.A.HashAdapter.hash_of) g.B.BucketRow.fronts c.grown-slots.result c.grown-slots.ensures.splits room held in
     let parted = c.part_chain-stays.ensures.parted k.chain (rw (c.front.ensures, e) k.shown) in
     front_kept g.met.L.SinglyLinkedListOps.linked_alike (λ q l. g.met.B.BucketsFor.keeps_named q (g.met.L.LinkOps.covered_has_name _ q (g.met.L.LinkOps.linked_is_covered _ q l)))
-    c.part_chain-stays.result.0 parted.staying parted.shows_staying
+    c.part_chain-stays.result.0 parted.staying parted.represents_staying
 
 pub set_front-requires-2-clause-kept : goal.set_front-requires-2-clause-kept
 set_front-requires-2-clause-kept g c =
@@ -38,7 +38,7 @@ set_front-requires-2-clause-kept g c =
     let k = parted_chain g.L.SinglyLinkedListOps.successor (number g.A.HashAdapter.key_of g.A.HashAdapter.hash_of) g.B.BucketRow.fronts c.grown-slots.result c.grown-slots.ensures.splits room held in
     let parted = c.part_chain-stays.ensures.parted k.chain (rw (c.front.ensures, e) k.shown) in
     front_kept g.met.L.SinglyLinkedListOps.linked_alike (λ q l. g.met.B.BucketsFor.keeps_named q (g.met.L.LinkOps.covered_has_name _ q (g.met.L.LinkOps.linked_is_covered _ q l)))
-    c.part_chain-stays.result.1 parted.moving parted.shows_moving
+    c.part_chain-stays.result.1 parted.moving parted.represents_moving
 
 pub returns-clause-holds : goal.returns-clause-holds
 returns-clause-holds g c s held =
@@ -77,6 +77,6 @@ returns-clause-kept g c =
     record {
       adapter = refl;
       buckets = keeps_buckets g.met.B.BucketRow.rewrites_count (g.met.B.BucketRow.rewrites_on _ _ _ c.set_front.ensures.rewrites c.set_front-2.ensures.rewrites);
-      frame = λ s shown. subst (KeepsBeside (g.L.LinkOps.table c.args.links.now) (g.L.LinkOps.table c.part_chain-stays.new.links)) (shown_is_held held shown)
+      frame = λ s shown. subst (ChangesOnlyIn (g.L.LinkOps.table c.args.links.now) (g.L.LinkOps.table c.part_chain-stays.new.links)) (represented_is_held held shown)
           (frame_taken k k.shown (c.part_chain-stays.ensures.frame k.chain (rw (c.front.ensures, e) k.shown)));
     }

@@ -1,12 +1,10 @@
 use Rattle.std.proofs.Common.{◌+◌, None, [], ◌∷◌, slice_index_or, refl, sym, ap, subst, ◌∙◌, arith}
 use Rattle.std.proofs.lemmas.List.{get_or-set_same}
-use Rattle.ic_link_ops.specs.Sequences.{insert}
-use Rattle.ic_hash_table.specs.Chains.{ShowsFrom}
-use Rattle.ic_link_ops.specs.LinkSteps.{acquires}
+use Rattle.ic_link_ops.specs.Prelude.{insert, ChangesOnlyIn, acquires}
+use Rattle.ic_hash_table.specs.Chains.{RepresentsFrom}
 use Rattle.ic_link_ops.proofs.Walks.{few_places}
 use Rattle.ic_hash_table.specs.HashTable.{number, BelongsIn}
-use Rattle.ic_link_ops.specs.Tables.{KeepsBeside}
-use Rattle.ic_hash_table.proofs.Callers.{shown_is_held}
+use Rattle.ic_hash_table.proofs.Callers.{represented_is_held}
 use Rattle.ic_hash_table.proofs.Chains.{chains_free, chain_of_list}
 use Rattle.ic_hash_table.proofs.HeldTables.{held_put, frame_at}
 use Rattle.ic_hash_table.proofs.FoundMembers.{chain_of}
@@ -22,7 +20,7 @@ pub set_front-requires-clause-kept : goal.set_front-requires-clause-kept
 set_front-requires-clause-kept g c =
     let k = c.requires.gap in
     let e = rw c.place.ensures at c.if-not-insert_between.ensures in
-    let shown : ShowsFrom g.L.SinglyLinkedListOps.successor (g.L.LinkOps.table c.insert_between.new.links) c.first.result (insert k.0 c.args.object) =
+    let shown : RepresentsFrom g.L.SinglyLinkedListOps.successor (g.L.LinkOps.table c.insert_between.new.links) c.first.result (insert k.0 c.args.object) =
     rw c.first.ensures (chain_of_list (e.inserted k.0 (rw (c.from_front-chain.ensures, c.front.ensures) k.1) k.2 k.3).shows) in
     front_kept g.met.L.SinglyLinkedListOps.linked_alike (λ q l. g.met.B.BucketsFor.keeps_named q (g.met.L.LinkOps.covered_has_name _ q (g.met.L.LinkOps.linked_is_covered _ q l))) c.first.result (insert k.0 c.args.object) shown
 
@@ -49,7 +47,7 @@ returns-clause-shows g c gap was after before =
     let held = c.requires.held.1.1 in
     let is = ap (λ f. slice_index_or f c.args.at None) c.set_front.ensures.fronts
     ∙ get_or-set_same (g.B.BucketRow.fronts c.args.self.now.buckets) c.args.at c.first.result None (omega (arith, c.requires.within, held.enough)) in
-    subst (λ f. ShowsFrom g.L.SinglyLinkedListOps.successor (g.L.LinkOps.table c.insert_between.new.links) f (insert gap c.args.object)) (sym is) (rw c.first.ensures (chain_of_list put.shows))
+    subst (λ f. RepresentsFrom g.L.SinglyLinkedListOps.successor (g.L.LinkOps.table c.insert_between.new.links) f (insert gap c.args.object)) (sym is) (rw c.first.ensures (chain_of_list put.shows))
 
 pub returns-clause-acquired : goal.returns-clause-acquired
 returns-clause-acquired g c = rw (← c.place.ensures) c.if-not-insert_between.ensures.acquired
@@ -62,7 +60,7 @@ returns-clause-kept g c =
       chains = record {
         adapter = refl;
         buckets = keeps_buckets g.met.B.BucketRow.rewrites_count c.set_front.ensures.rewrites;
-        frame = λ s shown. subst (λ l. KeepsBeside (g.L.LinkOps.table c.args.links.now) (g.L.LinkOps.table c.insert_between.new.links) (c.args.object ∷ l)) (shown_is_held held shown)
+        frame = λ s shown. subst (λ l. ChangesOnlyIn (g.L.LinkOps.table c.args.links.now) (g.L.LinkOps.table c.insert_between.new.links) (c.args.object ∷ l)) (represented_is_held held shown)
             (frame_at (chain_of held c.args.at c.requires.within) k.0 k.1
             (rw c.place.ensures at (c.insert_between.ensures.frame k.0 (rw (c.from_front-chain.ensures, c.front.ensures) k.1) k.2 k.3)));
       };

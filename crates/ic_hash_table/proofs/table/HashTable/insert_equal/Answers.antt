@@ -3,7 +3,7 @@ use Rattle.ic_link_ops.proofs.SequenceLemmas.{some_same}
 use Rattle.ic_hash_table.specs.HashTable.{number}
 use Rattle.ic_hash_table.specs.Slots.{slot_of}
 use Rattle.ic_hash_table.proofs.FoundMembers.{chain_of}
-use Rattle.ic_hash_table.proofs.HeldTables.{held_in_front, on_ok}
+use Rattle.ic_hash_table.proofs.HeldTables.{held_before, on_ok}
 use Rattle.ic_hash_table.proofs.SideBySideLemmas.{belongs_by_value, keys_beside}
 use Rattle.ic_hash_table.proofs.table.HashTable.insert_equal.Goals as goal
 
@@ -24,7 +24,7 @@ returns-clause-inserted g c value there s held =
     let stop = rw c.get_key-key.ensures at (c.search-at.ensures.stops k.chain k.shown) in
     let belongs = belongs_by_value c.args.self.now.slots (number g.A.HashAdapter.key_of g.A.HashAdapter.hash_of c.args.self.now.adapter) (g.O.Values.values c.args.objects.now) c.args.object c.value.result.now
     (rw c.place.ensures at c.value.ensures) (c.search-at.ensures.slot ∙ ap (λ k. slot_of c.args.self.now.slots (g.A.HashAdapter.hash_of c.args.self.now.adapter k)) c.get_key-key.ensures) in
-    rw is (on_ok c.insert_at.result (held_in_front c.search-at.result.2 stop (rw c.get_key-key.ensures at (c.search-at.ensures.found s held)))
+    rw is (on_ok c.insert_at.result (held_before c.search-at.result.2 stop (rw c.get_key-key.ensures at (c.search-at.ensures.found s held)))
     (c.insert_at.ensures.inserted (g.O.Values.values c.args.objects.now) s stop.gap held c.requires.placed belongs (rw stop.whole k.shown) stop.after stop.here))
 
 pub returns-clause-beside : goal.returns-clause-beside

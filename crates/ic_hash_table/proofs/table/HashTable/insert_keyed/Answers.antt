@@ -1,5 +1,5 @@
 use Rattle.std.proofs.Common.{[], refl, ◌∙◌}
-use Rattle.ic_hash_table.proofs.Callers.{held_shown}
+use Rattle.ic_hash_table.proofs.Callers.{held_represented}
 use Rattle.ic_hash_table.proofs.FoundMembers.{chain_of}
 use Rattle.ic_hash_table.proofs.HeldTables.{held_with, on_ok}
 use Rattle.ic_hash_table.proofs.table.HashTable.insert_keyed.Goals as goal
@@ -23,4 +23,4 @@ returns-clause-inserted g c s held =
 -- the values are part of the extent, which stays
 pub returns-clause-values : goal.returns-clause-values
 returns-clause-values g c =
-    let q = c.requires.held in g.met.L.LinkValues.values_stay _ _ (c.insert_at.ensures.kept.chains.frame q.0 (held_shown q.1)).extent
+    let q = c.requires.held in g.met.L.LinkValues.values_stay _ _ (c.insert_at.ensures.kept.chains.frame q.0 (held_represented q.1)).extent

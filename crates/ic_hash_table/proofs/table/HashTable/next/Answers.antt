@@ -5,7 +5,7 @@ use Rattle.ic_link_ops.proofs.SequenceLemmas.{first_of_back}
 use Rattle.ic_hash_table.specs.Chains.{AreChained}
 use Rattle.ic_hash_table.specs.HashTable.{number}
 use Rattle.ic_hash_table.proofs.FoundMembers.{chain_of}
-use Rattle.ic_hash_table.proofs.NextMembers.{all_chained, behind_chained, first_is_chains, first_is_others, slot_of_place, place_placed, stands_in}
+use Rattle.ic_hash_table.proofs.NextMembers.{all_chained, after_chained, first_is_chains, first_is_others, slot_of_place, place_placed, stands_in}
 use Rattle.ic_hash_table.proofs.table.HashTable.next.Goals as goal
 
 pub returns-in_default : goal.returns-in_default
@@ -36,5 +36,5 @@ returns g c gap held at_gap =
     let used = c.slot_of_object-chain.ensures.within in
     let b = stands_in gap held c.in-Some.place after k used c.slot_of_object-chain.ensures.belongs in
     let next : suc k ≡ k + 1 = omega arith in
-    c.first_from-2.ensures _ (subst (λ n. AreChained g.L.SinglyLinkedListOps.successor (λ i p. ⊤) (g.L.LinkOps.table c.args.links.now) n (drop n (g.B.BucketRow.fronts c.args.self.now.buckets)) (chain_of held k used).behind) next (behind_chained held k used))
+    c.first_from-2.ensures _ (subst (λ n. AreChained g.L.SinglyLinkedListOps.successor (λ i p. ⊤) (g.L.LinkOps.table c.args.links.now) n (drop n (g.B.BucketRow.fronts c.args.self.now.buckets)) (chain_of held k used).behind) next (after_chained held k used))
     ∙ first_is_others c.next-behind.result b.0 (chain_of held k used).behind (c.next-behind.ensures ∙ b.1.next) (sym c.is_some.ensures ∙ c.if-is_some.false) ∙ ap first (sym b.2)

@@ -1,13 +1,12 @@
 use Rattle.std.proofs.Common.{◌≡◌, IsSome, List, ◌∷◌, ◌++◌, sym, ap, ◌∙◌}
-use Rattle.ic_unsafe_ref.specs.declared.place.Place.{Place}
-use Rattle.ic_unsafe_ref.specs.Objects.{object_at}
+use Rattle.ic_link_ops.specs.Prelude.{Place, object_at}
 use Rattle.ic_link_ops.proofs.Each.{all_back}
 use Rattle.ic_link_ops.proofs.SequenceLemmas.{some_same}
 use Rattle.ic_hash_table.specs.Slots.{slot_of}
 use Rattle.ic_hash_table.specs.HashTable.{number, Holds}
 use Rattle.ic_hash_table.specs.Searches.{has_key, Finds}
 use Rattle.ic_hash_table.proofs.SideBySideLemmas.{found_beside}
-use Rattle.ic_hash_table.proofs.NextMembers.{rest_of_chain, finds_behind}
+use Rattle.ic_hash_table.proofs.NextMembers.{rest_of_chain, finds_after}
 use Rattle.ic_hash_table.proofs.table.HashTable.next_equal.Goals as goal
 use Rattle.ic_hash_table.proofs.table.HashTable.next_equal.Given.{Over}
 
@@ -35,7 +34,7 @@ module _ (g : Over) (c : goal.After-reference g) where
   finds front back held =
       let r = rest_of_chain front back c.args.member.now held in
       let stop = rw (c.new-probe.ensures.adapter, c.new-probe.ensures.key, c.get_key-key.ensures) at (c.find_in_chain-found.ensures.stops r.rest (rw (c.next.ensures, c.place-place.ensures) r.shown)) in
-      finds_behind r (λ v e.
+      finds_after r (λ v e.
       ap (slot_of c.args.self.now.slots)
       (sym (g.met.A.HashAdapter.equal_alike c.args.self.now.adapter (g.A.HashAdapter.key_of c.args.self.now.adapter c.value.result.now) (g.A.HashAdapter.key_of c.args.self.now.adapter v) e))
       ∙ r.belongs c.value.result.now (rw c.place-place.ensures at c.value.ensures)) c.find_in_chain-found.result.1 stop

@@ -1,7 +1,7 @@
 use Rattle.std.proofs.Common.{◌∷◌, ◌++◌, subst}
 use Rattle.ic_link_ops.specs.Sequences.{IsAbsent}
 use Rattle.ic_link_ops.proofs.SequenceLemmas.{split_member}
-use Rattle.ic_hash_table.proofs.Callers.{held_shown}
+use Rattle.ic_hash_table.proofs.Callers.{held_represented}
 use Rattle.ic_hash_table.proofs.table.HashTable.remove_keyed.Goals as goal
 
 pub returns-in_default-clause-removed : goal.returns-in_default-clause-removed
@@ -12,4 +12,4 @@ returns-in_default-clause-removed g c front back held =
 -- the values are part of the extent, which stays
 pub returns-clause-values : goal.returns-clause-values
 returns-clause-values g c =
-    let q = c.requires.held in g.met.L.LinkValues.values_stay _ _ (c.remove_at.ensures.kept.chains.frame q.0 (held_shown q.1)).extent
+    let q = c.requires.held in g.met.L.LinkValues.values_stay _ _ (c.remove_at.ensures.kept.chains.frame q.0 (held_represented q.1)).extent

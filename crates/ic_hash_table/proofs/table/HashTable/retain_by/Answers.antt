@@ -1,16 +1,14 @@
 use Rattle.std.proofs.Common.{◌≡◌, Some, IsSome, List, [], ◌∷◌, ◌++◌, drop, refl, sym, subst, ◌∙◌}
 use denote.Param.Always.{mut_next}
 use Rattle.std.specs.Fn.{CalledAt}
-use Rattle.ic_unsafe_ref.specs.declared.place.Place.{Place}
-use Rattle.ic_unsafe_ref.specs.Objects.{object_at}
+use Rattle.ic_link_ops.specs.Prelude.{Place, object_at, ChangesOnlyIn}
 use Rattle.ic_link_ops.proofs.Each.{all_back}
 use Rattle.ic_link_ops.proofs.SequenceLemmas.{last_of_push, split_member}
 use Rattle.ic_link_ops.proofs.SinglyLists.{successors_covered}
 use Rattle.ic_hash_table.specs.HashTable.{number, Holds}
 use Rattle.ic_hash_table.specs.Retained.{TellsAt}
-use Rattle.ic_hash_table.proofs.RetainedMembers.{Retains, retains_none, turn_less, ahead_first, holds_there, holds_behind, retains_kept, retains_gone, retains_all}
-use Rattle.ic_link_ops.specs.Tables.{KeepsBeside}
-use Rattle.ic_hash_table.proofs.Callers.{held_shown, shown_is_held}
+use Rattle.ic_hash_table.proofs.RetainedMembers.{Retains, retains_none, turn_less, ahead_first, holds_there, holds_after, retains_kept, retains_gone, retains_all}
+use Rattle.ic_hash_table.proofs.Callers.{held_represented, represented_is_held}
 use Rattle.ic_hash_table.proofs.KeptBuckets.{keeps_buckets}
 use Rattle.ic_hash_table.proofs.table.HashTable.retain_by.Goals as goal
 use Rattle.ic_hash_table.proofs.table.HashTable.retain_by.Given.{Over}
@@ -30,7 +28,7 @@ loop-at-init g c = record {
 pub next-at-requires-in-Some : goal.next-at-requires-in-Some
 next-at-requires-in-Some g c =
     let r = rw c.in-Some.is at (c.loop-at.invariant.each c.requires.held.0 c.requires.held.1) in
-    record { stands = (record { front = r.kept ++ c.in-Some.place ∷ []; back = drop 1 r.ahead }, holds_behind r, sym (last_of_push r.kept c.in-Some.place)) }
+    record { stands = (record { front = r.kept ++ c.in-Some.place ∷ []; back = drop 1 r.ahead }, holds_after r, sym (last_of_push r.kept c.in-Some.place)) }
 
 pub value-requires : goal.value-requires
 value-requires g c =
@@ -40,13 +38,13 @@ value-requires g c =
 -- the turn that kept the member, and the one that took it out
 kept : (g : Over) (c : goal.Else-not-keeps g) (s : List Place)
     → Holds g.L.SinglyLinkedListOps.successor (number g.A.HashAdapter.key_of g.A.HashAdapter.hash_of) g.B.BucketRow.fronts (g.L.LinkOps.table c.args.links.now) c.args.self.now (g.O.Values.values c.args.objects.now) s
-    → (r : Retains g.L.SinglyLinkedListOps.successor g.L.LinkOps.table g.L.LinkOps.Does (number g.A.HashAdapter.key_of g.A.HashAdapter.hash_of) g.B.BucketRow.fronts (g.O.Values.values c.args.objects.now) (CalledAt g.F.FnMut)
+    → (r : Retains g.L.SinglyLinkedListOps.successor g.L.LinkOps.table g.L.LinkOps.Trace (number g.A.HashAdapter.key_of g.A.HashAdapter.hash_of) g.B.BucketRow.fronts (g.O.Values.values c.args.objects.now) (CalledAt g.F.FnMut)
     c.args.links.now c.loop-at.links c.loop-at.self s (Some c.in-Some.place) c.args.keeps.now c.loop-at.keeps)
-    × (more : Retains g.L.SinglyLinkedListOps.successor g.L.LinkOps.table g.L.LinkOps.Does (number g.A.HashAdapter.key_of g.A.HashAdapter.hash_of) g.B.BucketRow.fronts (g.O.Values.values c.args.objects.now) (CalledAt g.F.FnMut)
+    × (more : Retains g.L.SinglyLinkedListOps.successor g.L.LinkOps.table g.L.LinkOps.Trace (number g.A.HashAdapter.key_of g.A.HashAdapter.hash_of) g.B.BucketRow.fronts (g.O.Values.values c.args.objects.now) (CalledAt g.F.FnMut)
     c.args.links.now c.loop-at.links c.loop-at.self s c.next-at-in-Some.result c.args.keeps.now c.keeps.new.self) × (more.ahead ≡ drop 1 r.ahead)
 kept g c s held =
     let r = rw c.in-Some.is at (c.loop-at.invariant.each s held) in
-    let next = c.next-at-in-Some.ensures (record { front = r.kept ++ c.in-Some.place ∷ []; back = drop 1 r.ahead }) (holds_behind r) (sym (last_of_push r.kept c.in-Some.place)) in
+    let next = c.next-at-in-Some.ensures (record { front = r.kept ++ c.in-Some.place ∷ []; back = drop 1 r.ahead }) (holds_after r) (sym (last_of_push r.kept c.in-Some.place)) in
     let told : TellsAt (CalledAt g.F.FnMut) (g.O.Values.values c.args.objects.now) c.loop-at.keeps c.in-Some.place c.keeps.result c.keeps.new.self =
     (c.value.result.now, c.value.ensures, record { shown = c.value.result; shows = refl; called = c.keeps.ensures }) in
     let stays = rw c.if-not-keeps.false at told in
@@ -55,20 +53,20 @@ kept g c s held =
 
 gone : (g : Over) (c : goal.After-drop-new g) (s : List Place)
     → Holds g.L.SinglyLinkedListOps.successor (number g.A.HashAdapter.key_of g.A.HashAdapter.hash_of) g.B.BucketRow.fronts (g.L.LinkOps.table c.args.links.now) c.args.self.now (g.O.Values.values c.args.objects.now) s
-    → (r : Retains g.L.SinglyLinkedListOps.successor g.L.LinkOps.table g.L.LinkOps.Does (number g.A.HashAdapter.key_of g.A.HashAdapter.hash_of) g.B.BucketRow.fronts (g.O.Values.values c.args.objects.now) (CalledAt g.F.FnMut)
+    → (r : Retains g.L.SinglyLinkedListOps.successor g.L.LinkOps.table g.L.LinkOps.Trace (number g.A.HashAdapter.key_of g.A.HashAdapter.hash_of) g.B.BucketRow.fronts (g.O.Values.values c.args.objects.now) (CalledAt g.F.FnMut)
     c.args.links.now c.loop-at.links c.loop-at.self s (Some c.in-Some.place) c.args.keeps.now c.loop-at.keeps)
-    × (more : Retains g.L.SinglyLinkedListOps.successor g.L.LinkOps.table g.L.LinkOps.Does (number g.A.HashAdapter.key_of g.A.HashAdapter.hash_of) g.B.BucketRow.fronts (g.O.Values.values c.args.objects.now) (CalledAt g.F.FnMut)
+    × (more : Retains g.L.SinglyLinkedListOps.successor g.L.LinkOps.table g.L.LinkOps.Trace (number g.A.HashAdapter.key_of g.A.HashAdapter.hash_of) g.B.BucketRow.fronts (g.O.Values.values c.args.objects.now) (CalledAt g.F.FnMut)
     c.args.links.now c.remove.new.links c.remove.new.self s c.next-at-in-Some.result c.args.keeps.now c.keeps.new.self) × (more.ahead ≡ drop 1 r.ahead)
 gone g c s held =
     let r = rw c.in-Some.is at (c.loop-at.invariant.each s held) in
-    let next = c.next-at-in-Some.ensures (record { front = r.kept ++ c.in-Some.place ∷ []; back = drop 1 r.ahead }) (holds_behind r) (sym (last_of_push r.kept c.in-Some.place)) in
+    let next = c.next-at-in-Some.ensures (record { front = r.kept ++ c.in-Some.place ∷ []; back = drop 1 r.ahead }) (holds_after r) (sym (last_of_push r.kept c.in-Some.place)) in
     let told : TellsAt (CalledAt g.F.FnMut) (g.O.Values.values c.args.objects.now) c.loop-at.keeps c.in-Some.place c.keeps.result c.keeps.new.self =
     (c.value.result.now, c.value.ensures, record { shown = c.value.result; shows = refl; called = c.keeps.ensures }) in
     let goes = rw c.if-not-keeps.true at told in
     let e = rw c.new.ensures at c.remove.ensures in
     let holds = holds_there r in
     let yes = (e.answer _ holds).1 (split_member r.kept c.in-Some.place (drop 1 r.ahead)) in
-    let more = retains_gone r g.met.L.LinkOps.does_on next goes (e.removed r.kept (drop 1 r.ahead) holds) (rw yes at e.released) (e.kept.chains.frame _ (held_shown holds)) in
+    let more = retains_gone r g.met.L.LinkOps.does_on next goes (e.removed r.kept (drop 1 r.ahead) holds) (rw yes at e.released) (e.kept.chains.frame _ (held_represented holds)) in
     (r, more.0, more.1)
 
 pub loop-at-smaller-then-not-keeps : goal.loop-at-smaller-then-not-keeps
@@ -112,7 +110,7 @@ returns-clause-kept g c =
       chains = record {
         adapter = i.adapter;
         buckets = keeps_buckets g.met.B.BucketRow.rewrites_count i.rewrites;
-        frame = λ s shown. subst (KeepsBeside (g.L.LinkOps.table c.args.links.now) (g.L.LinkOps.table c.loop-at.links)) (shown_is_held held shown) (i.each c.requires.held.0 held).frame;
+        frame = λ s shown. subst (ChangesOnlyIn (g.L.LinkOps.table c.args.links.now) (g.L.LinkOps.table c.loop-at.links)) (represented_is_held held shown) (i.each c.requires.held.0 held).frame;
       };
       slots = i.slots;
     }

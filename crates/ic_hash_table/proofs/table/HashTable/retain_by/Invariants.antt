@@ -14,7 +14,7 @@ invariant-loop-at g l = record {
   rewrites : g.B.BucketRow.Rewrites l.fn.self.buckets l.self.buckets;
   callable : goal.F-IsAlwaysCallable g l.keeps;
   each : (s : List Place) → Holds g.L.SinglyLinkedListOps.successor (number g.A.HashAdapter.key_of g.A.HashAdapter.hash_of) g.B.BucketRow.fronts (g.L.LinkOps.table l.fn.links) l.fn.self (g.O.Values.values l.fn.objects) s
-      → Retains g.L.SinglyLinkedListOps.successor g.L.LinkOps.table g.L.LinkOps.Does (number g.A.HashAdapter.key_of g.A.HashAdapter.hash_of) g.B.BucketRow.fronts (g.O.Values.values l.fn.objects) (CalledAt g.F.FnMut)
+      → Retains g.L.SinglyLinkedListOps.successor g.L.LinkOps.table g.L.LinkOps.Trace (number g.A.HashAdapter.key_of g.A.HashAdapter.hash_of) g.B.BucketRow.fronts (g.O.Values.values l.fn.objects) (CalledAt g.F.FnMut)
       l.fn.links l.links l.self s l.at l.fn.keeps l.keeps;
 }
 

@@ -5,7 +5,7 @@ use Rattle.ic_hash_table.specs.HashTable.{number, BelongsIn}
 use Rattle.ic_hash_table.specs.SideBySide.{same_key}
 use Rattle.ic_hash_table.specs.Slots.{split_of}
 use Rattle.ic_hash_table.proofs.SideBySideChains.{BelongTogether, keys_together}
-use Rattle.ic_hash_table.proofs.ShrunkTables.{last_chain, joined_chain, joined_shown, chains_apart, joined_frame, held_shrunk, beside_shrunk}
+use Rattle.ic_hash_table.proofs.ShrunkTables.{last_chain, joined_chain, joined_represented, chains_apart, joined_frame, held_shrunk, beside_shrunk}
 use Rattle.ic_hash_table.proofs.KeptBuckets.{front_kept, keeps_buckets}
 use Rattle.ic_hash_table.proofs.table.HashTable.shrink_one.Goals as goal
 
@@ -23,8 +23,8 @@ join_chains-front-requires-clause-rest g c =
     let split = c.shrunk-slots.ensures.splits in
     let within : c.shrunk-slots.result.used < length (g.B.BucketRow.fronts c.args.self.now.buckets) = omega (arith, split.used, shown.enough) in
     let j = joined_chain g.L.SinglyLinkedListOps.successor (λ i p. ⊤) (λ i p. ⊤) c.shrunk-slots.result.used (split_of c.args.self.now.slots c.shrunk-slots.result.used) split.apart (λ j p n b. tt) (λ p b. tt) _ _ _ shown.distinct shown.chained within in
-    let j_shown = joined_shown g.L.SinglyLinkedListOps.successor (λ i p. ⊤) (λ i p. ⊤) c.shrunk-slots.result.used (split_of c.args.self.now.slots c.shrunk-slots.result.used) split.apart (λ j p n b. tt) (λ p b. tt) _ _ _ shown.distinct shown.chained within in
-    (j.chain, rw (c.front-2.ensures, c.split-to.ensures, c.used-last.ensures) j_shown)
+    let j_represented = joined_represented g.L.SinglyLinkedListOps.successor (λ i p. ⊤) (λ i p. ⊤) c.shrunk-slots.result.used (split_of c.args.self.now.slots c.shrunk-slots.result.used) split.apart (λ j p n b. tt) (λ p b. tt) _ _ _ shown.distinct shown.chained within in
+    (j.chain, rw (c.front-2.ensures, c.split-to.ensures, c.used-last.ensures) j_represented)
 
 pub set_front-requires-2-clause-kept : goal.set_front-requires-2-clause-kept
 set_front-requires-2-clause-kept g c =
@@ -33,19 +33,19 @@ set_front-requires-2-clause-kept g c =
     let within : c.shrunk-slots.result.used < length (g.B.BucketRow.fronts c.args.self.now.buckets) = omega (arith, split.used, shown.enough) in
     let l = last_chain g.L.SinglyLinkedListOps.successor (λ i p. ⊤) (λ i p. ⊤) c.shrunk-slots.result.used (split_of c.args.self.now.slots c.shrunk-slots.result.used) split.apart (λ j p n b. tt) (λ p b. tt) _ _ _ shown.distinct shown.chained within in
     let j = joined_chain g.L.SinglyLinkedListOps.successor (λ i p. ⊤) (λ i p. ⊤) c.shrunk-slots.result.used (split_of c.args.self.now.slots c.shrunk-slots.result.used) split.apart (λ j p n b. tt) (λ p b. tt) _ _ _ shown.distinct shown.chained within in
-    let j_shown = joined_shown g.L.SinglyLinkedListOps.successor (λ i p. ⊤) (λ i p. ⊤) c.shrunk-slots.result.used (split_of c.args.self.now.slots c.shrunk-slots.result.used) split.apart (λ j p n b. tt) (λ p b. tt) _ _ _ shown.distinct shown.chained within in
+    let j_represented = joined_represented g.L.SinglyLinkedListOps.successor (λ i p. ⊤) (λ i p. ⊤) c.shrunk-slots.result.used (split_of c.args.self.now.slots c.shrunk-slots.result.used) split.apart (λ j p n b. tt) (λ p b. tt) _ _ _ shown.distinct shown.chained within in
     let apart = chains_apart g.L.SinglyLinkedListOps.successor (λ i p. ⊤) (λ i p. ⊤) c.shrunk-slots.result.used (split_of c.args.self.now.slots c.shrunk-slots.result.used) split.apart (λ j p n b. tt) (λ p b. tt) _ _ _ shown.distinct shown.chained within in
     front_kept g.met.L.SinglyLinkedListOps.linked_alike (λ q l. g.met.B.BucketsFor.keeps_named q (g.met.L.LinkOps.covered_has_name _ q (g.met.L.LinkOps.linked_is_covered _ q l)))
     c.join_chains-front.result (l.chain ++ j.chain)
-    (c.join_chains-front.ensures.joined l.chain j.chain (rw (c.front.ensures, c.used-last.ensures) l.shown) (rw (c.front-2.ensures, c.split-to.ensures, c.used-last.ensures) j_shown) apart)
+    (c.join_chains-front.ensures.joined l.chain j.chain (rw (c.front.ensures, c.used-last.ensures) l.shown) (rw (c.front-2.ensures, c.split-to.ensures, c.used-last.ensures) j_represented) apart)
 
 pub returns-clause-holds : goal.returns-clause-holds
 returns-clause-holds g c objects s held =
     let split = c.shrunk-slots.ensures.splits in
     held_shrunk g.L.SinglyLinkedListOps.successor (number g.A.HashAdapter.key_of g.A.HashAdapter.hash_of) g.B.BucketRow.fronts c.shrunk-slots.result split held (omega (arith, split.used, held.enough))
     c.set_front.new.self c.set_front-2.new.self c.shrunk-slots.ensures.well_formed (rw c.used-last.ensures at c.set_front.ensures.fronts) (rw (c.split-to.ensures, c.used-last.ensures) at c.set_front-2.ensures.fronts)
-    (λ l j l_shown j_shown apart. c.join_chains-front.ensures.joined l j (rw (c.front.ensures, c.used-last.ensures) l_shown) (rw (c.front-2.ensures, c.split-to.ensures, c.used-last.ensures) j_shown) apart)
-    (λ l j l_shown j_shown apart. c.join_chains-front.ensures.frame l j (rw (c.front.ensures, c.used-last.ensures) l_shown) (rw (c.front-2.ensures, c.split-to.ensures, c.used-last.ensures) j_shown) apart)
+    (λ l j l_represented j_represented apart. c.join_chains-front.ensures.joined l j (rw (c.front.ensures, c.used-last.ensures) l_represented) (rw (c.front-2.ensures, c.split-to.ensures, c.used-last.ensures) j_represented) apart)
+    (λ l j l_represented j_represented apart. c.join_chains-front.ensures.frame l j (rw (c.front.ensures, c.used-last.ensures) l_represented) (rw (c.front-2.ensures, c.split-to.ensures, c.used-last.ensures) j_represented) apart)
 
 pub returns-clause-beside : goal.returns-clause-beside
 returns-clause-beside g c objects (s, held, side) =
@@ -56,8 +56,8 @@ returns-clause-beside g c objects (s, held, side) =
     let split = c.shrunk-slots.ensures.splits in
     beside_shrunk g.L.SinglyLinkedListOps.successor (number g.A.HashAdapter.key_of g.A.HashAdapter.hash_of) g.B.BucketRow.fronts c.shrunk-slots.result split held (omega (arith, split.used, held.enough))
     c.set_front.new.self c.set_front-2.new.self c.shrunk-slots.ensures.well_formed (rw c.used-last.ensures at c.set_front.ensures.fronts) (rw (c.split-to.ensures, c.used-last.ensures) at c.set_front-2.ensures.fronts)
-    (λ l j l_shown j_shown apart. c.join_chains-front.ensures.joined l j (rw (c.front.ensures, c.used-last.ensures) l_shown) (rw (c.front-2.ensures, c.split-to.ensures, c.used-last.ensures) j_shown) apart)
-    (λ l j l_shown j_shown apart. c.join_chains-front.ensures.frame l j (rw (c.front.ensures, c.used-last.ensures) l_shown) (rw (c.front-2.ensures, c.split-to.ensures, c.used-last.ensures) j_shown) apart)
+    (λ l j l_represented j_represented apart. c.join_chains-front.ensures.joined l j (rw (c.front.ensures, c.used-last.ensures) l_represented) (rw (c.front-2.ensures, c.split-to.ensures, c.used-last.ensures) j_represented) apart)
+    (λ l j l_represented j_represented apart. c.join_chains-front.ensures.frame l j (rw (c.front.ensures, c.used-last.ensures) l_represented) (rw (c.front-2.ensures, c.split-to.ensures, c.used-last.ensures) j_represented) apart)
     (by_keys c.args.self.now.slots) (by_keys c.shrunk-slots.result) side
 
 pub returns-clause-kept : goal.returns-clause-kept
@@ -69,8 +69,8 @@ returns-clause-kept g c = record {
       let within : c.shrunk-slots.result.used < length (g.B.BucketRow.fronts c.args.self.now.buckets) = omega (arith, split.used, shown.enough) in
       let l = last_chain g.L.SinglyLinkedListOps.successor (λ i p. ⊤) (λ i p. ⊤) c.shrunk-slots.result.used (split_of c.args.self.now.slots c.shrunk-slots.result.used) split.apart (λ j p n b. tt) (λ p b. tt) _ _ _ shown.distinct shown.chained within in
       let j = joined_chain g.L.SinglyLinkedListOps.successor (λ i p. ⊤) (λ i p. ⊤) c.shrunk-slots.result.used (split_of c.args.self.now.slots c.shrunk-slots.result.used) split.apart (λ j p n b. tt) (λ p b. tt) _ _ _ shown.distinct shown.chained within in
-      let j_shown = joined_shown g.L.SinglyLinkedListOps.successor (λ i p. ⊤) (λ i p. ⊤) c.shrunk-slots.result.used (split_of c.args.self.now.slots c.shrunk-slots.result.used) split.apart (λ j p n b. tt) (λ p b. tt) _ _ _ shown.distinct shown.chained within in
+      let j_represented = joined_represented g.L.SinglyLinkedListOps.successor (λ i p. ⊤) (λ i p. ⊤) c.shrunk-slots.result.used (split_of c.args.self.now.slots c.shrunk-slots.result.used) split.apart (λ j p n b. tt) (λ p b. tt) _ _ _ shown.distinct shown.chained within in
       let apart = chains_apart g.L.SinglyLinkedListOps.successor (λ i p. ⊤) (λ i p. ⊤) c.shrunk-slots.result.used (split_of c.args.self.now.slots c.shrunk-slots.result.used) split.apart (λ j p n b. tt) (λ p b. tt) _ _ _ shown.distinct shown.chained within in
       joined_frame g.L.SinglyLinkedListOps.successor (λ i p. ⊤) (λ i p. ⊤) c.shrunk-slots.result.used (split_of c.args.self.now.slots c.shrunk-slots.result.used) split.apart (λ j p n b. tt) (λ p b. tt) _ _ _ shown.distinct shown.chained within
-      (c.join_chains-front.ensures.frame l.chain j.chain (rw (c.front.ensures, c.used-last.ensures) l.shown) (rw (c.front-2.ensures, c.split-to.ensures, c.used-last.ensures) j_shown) apart);
+      (c.join_chains-front.ensures.frame l.chain j.chain (rw (c.front.ensures, c.used-last.ensures) l.shown) (rw (c.front-2.ensures, c.split-to.ensures, c.used-last.ensures) j_represented) apart);
 }

@@ -1,4 +1,4 @@
-use Rattle.ic_container.proofs.ListedEnds.{listed_moved_behind, listed_values_moved_behind}
+use Rattle.ic_container.proofs.ListedEnds.{listed_moved_after, listed_values_moved_after}
 use Rattle.ic_container.proofs.ListedLemmas.{listed_stands}
 use Rattle.ic_indexed.proofs.indexed.Indexed.move_to_back.Goals as goal
 
@@ -7,8 +7,8 @@ move_to_back-requires g c = record { member = listed_stands c.self.invariant.lis
 
 pub invariant_of-self : goal.invariant_of-self
 invariant_of-self g c =
-    let k = c.self.invariant in record { keyed = k.keyed; listed = listed_moved_behind k.listed c.move_to_back.new.links c.move_to_back.new.list c.move_to_back.ensures }
+    let k = c.self.invariant in record { keyed = k.keyed; listed = listed_moved_after k.listed c.move_to_back.new.links c.move_to_back.new.list c.move_to_back.ensures }
 
 pub returns-clause-moved : goal.returns-clause-moved
 returns-clause-moved g c =
-    rw (← c.self.view_is) (λ value there. listed_values_moved_behind c.self.invariant.listed c.move_to_back.new.links c.move_to_back.new.list c.move_to_back.ensures there)
+    rw (← c.self.view_is) (λ value there. listed_values_moved_after c.self.invariant.listed c.move_to_back.new.links c.move_to_back.new.list c.move_to_back.ensures there)

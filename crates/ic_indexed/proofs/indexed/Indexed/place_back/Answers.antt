@@ -1,6 +1,6 @@
 use Rattle.std.proofs.Common.{ap}
 use Rattle.ic_container.specs.Orders.{Order}
-use Rattle.ic_container.proofs.ListedEnds.{listed_behind, listed_values_behind}
+use Rattle.ic_container.proofs.ListedEnds.{listed_after, listed_values_after}
 use Rattle.ic_container.proofs.ListedLemmas.{listed_grown, listed_off, order_grown}
 use Rattle.ic_indexed.proofs.indexed.Indexed.place_back.Goals as goal
 
@@ -30,10 +30,10 @@ invariant_of-self-2 g c =
     let e = c.in-Ok.ensures in
     record {
       keyed = e.all;
-      listed = listed_behind c.self.invariant.listed c.place.new.pool.links.1 e.keeps e.placed c.push_back.new.links c.push_back.new.list (rw c.place-2.ensures at c.push_back.ensures);
+      listed = listed_after c.self.invariant.listed c.place.new.pool.links.1 e.keeps e.placed c.push_back.new.links c.push_back.new.list (rw c.place-2.ensures at c.push_back.ensures);
     }
 
 pub returns-clause-added : goal.returns-clause-added
 returns-clause-added g c =
     let e = c.in-Ok.ensures in
-    rw (← c.self.view_is) (listed_values_behind c.self.invariant.listed c.place.new.pool.links.1 e.keeps e.placed c.push_back.new.links c.push_back.new.list (rw c.place-2.ensures at c.push_back.ensures))
+    rw (← c.self.view_is) (listed_values_after c.self.invariant.listed c.place.new.pool.links.1 e.keeps e.placed c.push_back.new.links c.push_back.new.list (rw c.place-2.ensures at c.push_back.ensures))

@@ -1,7 +1,7 @@
 use Rattle.std.proofs.Common.{refl, sym, subst, ◌∙◌}
 use Rattle.std.specs.Fn.{FnReturnsAt}
 use Rattle.std.proofs.lemmas.Option.{same_Some}
-use Rattle.ic_keyed.proofs.KeyLemmas.{own_behind, rest_own, some_there, without_first}
+use Rattle.ic_keyed.proofs.KeyLemmas.{own_after, rest_own, some_there, without_first}
 use Rattle.ic_keyed.proofs.RetainLemmas.{same_first, turn_gone, turn_kept}
 use Rattle.ic_keyed.proofs.keyed.Keyed.test_first.Goals as goal
 
@@ -9,7 +9,7 @@ pub invariant_of-self : goal.invariant_of-self
 invariant_of-self g c =
     let there = some_there _ c.in-Some.ensures.placed in
     let t = c.move_to_back.ensures.moved there.0 there.1 in
-    rw t.2 (own_behind g.T.HasKey.key_of t.1 c.self.invariant)
+    rw t.2 (own_after g.T.HasKey.key_of t.1 c.self.invariant)
 
 pub invariant_of-self-else-keeps : goal.invariant_of-self-else-keeps
 invariant_of-self-else-keeps g c = rest_own g.T.HasKey.key_of c.remove.ensures.removed c.self.invariant

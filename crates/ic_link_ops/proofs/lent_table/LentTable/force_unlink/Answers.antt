@@ -6,7 +6,7 @@ use Rattle.ic_link_ops.proofs.SeenEntries.{view_changes_only, entry_set}
 use Rattle.ic_link_ops.proofs.lent_table.LentTable.force_unlink.Goals as goal
 
 pub returns-clause-frame : goal.returns-clause-frame
-returns-clause-frame g c = view_changes_only g.V.LinkValue.told g.W.Words.width _ _ _ _ _ _ _ c.slot-index.ensures.value c.requires.covered refl refl
+returns-clause-frame g c = view_changes_only g.V.LinkValue.printed g.W.Words.width _ _ _ _ _ _ _ c.slot-index.ensures.value c.requires.covered refl refl
 
 pub returns-clause-unlinked : goal.returns-clause-unlinked
 returns-clause-unlinked g c =

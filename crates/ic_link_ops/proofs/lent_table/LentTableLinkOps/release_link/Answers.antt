@@ -15,5 +15,5 @@ force_unlink-requires g c =
 
 pub returns-clause-released : goal.returns-clause-released
 returns-clause-released g c =
-    unlinks_only {linked = linked_by g.W.Words.is_linked} {a = lent_table g.W.Words.width g.W.Words.unlinked g.V.LinkValue.initial g.V.LinkValue.told c.args.self.now} {b = lent_table g.W.Words.width g.W.Words.unlinked g.V.LinkValue.initial g.V.LinkValue.told c.force_unlink.new.self}
+    unlinks_only {linked = linked_by g.W.Words.is_linked} {a = lent_table g.W.Words.width g.W.Words.unlinked g.V.LinkValue.initial g.V.LinkValue.printed c.args.self.now} {b = lent_table g.W.Words.width g.W.Words.unlinked g.V.LinkValue.initial g.V.LinkValue.printed c.force_unlink.new.self}
     c.requires.linked c.force_unlink.ensures.unlinked c.force_unlink.ensures.frame

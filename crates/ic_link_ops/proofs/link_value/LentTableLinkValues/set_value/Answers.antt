@@ -24,8 +24,8 @@ returns-clause-others g c =
 pub returns-clause-links : goal.returns-clause-links
 returns-clause-links g c = says_kept g.W.Words.width (link_with g.W.Words.unlinked g.V.LinkValue.initial) words_of (lent_entries c.args.self.now) c.args.place _ _ _ _ c.slot-index.ensures.value c.requires.covered refl refl
 
-pub returns-clause-no_step : goal.returns-clause-no_step
-returns-clause-no_step g c q = ap g.W.Words.is_linked (returns-clause-links g c q)
+pub returns-clause-trace_stays : goal.returns-clause-trace_stays
+returns-clause-trace_stays g c q = ap g.W.Words.is_linked (returns-clause-links g c q)
 
 pub returns-clause-covers : goal.returns-clause-covers
 returns-clause-covers g c =

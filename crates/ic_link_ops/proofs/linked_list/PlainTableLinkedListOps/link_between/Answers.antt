@@ -12,7 +12,7 @@ pub link_to-requires : goal.link_to-requires
 link_to-requires g c = record { kept = rw c.of.ensures (word_kept g.W.Words.width c.args.next c.requires.next) }
 
 pub returns-clause-frame : goal.returns-clause-frame
-returns-clause-frame g c = changes_only g.V.LinkValue.told g.W.Words.width _ _ _ c.index_mut-linked.result.now _ _ _ c.slot-index.ensures.value c.requires.covered c.index_mut-linked.ensures.value c.link_to.ensures.value
+returns-clause-frame g c = changes_only g.V.LinkValue.printed g.W.Words.width _ _ _ c.index_mut-linked.result.now _ _ _ c.slot-index.ensures.value c.requires.covered c.index_mut-linked.ensures.value c.link_to.ensures.value
 
 pub returns-clause-acquired : goal.returns-clause-acquired
 returns-clause-acquired g c =

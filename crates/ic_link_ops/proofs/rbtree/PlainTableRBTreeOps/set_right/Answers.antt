@@ -12,11 +12,11 @@ returns-clause-set g c =
 
 pub returns-clause-frame : goal.returns-clause-frame
 returns-clause-frame g c =
-    changes_only g.V.LinkValue.told g.W.Words.width _ _ _ c.index_mut-entry.result.now _ _ _ c.slot-index.ensures.value
+    changes_only g.V.LinkValue.printed g.W.Words.width _ _ _ c.index_mut-entry.result.now _ _ _ c.slot-index.ensures.value
     (linked_seen g.W.Words.is_linked g.W.Words.width _ g.met.W.Words.starts_unlinked _ _ c.requires.linked) c.index_mut-entry.ensures.value refl
 
-pub returns-clause-no_step : goal.returns-clause-no_step
-returns-clause-no_step g c =
+pub returns-clause-trace_stays : goal.returns-clause-trace_stays
+returns-clause-trace_stays g c =
     keeps_linked g.W.Words.is_linked g.W.Words.width (link_with g.W.Words.unlinked g.V.LinkValue.initial) (entries c.args.self.now) c.args.place c.index_mut-entry.result.now _ _ _ c.slot-index.ensures.value
     (linked_seen g.W.Words.is_linked g.W.Words.width _ g.met.W.Words.starts_unlinked _ _ c.requires.linked) c.index_mut-entry.ensures.value
     (sym (g.met.W.NodeWords.node_linked _) ∙ ap (λ (r : Node). r.linked) c.set_right.ensures ∙ g.met.W.NodeWords.node_linked _)

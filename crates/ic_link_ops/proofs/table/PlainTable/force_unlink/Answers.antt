@@ -5,7 +5,7 @@ use Rattle.ic_link_ops.proofs.SeenEntries.{changes_only, entry_set}
 use Rattle.ic_link_ops.proofs.table.PlainTable.force_unlink.Goals as goal
 
 pub returns-clause-frame : goal.returns-clause-frame
-returns-clause-frame g c = changes_only g.V.LinkValue.told g.W.Words.width _ _ _ c.index_mut-entry.result.now _ _ _ c.slot-index.ensures.value c.requires.covered c.index_mut-entry.ensures.value refl
+returns-clause-frame g c = changes_only g.V.LinkValue.printed g.W.Words.width _ _ _ c.index_mut-entry.result.now _ _ _ c.slot-index.ensures.value c.requires.covered c.index_mut-entry.ensures.value refl
 
 pub returns-clause-unlinked : goal.returns-clause-unlinked
 returns-clause-unlinked g c =

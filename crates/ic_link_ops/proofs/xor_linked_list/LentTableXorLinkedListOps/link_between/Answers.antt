@@ -10,7 +10,7 @@ pub link_to-requires : goal.link_to-requires
 link_to-requires g c = record { kept = rw c.between.ensures (xor_kept g.W.Words.width _ _ (word_kept g.W.Words.width c.args.prev c.requires.prev) (word_kept g.W.Words.width c.args.next c.requires.next)) }
 
 pub returns-clause-frame : goal.returns-clause-frame
-returns-clause-frame g c = view_changes_only g.V.LinkValue.told g.W.Words.width _ _ _ _ _ _ _ c.slot-index.ensures.value c.requires.covered refl c.link_to.ensures.value
+returns-clause-frame g c = view_changes_only g.V.LinkValue.printed g.W.Words.width _ _ _ _ _ _ _ c.slot-index.ensures.value c.requires.covered refl c.link_to.ensures.value
 
 pub returns-clause-acquired : goal.returns-clause-acquired
 returns-clause-acquired g c =

@@ -31,12 +31,12 @@ returns-clause-replaced g c x joins =
     ∙ joins_replaced _ c.args.old c.args.new x joins
 
 pub returns-clause-frame : goal.returns-clause-frame
-returns-clause-frame g c = view_changes_only g.V.LinkValue.told g.W.Words.width _ _ _ _ _ _ _ c.slot-index.ensures.value (linked_seen g.W.Words.is_linked g.W.Words.width _ g.met.W.Words.starts_unlinked _ _ c.requires.linked) refl refl
+returns-clause-frame g c = view_changes_only g.V.LinkValue.printed g.W.Words.width _ _ _ _ _ _ _ c.slot-index.ensures.value (linked_seen g.W.Words.is_linked g.W.Words.width _ g.met.W.Words.starts_unlinked _ _ c.requires.linked) refl refl
 
-pub returns-clause-no_step : goal.returns-clause-no_step
-returns-clause-no_step g c =
+pub returns-clause-trace_stays : goal.returns-clause-trace_stays
+returns-clause-trace_stays g c =
     keeps_linked g.W.Words.is_linked g.W.Words.width (link_with g.W.Words.unlinked g.V.LinkValue.initial) (lent_entries c.args.self.now) c.args.place _ _ _ _ c.slot-index.ensures.value
     (linked_seen g.W.Words.is_linked g.W.Words.width _ g.met.W.Words.starts_unlinked _ _ c.requires.linked) refl c.set_next_word.ensures.linked
 
 pub returns-clause-linked : goal.returns-clause-linked
-returns-clause-linked g c = returns-clause-no_step g c c.args.place ∙ c.requires.linked
+returns-clause-linked g c = returns-clause-trace_stays g c c.args.place ∙ c.requires.linked

@@ -6,7 +6,7 @@ use Rattle.ic_lock_free_stack.specs.declared.stacks.Holder.{Holder}
 use Rattle.ic_lock_free_stack.specs.Hands.{hand, both_hands}
 use Rattle.ic_lock_free_stack.specs.Holders.{account_of, party_of, AreOneHistory}
 use Rattle.ic_lock_free_stack.proofs.MovingLemmas.{compares}
-use Rattle.ic_lock_free_stack.proofs.AuditLemmas.{HasHand, seeing, rest_back, first_back, one_back, others_empty, account_back, holder_back, chain_back, all_back, told, told_whole, none_twice}
+use Rattle.ic_lock_free_stack.proofs.AuditLemmas.{HasHand, seeing, rest_back, first_back, one_back, others_empty, account_back, holder_back, chain_back, all_back, answered, told_whole, none_twice}
 use Rattle.ic_lock_free_stack.proofs.stacks.Stacks.audit.Goals as goal
 
 pub load-requires : goal.load-requires
@@ -18,7 +18,7 @@ loop-i-2-init g c =
     let hs : List Holder = c.args.holders.now.items in
     let whole : take c.loop-i.i hs ≡ hs = take_all c.loop-i.i hs (omega (arith, c.loop-i-test.false, c.loop-i.invariant.long)) in
     let gathered : c.loop-i.all.me.0 ≡ hand stacks.table.shared.key (map account_of hs) = c.loop-i.invariant.gathered ∙ ap (λ (l : List Holder). hand stacks.table.shared.key (map account_of l)) whole in
-    let t = told stacks hs c.loop-i.all.me.0 c.load.new.seat.me.0 gathered (c.load.ensures.2 stacks.table.shared.key (ap (λ (v : Hand). v.size) gathered)) in
+    let t = answered stacks hs c.loop-i.all.me.0 c.load.new.seat.me.0 gathered (c.load.ensures.2 stacks.table.shared.key (ap (λ (v : Hand). v.size) gathered)) in
     record {
       order = t.order;
       one = t.one;
@@ -43,7 +43,7 @@ loop-i-2-preserved g c =
     let in_now : i < length now = omega (arith, in_hs, long) in
     let all : Hand = c.loop-i-2.all.me.0 in
     let first = c.first_of-account-in-loop-i-2 in
-    let seat = c.put_behind-in-loop-i-2.new.seat in
+    let seat = c.put_after-in-loop-i-2.new.seat in
     let new : Holder = record { seat = seat } in
     let empty_here : HasHand stacks [] (c.index_mut-in-loop-i-2.result.now) = subst (HasHand stacks []) (sym c.index_mut-in-loop-i-2.ensures.value) (was.empty i _ (omega arith) in_hs) in
     record {
@@ -54,8 +54,8 @@ loop-i-2-preserved g c =
       table = first.ensures.seat;
       gathered = first.ensures.rest ∙ rest_back size was.order hs i (get_or hs i c.index_mut-in-loop-i-2.result.now) in_hs all was.gathered;
       done = one_back stacks was.order hs now i new in_now was.done (λ d. (
-        c.put_behind-in-loop-i-2.ensures.seat,
-        c.put_behind-in-loop-i-2.ensures.both ∙ (λ j. both_hands (empty_here.1 j) ((first.ensures.first ∙ first_back size was.order hs i d in_hs all was.gathered) j)),
+        c.put_after-in-loop-i-2.ensures.seat,
+        c.put_after-in-loop-i-2.ensures.both ∙ (λ j. both_hands (empty_here.1 j) ((first.ensures.first ∙ first_back size was.order hs i d in_hs all was.gathered) j)),
       ));
       empty = others_empty stacks now i (length hs) new was.empty;
     }

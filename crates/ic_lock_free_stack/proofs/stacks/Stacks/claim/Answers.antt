@@ -22,12 +22,12 @@ returns g c =
     let stacks = c.args.self.now in
     let old = c.args.holder.now in
     let new : Holder = record { seat = c.compare_exchange-found.new.seat } in
-    let told = c.compare_exchange-found.ensures.2 stacks.table.shared.key (account_of old) c.args.place c.requires.made.hand (sym c.index.ensures.value) in
+    let answered = c.compare_exchange-found.ensures.2 stacks.table.shared.key (account_of old) c.args.place c.requires.made.hand (sym c.index.ensures.value) in
     let table = c.compare_exchange-found.ensures.0 ∙ c.requires.made.table in
-    let is = stepped stacks old new (account_of old) _ _ table told.0 refl refl refl in
-    let holds = claim_by_zero c.args.place (c.compare_exchange-found.result == 0) (record_of old) (record_of new) is.step.gained (λ e. told.1 (eqb-true c.compare_exchange-found.result 0 e)) in
+    let is = stepped stacks old new (account_of old) _ _ table answered.0 refl refl refl in
+    let holds = claim_by_zero c.args.place (c.compare_exchange-found.result == 0) (record_of old) (record_of new) is.step.gained (λ e. answered.1 (eqb-true c.compare_exchange-found.result 0 e)) in
     record {
-      made = made_is_of stacks old new (account_of old) _ _ table told.0;
+      made = made_is_of stacks old new (account_of old) _ _ table answered.0;
       step = is.step;
       claimed = holds.0;
       refused = holds.1;

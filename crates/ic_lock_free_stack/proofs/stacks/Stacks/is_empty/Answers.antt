@@ -22,13 +22,13 @@ returns g c =
     let stacks = c.args.self.now in
     let old = c.args.holder.now in
     let new : Holder = record { seat = c.load.new.seat } in
-    let told = c.load.ensures.2 stacks.table.shared.key (account_of old) c.args.stack c.requires.made.hand (ap (λ p. p + c.args.stack) stacks.keyed_places) in
+    let answered = c.load.ensures.2 stacks.table.shared.key (account_of old) c.args.stack c.requires.made.hand (ap (λ p. p + c.args.stack) stacks.keyed_places) in
     let table = c.load.ensures.0 ∙ c.requires.made.table in
-    let tells = tells_empty stacks old new c.args.stack c.load.result table told in
+    let tells = tells_empty stacks old new c.args.stack c.load.result table answered in
     record {
-      made = sees_of stacks old new c.args.stack c.load.result table told;
-      looked = sees_looks stacks old new c.args.stack c.load.result table told;
+      made = sees_of stacks old new c.args.stack c.load.result table answered;
+      looked = sees_looks stacks old new c.args.stack c.load.result table answered;
       empty = tells.0;
       some = tells.1;
-      chains = sees_keeps stacks old new c.args.stack c.load.result table told;
+      chains = sees_keeps stacks old new c.args.stack c.load.result table answered;
     }

@@ -26,13 +26,13 @@ returns g c =
     let old = c.args.holder.now in
     let new : Holder = record { seat = c.store.new.seat } in
     let longer : Chain = record { first = Some c.args.place } in
-    let told = c.store.ensures.2 stacks.table.shared.key (account_of old) c.args.place c.requires.made.hand (sym c.index.ensures.value) in
+    let answered = c.store.ensures.2 stacks.table.shared.key (account_of old) c.args.place c.requires.made.hand (sym c.index.ensures.value) in
     let table = c.store.ensures.0 ∙ c.requires.made.table in
     record {
-      made = linked_of stacks old new c.args.place _ table told;
-      stays = linked_stays stacks old new c.args.place _ table told;
-      linked = λ s was. linked_has stacks old new c.args.place _ table told c.args.chain.now longer s was
+      made = linked_of stacks old new c.args.place _ table answered;
+      stays = linked_stays stacks old new c.args.place _ table answered;
+      linked = λ s was. linked_has stacks old new c.args.place _ table answered c.args.chain.now longer s was
           (subst (λ (t : List Place). is_in c.args.place t ≡ false) (one_sequence stacks old c.args.chain.now c.requires.shown.0 s c.requires.shown.1 was) c.requires.shown.2)
           c.requires.place c.requires.held (ap (λ k. k + 1) c.to_word-next.ensures.value) refl;
-      chains = linked_keeps stacks old new c.args.place _ table told;
+      chains = linked_keeps stacks old new c.args.place _ table answered;
     }

@@ -26,8 +26,8 @@ overflow_sub-found g c =
     let h = c.args.holder.now in
     let p = c.in_ok-place.place in
     let x = chain_next stacks h c.args.chain.now p c.requires.shown.0 c.requires.shown.1 c.in_ok-place.was in
-    let told = c.load-found.ensures.2 stacks.table.shared.key (account_of h) p c.requires.made.hand (sym c.index.ensures.value) (known_link _ _ _ p x) in
-    link_full (first x.rest) c.load-found.result (told.1 ∙ x.known)
+    let answered = c.load-found.ensures.2 stacks.table.shared.key (account_of h) p c.requires.made.hand (sym c.index.ensures.value) (known_link _ _ _ p x) in
+    link_full (first x.rest) c.load-found.result (answered.1 ∙ x.known)
 
 pub from_word-chain-requires : goal.from_word-chain-requires
 from_word-chain-requires g c =
@@ -35,8 +35,8 @@ from_word-chain-requires g c =
     let h = c.args.holder.now in
     let p = c.in_ok-place.place in
     let x = chain_next stacks h c.args.chain.now p c.requires.shown.0 c.requires.shown.1 c.in_ok-place.was in
-    let told = c.load-found.ensures.2 stacks.table.shared.key (account_of h) p c.requires.made.hand (sym c.index.ensures.value) (known_link _ _ _ p x) in
-    link_fits (first x.rest) c.load-found.result (told.1 ∙ x.known)
+    let answered = c.load-found.ensures.2 stacks.table.shared.key (account_of h) p c.requires.made.hand (sym c.index.ensures.value) (known_link _ _ _ p x) in
+    link_fits (first x.rest) c.load-found.result (answered.1 ∙ x.known)
 
 pub returns-clause-same : goal.returns-clause-same
 returns-clause-same g c =
@@ -44,8 +44,8 @@ returns-clause-same g c =
     let h = c.args.holder.now in
     let p = c.in_ok-place.place in
     let x = chain_next stacks h c.args.chain.now p c.requires.shown.0 c.requires.shown.1 c.in_ok-place.was in
-    let told = c.load-found.ensures.2 stacks.table.shared.key (account_of h) p c.requires.made.hand (sym c.index.ensures.value) (known_link _ _ _ p x) in
-    λ i. record { seat = record { marker = h.seat.marker; table_id = c.load-found.ensures.0 i; id = c.load-found.ensures.1 i; me = told.0 i } }
+    let answered = c.load-found.ensures.2 stacks.table.shared.key (account_of h) p c.requires.made.hand (sym c.index.ensures.value) (known_link _ _ _ p x) in
+    λ i. record { seat = record { marker = h.seat.marker; table_id = c.load-found.ensures.0 i; id = c.load-found.ensures.1 i; me = answered.0 i } }
 
 pub returns-clause-rest : goal.returns-clause-rest
 returns-clause-rest g c s was =
@@ -53,10 +53,10 @@ returns-clause-rest g c s was =
     let h = c.args.holder.now in
     let p = c.in_ok-place.place in
     let x = chain_next stacks h c.args.chain.now p c.requires.shown.0 c.requires.shown.1 c.in_ok-place.was in
-    let told = c.load-found.ensures.2 stacks.table.shared.key (account_of h) p c.requires.made.hand (sym c.index.ensures.value) (known_link _ _ _ p x) in
+    let answered = c.load-found.ensures.2 stacks.table.shared.key (account_of h) p c.requires.made.hand (sym c.index.ensures.value) (known_link _ _ _ p x) in
     let left : Chain = record { first = c.from_word-chain.result } in
     subst (λ (k : Holder). HasChain stacks k left (Rattle.std.proofs.Common.drop 1 s)) (sym (returns-clause-same g c))
-    (chain_rest stacks h c.args.chain.now p s was c.in_ok-place.was c.load-found.result told.1 left c.from_word-chain.ensures)
+    (chain_rest stacks h c.args.chain.now p s was c.in_ok-place.was c.load-found.result answered.1 left c.from_word-chain.ensures)
 
 pub returns-clause-found : goal.returns-clause-found
 returns-clause-found g c s was = chain_found c.args.self.now c.args.holder.now c.args.chain.now c.in_ok-place.place s was c.in_ok-place.was

@@ -29,17 +29,17 @@ load-head-requires g c =
 pub loop-init : goal.loop-init
 loop-init g c =
     let stacks = c.args.self.now in
-    let told = c.load-head.ensures.2 stacks.table.shared.key (account_of c.args.holder.now) c.args.stack c.requires.made.hand (ap (λ p. p + c.args.stack) stacks.keyed_places) in
+    let answered = c.load-head.ensures.2 stacks.table.shared.key (account_of c.args.holder.now) c.args.stack c.requires.made.hand (ap (λ p. p + c.args.stack) stacks.keyed_places) in
     record {
       known = (account_of c.args.holder.now).known;
-      looked = told.1.0;
+      looked = answered.1.0;
       table = c.load-head.ensures.0 ∙ c.requires.made.table;
-      hand = told.1.2;
+      hand = answered.1.2;
       beside = λ q ne. refl;
       longer = omega arith;
-      some = told.0;
+      some = answered.0;
       counted = omega arith;
-      few = told.1.1;
+      few = answered.1.1;
     }
 
 pub store-requires : goal.store-requires
@@ -81,9 +81,9 @@ loop-preserved g c =
     let new : Holder = record { seat = c.compare_exchange-found.new.seat } in
     let b : Account = ready stacks old c.loop.holder c.args.stack c.args.back c.loop.head c.loop.counter was in
     let hand = c.store.ensures.2 stacks.table.shared.key _ c.args.back was.hand (sym c.index.ensures.value) in
-    let told = c.compare_exchange-found.ensures.2 stacks.table.shared.key b c.args.stack hand (ap (λ p. p + c.args.stack) stacks.keyed_places) in
+    let answered = c.compare_exchange-found.ensures.2 stacks.table.shared.key b c.args.stack hand (ap (λ p. p + c.args.stack) stacks.keyed_places) in
     let table = c.compare_exchange-found.ensures.0 ∙ (c.store.ensures.0 ∙ was.table) in
-    tries_more stacks old c.loop.holder c.args.stack c.args.back c.loop.head c.loop.counter was new c.compare_exchange-found.result table (told.1 (search rules))
+    tries_more stacks old c.loop.holder c.args.stack c.args.back c.loop.head c.loop.counter was new c.compare_exchange-found.result table (answered.1 (search rules))
 
 pub returns-then-found-head : goal.returns-then-found-head
 returns-then-found-head g c =
@@ -93,10 +93,10 @@ returns-then-found-head g c =
     let new : Holder = record { seat = c.compare_exchange-found.new.seat } in
     let b : Account = ready stacks old c.loop.holder c.args.stack c.args.back c.loop.head c.loop.counter was in
     let hand = c.store.ensures.2 stacks.table.shared.key _ c.args.back was.hand (sym c.index.ensures.value) in
-    let told = c.compare_exchange-found.ensures.2 stacks.table.shared.key b c.args.stack hand (ap (λ p. p + c.args.stack) stacks.keyed_places) in
+    let answered = c.compare_exchange-found.ensures.2 stacks.table.shared.key b c.args.stack hand (ap (λ p. p + c.args.stack) stacks.keyed_places) in
     let table = c.compare_exchange-found.ensures.0 ∙ (c.store.ensures.0 ∙ was.table) in
     let now : (s : List Place) → IsReady stacks old c.args.front c.args.back s → Makes stacks.table.shared.key b (Push c.args.stack s) (forgets s b.known) new.seat.me.0 = λ s chain.
-    told.0 c.if-found-head.true s (omega (arith, c.to_word-link.ensures.value) ∙ ap link_to (sym chain.starts)) chain.once
+    answered.0 c.if-found-head.true s (omega (arith, c.to_word-link.ensures.value) ∙ ap link_to (sym chain.starts)) chain.once
     (ready_known stacks old c.loop.holder c.args.stack c.args.back c.loop.head c.loop.counter was s c.args.front chain) in
     let is : (s : List Place) → IsReady stacks old c.args.front c.args.back s → Stepped old new (Push c.args.stack s) (forgets s b.known) = λ s chain. stepped stacks old new b _ _ table (now s chain) refl refl refl in
     record {

@@ -22,11 +22,11 @@ returns g c =
     let stacks = c.args.self.now in
     let old = c.args.holder.now in
     let new : Holder = record { seat = c.store.new.seat } in
-    let told = c.store.ensures.2 stacks.table.shared.key (account_of old) c.args.place c.requires.made.hand (sym c.index.ensures.value) in
+    let answered = c.store.ensures.2 stacks.table.shared.key (account_of old) c.args.place c.requires.made.hand (sym c.index.ensures.value) in
     let table = c.store.ensures.0 ∙ c.requires.made.table in
-    let is = stepped stacks old new (account_of old) _ _ table told refl refl refl in
+    let is = stepped stacks old new (account_of old) _ _ table answered refl refl refl in
     record {
-      made = made_is_of stacks old new (account_of old) _ _ table told;
+      made = made_is_of stacks old new (account_of old) _ _ table answered;
       step = is.step;
       released = release_holds (record_of old) (record_of new) c.args.place is.step.gained c.requires.held;
       chains = release_keeps stacks old new c.args.place is;

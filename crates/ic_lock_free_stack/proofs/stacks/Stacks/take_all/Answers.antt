@@ -24,14 +24,14 @@ swap-found-requires g c =
 pub overflow_sub-found : goal.overflow_sub-found
 overflow_sub-found g c =
     let stacks = c.args.self.now in
-    let told = c.swap-found.ensures.2 stacks.table.shared.key (account_of c.args.holder.now) c.args.stack c.requires.made.hand (ap (λ p. p + c.args.stack) stacks.keyed_places) in
-    link_full (first told.members) c.swap-found.result told.first_is
+    let answered = c.swap-found.ensures.2 stacks.table.shared.key (account_of c.args.holder.now) c.args.stack c.requires.made.hand (ap (λ p. p + c.args.stack) stacks.keyed_places) in
+    link_full (first answered.members) c.swap-found.result answered.first_is
 
 pub from_word-requires : goal.from_word-requires
 from_word-requires g c =
     let stacks = c.args.self.now in
-    let told = c.swap-found.ensures.2 stacks.table.shared.key (account_of c.args.holder.now) c.args.stack c.requires.made.hand (ap (λ p. p + c.args.stack) stacks.keyed_places) in
-    link_fits (first told.members) c.swap-found.result told.first_is
+    let answered = c.swap-found.ensures.2 stacks.table.shared.key (account_of c.args.holder.now) c.args.stack c.requires.made.hand (ap (λ p. p + c.args.stack) stacks.keyed_places) in
+    link_fits (first answered.members) c.swap-found.result answered.first_is
 
 pub returns : goal.returns
 returns g c =
@@ -39,18 +39,18 @@ returns g c =
     let old = c.args.holder.now in
     let new : Holder = record { seat = c.swap-found.new.seat } in
     let chain : Chain = record { first = c.from_word.result } in
-    let told = c.swap-found.ensures.2 stacks.table.shared.key (account_of old) c.args.stack c.requires.made.hand (ap (λ p. p + c.args.stack) stacks.keyed_places) in
+    let answered = c.swap-found.ensures.2 stacks.table.shared.key (account_of old) c.args.stack c.requires.made.hand (ap (λ p. p + c.args.stack) stacks.keyed_places) in
     let table = c.swap-found.ensures.0 ∙ c.requires.made.table in
-    let is = stepped stacks old new (account_of old) _ _ table told.made refl refl refl in
-    let starts = c.from_word.ensures ∙ link_names (first told.members) c.swap-found.result told.first_is in
+    let is = stepped stacks old new (account_of old) _ _ table answered.made refl refl refl in
+    let starts = c.from_word.ensures ∙ link_names (first answered.members) c.swap-found.result answered.first_is in
     record {
-      made = made_is_of stacks old new (account_of old) _ _ table told.made;
+      made = made_is_of stacks old new (account_of old) _ _ table answered.made;
       took = (
-        told.members,
-        told.once,
+        answered.members,
+        answered.once,
         is.step,
-        take_holds (record_of old) (record_of new) c.args.stack told.members is.step.gained told.free,
-        take_has stacks old new c.args.stack told.members told.free is chain told.once starts (λ p member. subst (λ k. index_of p < k) stacks.keyed_places (told.inside p member)),
+        take_holds (record_of old) (record_of new) c.args.stack answered.members is.step.gained answered.free,
+        take_has stacks old new c.args.stack answered.members answered.free is chain answered.once starts (λ p member. subst (λ k. index_of p < k) stacks.keyed_places (answered.inside p member)),
       );
-      chains = take_keeps stacks old new c.args.stack told.members told.free is;
+      chains = take_keeps stacks old new c.args.stack answered.members answered.free is;
     }

@@ -1,7 +1,7 @@
 use Rattle.std.proofs.Common.{◌≡◌, ◌∙◌, false, ap, arith, below_more}
 use Rattle.ic_program.specs.Text.{begins_with}
 use Rattle.ic_program.proofs.TextLemmas.{no_space}
-use Rattle.ic_program.proofs.LineLemmas.{says_nothing, says_call_behind, says_none, behind_same}
+use Rattle.ic_program.proofs.LineLemmas.{says_nothing, says_call_after, says_none, after_same}
 use Rattle.ic_program.proofs.line.Line.first_of.Goals as goal
 
 pub returns-in-Some-clause-said : goal.returns-in-Some-clause-said
@@ -9,17 +9,17 @@ returns-in-Some-clause-said c = says_nothing c.args.text.now c.in-Some.ensures.0
 
 pub returns-in-Some-call_at-clause-said : goal.returns-in-Some-call_at-clause-said
 returns-in-Some-call_at-clause-said c =
-    says_call_behind c.args.text.now c.without_spaces-start.result.now c.in-Some-call_at.command c.without_spaces-start.ensures c.in-Some-call_at.ensures.said.0
+    says_call_after c.args.text.now c.without_spaces-start.result.now c.in-Some-call_at.command c.without_spaces-start.ensures c.in-Some-call_at.ensures.said.0
 
 pub returns-in-Some-call_at-clause-behind : goal.returns-in-Some-call_at-clause-behind
-returns-in-Some-call_at-clause-behind c = behind_same c.args.text.now c.without_spaces-start.result.now _ c.without_spaces-start.ensures c.in-Some-call_at.ensures.said.1
+returns-in-Some-call_at-clause-behind c = after_same c.args.text.now c.without_spaces-start.result.now _ c.without_spaces-start.ensures c.in-Some-call_at.ensures.said.1
 
 pub returns-in-Some-call_at-2-clause-said : goal.returns-in-Some-call_at-2-clause-said
 returns-in-Some-call_at-2-clause-said c =
-    says_call_behind c.args.text.now c.without_spaces-start.result.now c.in-Some-call_at-2.command c.without_spaces-start.ensures c.in-Some-call_at-2.ensures.said.0
+    says_call_after c.args.text.now c.without_spaces-start.result.now c.in-Some-call_at-2.command c.without_spaces-start.ensures c.in-Some-call_at-2.ensures.said.0
 
 pub returns-in-Some-call_at-2-clause-behind : goal.returns-in-Some-call_at-2-clause-behind
-returns-in-Some-call_at-2-clause-behind c = behind_same c.args.text.now c.without_spaces-start.result.now _ c.without_spaces-start.ensures c.in-Some-call_at-2.ensures.said.1
+returns-in-Some-call_at-2-clause-behind c = after_same c.args.text.now c.without_spaces-start.result.now _ c.without_spaces-start.ensures c.in-Some-call_at-2.ensures.said.1
 
 pub loop-slot-preserved : goal.loop-slot-preserved
 loop-slot-preserved c =

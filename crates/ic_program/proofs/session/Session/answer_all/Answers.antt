@@ -2,7 +2,7 @@ use Rattle.std.proofs.Common.{◌≡◌, ◌++◌, List, ℕ, drop, take, refl, 
 use Rattle.std.specs.Str.Lines.{lines}
 use Rattle.ic_program.proofs.TextLemmas.{slice_from}
 use Rattle.ic_program.proofs.PieceLemmas.{ended_lines}
-use Rattle.ic_program.proofs.AnsweredLemmas.{all_of_front, stop_in_front, short_in_front, short_first, both_steps, step_and_stop, step_and_short, passed_far, kept_far, on_ok, unless_loss_map}
+use Rattle.ic_program.proofs.AnsweredLemmas.{all_of_front, stop_before, short_before, short_first, both_steps, step_and_stop, step_and_short, passed_far, kept_far, on_ok, unless_loss_map}
 use Rattle.ic_program.proofs.CutLemmas.{cut_nothing}
 use Rattle.ic_program.proofs.session.Session.answer_all.Goals as goal
 
@@ -18,9 +18,9 @@ returns-in_err-answer_lines g c =
     passed_far _ stop _ _ _ _ _ _ _ _ c.from_residual-in_err-answer_lines.ensures
     (unless_loss_map stop
     (λ short. step_and_short _ (lines (cut ++ (rest ++ more))) _ _ _ _ _ _ _ (c.in_ok-rest.ensures.answered more)
-    (short_in_front (lines (take n rest)) (lines ((cut ++ drop n rest) ++ more)) _ _ _ _ split short))
+    (short_before (lines (take n rest)) (lines ((cut ++ drop n rest) ++ more)) _ _ _ _ split short))
     (λ stopped. step_and_stop _ (lines (cut ++ (rest ++ more))) stop _ _ _ _ _ _ _ _ _ (c.in_ok-rest.ensures.answered more)
-    (stop_in_front (lines (take n rest)) (lines ((cut ++ drop n rest) ++ more)) _ stop _ _ _ _ _ _ split stopped))
+    (stop_before (lines (take n rest)) (lines ((cut ++ drop n rest) ++ more)) _ stop _ _ _ _ _ _ split stopped))
     c.in_err-answer_lines.ensures)
 
 pub returns : goal.returns

@@ -3,7 +3,7 @@ use Rattle.std.specs.Str.Lines.{lines}
 use Rattle.std.proofs.lemmas.Option.{same_Some}
 use Rattle.ic_program.proofs.TextLemmas.{slice_from}
 use Rattle.ic_program.proofs.PieceLemmas.{cut_ended}
-use Rattle.ic_program.proofs.AnsweredLemmas.{none_first, all_of_front, stop_in_front, short_in_front, short_none, passed_far, lost_far, unless_loss_map}
+use Rattle.ic_program.proofs.AnsweredLemmas.{none_first, all_of_front, stop_before, short_before, short_none, passed_far, lost_far, unless_loss_map}
 use Rattle.ic_program.proofs.session.Session.answer_cut.Goals as goal
 
 pub returns-then-is_empty-clause-answered : goal.returns-then-is_empty-clause-answered
@@ -22,9 +22,9 @@ returns-in_err-answered-clause-answered g c =
     let stop = c.in_err-answered.field-0.0 in
     λ more. passed_far _ stop _ _ _ _ _ _ _ _ c.from_residual-in_err-answered.ensures
     (unless_loss_map stop
-    (short_in_front (lines c.deref.result.now) (lines (drop (feed + 1) bytes ++ more)) _ _ _ _
+    (short_before (lines c.deref.result.now) (lines (drop (feed + 1) bytes ++ more)) _ _ _ _
     (cut_ended c.args.cut.now.items bytes more c.deref.result.now feed c.in-Some.ensures.0.high (eqb-true _ 10 c.in-Some.ensures.1) (c.deref.ensures.value ∙ c.in_ok-keep.ensures.kept)))
-    (stop_in_front (lines c.deref.result.now) (lines (drop (feed + 1) bytes ++ more)) _ stop _ _ _ _ _ _
+    (stop_before (lines c.deref.result.now) (lines (drop (feed + 1) bytes ++ more)) _ stop _ _ _ _ _ _
     (cut_ended c.args.cut.now.items bytes more c.deref.result.now feed c.in-Some.ensures.0.high (eqb-true _ 10 c.in-Some.ensures.1) (c.deref.ensures.value ∙ c.in_ok-keep.ensures.kept)))
     c.in_err-answered.ensures)
 

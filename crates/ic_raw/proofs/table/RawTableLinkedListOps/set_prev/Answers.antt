@@ -17,7 +17,7 @@ returns-clause-frame g c =
     changes_seen g.W.Words.width _ _ _ _ _ c.slot_of_linked-index.ensures.value
     (seen_covered g.W.Words.width g.W.Words.unlinked g.W.Words.is_linked g.met.W.Words.starts_unlinked (raw_entries c.args.self.now) c.args.place c.requires.linked)
 
-pub returns-clause-no_step : goal.returns-clause-no_step
-returns-clause-no_step g c =
+pub returns-clause-trace_stays : goal.returns-clause-trace_stays
+returns-clause-trace_stays g c =
     let covered = seen_covered g.W.Words.width g.W.Words.unlinked g.W.Words.is_linked g.met.W.Words.starts_unlinked (raw_entries c.args.self.now) c.args.place c.requires.linked in
     says_kept g.W.Words.width g.W.Words.unlinked g.W.Words.is_linked (raw_entries c.args.self.now) c.args.place _ _ _ c.slot_of_linked-index.result c.slot_of_linked-index.ensures.value covered refl c.set_prev.ensures.linked

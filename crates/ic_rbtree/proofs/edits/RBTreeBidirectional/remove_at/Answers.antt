@@ -1,9 +1,7 @@
 use Rattle.std.proofs.Common.{refl, [], ◌∷◌, ◌++◌, List, drop, ◌≡◌, ap, ◌∙◌, sym, append_assoc}
-use Rattle.ic_unsafe_ref.specs.declared.place.Place.{Place}
-use Rattle.ic_link_ops.specs.Sequences.{Cut, join, IsBefore}
+use Rattle.ic_link_ops.specs.Prelude.{Place, Cut, join, IsBefore, IsSecondAfter}
 use Rattle.ic_link_ops.specs.Edits.{Removes}
-use Rattle.ic_link_ops.specs.Positions.{IsBehind}
-use Rattle.ic_rbtree.specs.Kept.{ShowsKept}
+use Rattle.ic_rbtree.specs.Kept.{RepresentsKept}
 use Rattle.ic_link_ops.proofs.SequenceLemmas.{first_is, last_of_push}
 use Rattle.ic_link_ops.proofs.Positions.{gap_there, removed_stands}
 use Rattle.ic_rbtree.proofs.edits.RBTreeBidirectional.remove_at.Goals as goal
@@ -13,15 +11,15 @@ pub remove-requires : goal.remove-requires
 remove-requires g c =
     let k = gap_there c.requires.stands in record { member = (k.0, k.1, sym c.in_ok-place.was ∙ (c.get.ensures ∙ k.2)) }
 
--- the member is gone, of whatever sequence was shown
-removes : (g : Over) (c : goal.After-remove g) (gap : Cut) → ShowsKept g.E.TreeHead.kept g.L.RBTreeOps.node (g.L.LinkOps.table c.args.links.now) c.args.self.now.head (join gap)
+-- the member is gone, of whatever sequence was represented
+removes : (g : Over) (c : goal.After-remove g) (gap : Cut) → RepresentsKept g.E.TreeHead.kept g.L.RBTreeOps.node (g.L.LinkOps.table c.args.links.now) c.args.self.now.head (join gap)
     → IsBefore gap c.args.at.now
-    → Removes (ShowsKept g.E.TreeHead.kept g.L.RBTreeOps.node) (g.L.LinkOps.table c.args.links.now) (g.L.LinkOps.table c.remove.new.links) c.remove.new.head gap
+    → Removes (RepresentsKept g.E.TreeHead.kept g.L.RBTreeOps.node) (g.L.LinkOps.table c.args.links.now) (g.L.LinkOps.table c.remove.new.links) c.remove.new.head gap
 removes g c gap shown before = c.remove.ensures.removed gap shown (sym c.in_ok-place.was ∙ (c.get.ensures ∙ before))
 
--- and the position is on the one behind it
-moves : (g : Over) (c : goal.After-remove g) (gap : Cut) → ShowsKept g.E.TreeHead.kept g.L.RBTreeOps.node (g.L.LinkOps.table c.args.links.now) c.args.self.now.head (join gap)
-    → IsBefore gap c.args.at.now → IsBehind gap c.next_of.result
+-- and the position is on the one after it
+moves : (g : Over) (c : goal.After-remove g) (gap : Cut) → RepresentsKept g.E.TreeHead.kept g.L.RBTreeOps.node (g.L.LinkOps.table c.args.links.now) c.args.self.now.head (join gap)
+    → IsBefore gap c.args.at.now → IsSecondAfter gap c.next_of.result
 moves g c gap shown before =
     let p = c.in_ok-place.place in
     let is = sym c.in_ok-place.was ∙ c.get.ensures in

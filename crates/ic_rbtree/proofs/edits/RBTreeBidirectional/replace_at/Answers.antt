@@ -1,7 +1,7 @@
 use Rattle.std.proofs.Common.{refl, sym, ◌∙◌}
 use Rattle.ic_link_ops.specs.Sequences.{Cut, join, IsBefore}
 use Rattle.ic_link_ops.specs.Edits.{Replaces}
-use Rattle.ic_rbtree.specs.Kept.{ShowsKept}
+use Rattle.ic_rbtree.specs.Kept.{RepresentsKept}
 use Rattle.ic_link_ops.proofs.Positions.{gap_there, replaced_stands}
 use Rattle.ic_cursors.proofs.Placed.{put_there}
 use Rattle.ic_rbtree.proofs.edits.RBTreeBidirectional.replace_at.Goals as goal
@@ -10,10 +10,10 @@ use Rattle.ic_rbtree.proofs.edits.RBTreeBidirectional.replace_at.Given.{Over}
 pub replace-requires-clause-member : goal.replace-requires-clause-member
 replace-requires-clause-member g c = let k = gap_there c.requires.stands in (k.0, k.1, sym c.in-Some.is ∙ (c.get.ensures ∙ k.2))
 
--- the object stands in the member's place, in whatever sequence was shown
-replaces : (g : Over) (c : goal.After-of g) (gap : Cut) → ShowsKept g.E.TreeHead.kept g.L.RBTreeOps.node (g.L.LinkOps.table c.args.links.now) c.args.self.now.head (join gap)
+-- the object stands in the member's place, in whatever sequence was represented
+replaces : (g : Over) (c : goal.After-of g) (gap : Cut) → RepresentsKept g.E.TreeHead.kept g.L.RBTreeOps.node (g.L.LinkOps.table c.args.links.now) c.args.self.now.head (join gap)
     → IsBefore gap c.args.at.now
-    → Replaces (ShowsKept g.E.TreeHead.kept g.L.RBTreeOps.node) (g.L.LinkOps.table c.args.links.now) (g.L.LinkOps.table c.replace.new.links) c.replace.new.head gap c.args.object
+    → Replaces (RepresentsKept g.E.TreeHead.kept g.L.RBTreeOps.node) (g.L.LinkOps.table c.args.links.now) (g.L.LinkOps.table c.replace.new.links) c.replace.new.head gap c.args.object
 replaces g c gap shown before = c.if-not-replace.ensures.replaced gap shown (sym c.in-Some.is ∙ (c.get.ensures ∙ before))
 
 pub returns-clause-replaced : goal.returns-clause-replaced

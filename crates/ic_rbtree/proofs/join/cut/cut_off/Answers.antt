@@ -6,11 +6,11 @@ pub detach-rest-requires-clause-low : goal.detach-rest-requires-clause-low
 detach-rest-requires-clause-low g c =
     let x = c.requires.2 in
     let low = lowest c.requires.1.frames c.args.side c.args.place x.parent_is x.side_is in
-    omega (arith, count_low g.N.Nodes.node x.cut c.args.side low.0 c.args.place low.1 low.2 low.3, x.height_is)
+    omega (arith, count_low g.N.NodeStore.node x.cut c.args.side low.0 c.args.place low.1 low.2 low.3, x.height_is)
 
 pub join_measured-requires : goal.join_measured-requires
 join_measured-requires g c =
-    let n = g.N.Nodes.node in
+    let n = g.N.NodeStore.node in
     let x = c.requires.2 in
     let low = lowest c.requires.1.frames c.args.side c.args.place x.parent_is x.side_is in
     let re = rest_is n x.cut c.args.side low.0 c.args.place low.1 low.2 low.3 c.other.ensures c.child-rest.ensures in (
@@ -20,7 +20,7 @@ join_measured-requires g c =
 
 pub join_measured-requires-in-Right : goal.join_measured-requires-in-Right
 join_measured-requires-in-Right g c =
-    let n = g.N.Nodes.node in
+    let n = g.N.NodeStore.node in
     let x = c.requires.2 in
     let low = lowest c.requires.1.frames c.args.side c.args.place x.parent_is x.side_is in
     let re = rest_is n x.cut c.args.side low.0 c.args.place low.1 low.2 low.3 c.other.ensures c.child-rest.ensures in (
@@ -30,7 +30,7 @@ join_measured-requires-in-Right g c =
 
 pub returns-in-Left-clause-cut : goal.returns-in-Left-clause-cut
 returns-in-Left-clause-cut g c root k tint b fs is level x =
-    let n = g.N.Nodes.node in
+    let n = g.N.NodeStore.node in
     let re = rest_is n x c.args.side tint c.args.place b fs is c.other.ensures c.child-rest.ensures in
     let off = c.detach-rest.ensures.detached in
     cut_back n x c.args.side tint c.args.place b fs is re level off c.in-Left.is
@@ -38,7 +38,7 @@ returns-in-Left-clause-cut g c root k tint b fs is level x =
 
 pub returns-in-Right-clause-cut : goal.returns-in-Right-clause-cut
 returns-in-Right-clause-cut g c root k tint b fs is level x =
-    let n = g.N.Nodes.node in
+    let n = g.N.NodeStore.node in
     let re = rest_is n x c.args.side tint c.args.place b fs is c.other.ensures c.child-rest.ensures in
     let off = c.detach-rest.ensures.detached in
     cut_front n x c.args.side tint c.args.place b fs is re level off c.in-Right.is

@@ -7,8 +7,8 @@ use Rattle.ic_rbtree.proofs.join.roots.black_height.Given as goal
 
 abbrev pub invariant-loop : goal.invariant-loop
 invariant-loop g l =
-    let n = g.N.Nodes.node in
-    let v = g.N.Nodes.table l.links in
+    let n = g.N.NodeStore.node in
+    let v = g.N.NodeStore.table l.links in
     record {
       each : (t : Tree) → IsRootOf n v l.fn.root t → (u : Tree) × IsRootOf n v l.at u × (l.count + blacks u ≡ blacks t) × (height u + l.counter ≤ height t);
       small : l.count ≤ l.counter;

@@ -4,14 +4,14 @@ use Rattle.ic_link_ops.specs.Shape.{blacks, IsRight}
 use Rattle.ic_link_ops.specs.Tables.{Table}
 use Rattle.ic_link_ops.specs.Trees.{Tree}
 use Rattle.ic_rbtree.specs.Join.{IsSpine}
-use Rattle.ic_rbtree.specs.Pieces.{Piece, Stands}
+use Rattle.ic_rbtree.specs.Pieces.{Piece, ClimbState}
 use Rattle.ic_rbtree.proofs.join.roots.descend_spine.Given as goal
 
 abbrev pub invariant-loop : goal.invariant-loop
 invariant-loop g l =
-    let n = g.N.Nodes.node in
-    let v = g.N.Nodes.table l.links in
+    let n = g.N.NodeStore.node in
+    let v = g.N.NodeStore.table l.links in
     record {
-      each : (base : Table g.row.N-Entry.Denot) (t : Tree) (ps : List Piece) → Stands n base v l.fn.root [] t ps → IsRight t → l.fn.count ≡ blacks t → l.want ≤ l.fn.count
+      each : (base : Table g.row.N-Entry.Denot) (t : Tree) (ps : List Piece) → ClimbState n base v l.fn.root [] t ps → IsRight t → l.fn.count ≡ blacks t → l.want ≤ l.fn.count
           → (gs : List Frame) × (u : Tree) × IsSpine n base v l.fn.root l.side t ps l.at l.above l.count gs u × (l.want ≤ l.count) × (length gs ≡ l.counter);
     }

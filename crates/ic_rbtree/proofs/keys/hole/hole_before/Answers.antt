@@ -1,16 +1,14 @@
 use Rattle.std.proofs.Common.{◌≡◌, ◌+◌, true, false, IsSome, ◌∷◌, ◌++◌, refl, sym, ◌∙◌, subst, arith}
-use Rattle.ic_unsafe_ref.specs.Objects.{object_at}
-use Rattle.ic_link_ops.specs.PlacedObjects.{ArePlaced}
-use Rattle.ic_link_ops.specs.Sequences.{Cut}
+use Rattle.ic_link_ops.specs.Prelude.{object_at, Cut, ArePlaced}
 use Rattle.ic_link_ops.proofs.Each.{all_front, all_back}
 use Rattle.ic_link_ops.proofs.SequenceLemmas.{some_same}
-use Rattle.ic_link_ops.proofs.ShownTrees.{one_sequence}
+use Rattle.ic_link_ops.proofs.RepresentedTrees.{one_sequence}
 use Rattle.ic_rbtree.specs.Borders.{less_at}
 use Rattle.ic_rbtree.specs.Comparing.{compared}
 use Rattle.ic_rbtree.specs.Holes.{less_there, looks_there}
 use Rattle.ic_rbtree.proofs.LookBounds.{last_is_placed, one_look}
-use Rattle.ic_rbtree.proofs.Removing.{spot, spot_linked, shown_of}
-use Rattle.ic_rbtree.proofs.ShownClosed.{among, among_there, shown_closed}
+use Rattle.ic_rbtree.proofs.Removing.{spot, spot_linked, represented_of}
+use Rattle.ic_rbtree.proofs.RepresentedClosed.{among, among_there, represented_closed}
 use Rattle.ic_rbtree.proofs.keys.hole.hole_before.Goals as goal
 
 pub is_less-requires-clause-placed : goal.is_less-requires-clause-placed
@@ -24,7 +22,7 @@ pub step_within-front-requires : goal.step_within-front-requires
 step_within-front-requires g c =
     let n = g.L.RBTreeOps.node in
     let m = c.requires.member in
-    (λ q. among q (m.front ++ c.args.place ∷ m.back), shown_closed n (shown_of n m.shown), (among_there c.args.place m.front m.back, tt))
+    (λ q. among q (m.front ++ c.args.place ∷ m.back), represented_closed n (represented_of n m.shown), (among_there c.args.place m.front m.back, tt))
 
 pub is_less-requires-2-clause-placed : goal.is_less-requires-2-clause-placed
 is_less-requires-2-clause-placed g c =
@@ -39,7 +37,7 @@ pub hole_between-requires : goal.hole_between-requires
 hole_between-requires g c =
     let n = g.L.RBTreeOps.node in
     let m = c.requires.member in
-    sym (g.met.L.RBTreeOps.linked_alike _) ∙ spot_linked n (spot n m.front c.args.place m.back (shown_of n m.shown))
+    sym (g.met.L.RBTreeOps.linked_alike _) ∙ spot_linked n (spot n m.front c.args.place m.back (represented_of n m.shown))
 
 pub returns-clause-hole : goal.returns-clause-hole
 returns-clause-hole g c s h =

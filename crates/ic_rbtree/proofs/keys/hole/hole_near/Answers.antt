@@ -1,10 +1,10 @@
 use Rattle.std.proofs.Common.{◌≤◌, ◌+◌, length, ◌∙◌, subst, arith}
 use Rattle.ic_link_ops.specs.declared.side.Side.TheVariants.{Right}
-use Rattle.ic_link_ops.proofs.ShownTrees.{one_sequence}
+use Rattle.ic_link_ops.proofs.RepresentedTrees.{one_sequence}
 use Rattle.ic_rbtree.specs.Comparing.{compared}
 use Rattle.ic_rbtree.specs.Descents.{EndsAt}
 use Rattle.ic_rbtree.proofs.InOrder.{ended_in_order}
-use Rattle.ic_rbtree.proofs.LookBounds.{with_member, few_there, few_behind}
+use Rattle.ic_rbtree.proofs.LookBounds.{with_member, few_there, few_after}
 use Rattle.ic_rbtree.proofs.keys.hole.hole_near.Goals as goal
 
 pub returns-in-Some-clause-looks : goal.returns-in-Some-clause-looks
@@ -30,7 +30,7 @@ returns-clause-looks g c s h =
     record {
       looks = k.0 + d.looks;
       counted = omega (arith, k.1, d.counted);
-      few = few_behind s k.0 d.looks k.2 (d.fewer some);
+      few = few_after s k.0 d.looks k.2 (d.fewer some);
       at_hint = λ b. absurd (c.in_default.ensures.elsewhere s h b);
       order_is = d.order_is ∙ c.in_default.ensures.same;
     }

@@ -2,7 +2,7 @@ use Rattle.std.proofs.Common.{◌∷◌, ◌++◌, Option, None, refl, sym, ◌�
 use Rattle.ic_unsafe_ref.specs.declared.place.Place.{Place}
 use Rattle.ic_link_ops.proofs.SequenceLemmas.{none_not}
 use Rattle.ic_rbtree.specs.Closed.{IsIn}
-use Rattle.ic_rbtree.specs.Pieces.{Shown}
+use Rattle.ic_rbtree.specs.Pieces.{Represented}
 use Rattle.ic_rbtree.proofs.Attaching.{hole, attached_first, attached_red}
 use Rattle.ic_rbtree.proofs.Closed.{in_there, in_linked, restarted}
 use Rattle.ic_rbtree.proofs.Low.{frames_low}
@@ -15,13 +15,13 @@ set_node-requires g c =
 pub set_node-requires-in-Some : goal.set_node-requires-in-Some
 set_node-requires-in-Some g c =
     let r = c.requires in
-    record { linked = r.1.linked c.args.place r.2.0; left = λ q e. absurd (none_not q e); right = λ q e. absurd (none_not q e); parent = λ q e. in_linked g.N.Nodes.node r.1 r.2.1.0 q (c.in-Some.is ∙ e) }
+    record { linked = r.1.linked c.args.place r.2.0; left = λ q e. absurd (none_not q e); right = λ q e. absurd (none_not q e); parent = λ q e. in_linked g.N.NodeStore.node r.1 r.2.1.0 q (c.in-Some.is ∙ e) }
 
 pub set_child-requires : goal.set_child-requires
 set_child-requires g c =
     let r = c.requires in
-    let same = g.met.N.Nodes.quiet_keeps _ _ c.set_node-in-Some.ensures.quiet in
-    record { linked = same c.in-Some.above ∙ r.1.linked c.in-Some.above (in_there r.0 r.2.1.0 c.in-Some.is); named = λ q e. same q ∙ in_linked g.N.Nodes.node r.1 r.2.0 q e }
+    let same = g.met.N.NodeStore.keeps_links_keeps _ _ c.set_node-in-Some.ensures.keeps_links in
+    record { linked = same c.in-Some.above ∙ r.1.linked c.in-Some.above (in_there r.0 r.2.1.0 c.in-Some.is); named = λ q e. same q ∙ in_linked g.N.NodeStore.node r.1 r.2.0 q e }
 
 pub insert_fixup-requires : goal.insert_fixup-requires
 insert_fixup-requires g c =
@@ -32,17 +32,17 @@ insert_fixup-requires g c =
 
 pub returns-in-None-clause-attached : goal.returns-in-None-clause-attached
 returns-in-None-clause-attached g c base gap ps shown at =
-    let n = g.N.Nodes.node in
-    subst (λ (o : Option Place). Shown n base (g.N.Nodes.table c.set_node.new.links) o (gap.front ++ c.args.place ∷ gap.back) ps) (sym c.of.ensures)
+    let n = g.N.NodeStore.node in
+    subst (λ (o : Option Place). Represented n base (g.N.NodeStore.table c.set_node.new.links) o (gap.front ++ c.args.place ∷ gap.back) ps) (sym c.of.ensures)
     (attached_first n c.args.parent c.args.side gap c.args.place c.set_node.ensures.set c.set_node.ensures.frame c.in-None.is shown at)
 
 pub returns-in-None-clause-safe : goal.returns-in-None-clause-safe
 returns-in-None-clause-safe g c S h i =
-    restarted g.N.Nodes.node (c.set_node.ensures.safe c.args.root.now S h (tt, (tt, (tt, tt)))) (subst (λ o. IsIn S o) (sym c.of.ensures) i.0)
+    restarted g.N.NodeStore.node (c.set_node.ensures.safe c.args.root.now S h (tt, (tt, (tt, tt)))) (subst (λ o. IsIn S o) (sym c.of.ensures) i.0)
 
 pub returns-in-Some-clause-attached : goal.returns-in-Some-clause-attached
 returns-in-Some-clause-attached g c base gap ps shown at =
-    let n = g.N.Nodes.node in
+    let n = g.N.NodeStore.node in
     let x = hole n c.args.parent c.in-Some.above c.args.side gap c.in-Some.is shown at in
     (c.insert_fixup.ensures.restored _
     (attached_red n c.in-Some.above c.args.side gap.front gap.back c.args.place c.set_node-in-Some.ensures.set c.set_node-in-Some.ensures.frame c.set_child.ensures.set c.set_child.ensures.frame x)
@@ -55,7 +55,7 @@ returns-in-Some-clause-safe g c S h i =
     let up = in_there S i.1.0 c.in-Some.is in
     (c.insert_fixup.ensures.safe S (c.set_child.ensures.safe root None S (c.set_node-in-Some.ensures.safe root S h (tt, (tt, (up, tt)))) (i.0, tt)) (i.0, (up, tt))).0
 
-pub returns-in-Some-clause-quiet : goal.returns-in-Some-clause-quiet
-returns-in-Some-clause-quiet g c =
-    let on = g.met.N.Nodes.quiet_on in
-    on _ _ _ c.set_node-in-Some.ensures.quiet (on _ _ _ c.set_child.ensures.quiet c.insert_fixup.ensures.quiet)
+pub returns-in-Some-clause-keeps_links : goal.returns-in-Some-clause-keeps_links
+returns-in-Some-clause-keeps_links g c =
+    let on = g.met.N.NodeStore.keeps_links_on in
+    on _ _ _ c.set_node-in-Some.ensures.keeps_links (on _ _ _ c.set_child.ensures.keeps_links c.insert_fixup.ensures.keeps_links)

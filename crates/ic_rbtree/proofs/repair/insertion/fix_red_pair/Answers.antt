@@ -9,14 +9,14 @@ side_of-requires g c = let r = c.requires in r.1.linked c.args.grand r.2.1.1.0
 
 pub returns-in-Left-clause-fixed : goal.returns-in-Left-clause-fixed
 returns-in-Left-clause-fixed g c i m k h =
-    let n = g.N.Nodes.node in
+    let n = g.N.NodeStore.node in
     let same = sym c.in-Left.is ∙ pair_side n h c.side_of.result c.side_of.ensures in
-    subst (λ (z : Side). FixesRedPairOn n (g.N.Nodes.table c.args.links.now) (g.N.Nodes.table c.fix_red_pair_on.new.links) c.args.root.now c.fix_red_pair_on.new.root
+    subst (λ (z : Side). FixesRedPairOn n (g.N.NodeStore.table c.args.links.now) (g.N.NodeStore.table c.fix_red_pair_on.new.links) c.args.root.now c.fix_red_pair_on.new.root
     c.args.place c.args.parent c.args.grand z c.fix_red_pair_on.result) same c.fix_red_pair_on.ensures.fixed m k h
 
 pub returns-in-Right-clause-fixed : goal.returns-in-Right-clause-fixed
 returns-in-Right-clause-fixed g c i m k h =
-    let n = g.N.Nodes.node in
+    let n = g.N.NodeStore.node in
     let same = sym c.in-Right.is ∙ pair_side n h c.side_of.result c.side_of.ensures in
-    subst (λ (z : Side). FixesRedPairOn n (g.N.Nodes.table c.args.links.now) (g.N.Nodes.table c.fix_red_pair_on-in-Right.new.links) c.args.root.now c.fix_red_pair_on-in-Right.new.root
+    subst (λ (z : Side). FixesRedPairOn n (g.N.NodeStore.table c.args.links.now) (g.N.NodeStore.table c.fix_red_pair_on-in-Right.new.links) c.args.root.now c.fix_red_pair_on-in-Right.new.root
     c.args.place c.args.parent c.args.grand z c.fix_red_pair_on-in-Right.result) same c.fix_red_pair_on-in-Right.ensures.fixed m k h

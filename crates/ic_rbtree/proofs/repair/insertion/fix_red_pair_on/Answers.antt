@@ -6,25 +6,25 @@ use Rattle.ic_rbtree.proofs.repair.insertion.fix_red_pair_on.Goals as goal
 
 pub is_red-requires : goal.is_red-requires
 is_red-requires g c =
-    let n = g.N.Nodes.node in
+    let n = g.N.NodeStore.node in
     let r = c.requires in
     in_linked n r.1 (in_child n r.1 _ c.args.grand r.2.1.1.0 c.child-uncle.ensures)
 
 pub recolor-requires-clause-uncle : goal.recolor-requires-clause-uncle
 recolor-requires-clause-uncle g c =
-    let n = g.N.Nodes.node in
+    let n = g.N.NodeStore.node in
     let r = c.requires in
     in_linked n r.1 (in_child n r.1 _ c.args.grand r.2.1.1.0 c.child-uncle.ensures) c.in_ok-red.red c.in_ok-red.was
 
 pub returns-in_err-red-clause-fixed : goal.returns-in_err-red-clause-fixed
 returns-in_err-red-clause-fixed g c m k h =
-    let n = g.N.Nodes.node in
+    let n = g.N.NodeStore.node in
     let is = uncle_is n h c.other-far.result c.child-uncle.result c.other-far.ensures c.child-uncle.ensures in
     absurd (not_none c.child-uncle.result (uncle_some n h (sym (uncle_red n h c.child-uncle.result is c.is_red.result c.is_red.ensures) ∙ c.if-is_red.true) c.child-uncle.result is) c.in_err-red.was)
 
 pub returns-then-is_red-clause-fixed : goal.returns-then-is_red-clause-fixed
 returns-then-is_red-clause-fixed g c m k h =
-    let n = g.N.Nodes.node in
+    let n = g.N.NodeStore.node in
     let is = uncle_is n h c.other-far.result c.child-uncle.result c.other-far.ensures c.child-uncle.ensures in
     fixed_higher n h c.in_ok-red.red (sym is ∙ c.in_ok-red.was) (sym (uncle_red n h c.child-uncle.result is c.is_red.result c.is_red.ensures) ∙ c.if-is_red.true) c.recolor.ensures.recolored
 
@@ -42,7 +42,7 @@ rotate-requires g c =
 
 pub returns-clause-fixed : goal.returns-clause-fixed
 returns-clause-fixed g c m k h =
-    let n = g.N.Nodes.node in
+    let n = g.N.NodeStore.node in
     let is = uncle_is n h c.other-far.result c.child-uncle.result c.other-far.ensures c.child-uncle.ensures in
     fixed_pair n h
     (fixed_here n c.rotate_inner_grandchild-upper.result c.args.grand c.args.side m k

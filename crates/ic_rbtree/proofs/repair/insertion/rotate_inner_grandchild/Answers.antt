@@ -7,12 +7,12 @@ rotate-requires g c = let r = c.requires in (r.0, r.1, (r.2.1.0, (r.2.0, tt)))
 
 pub returns-then-not-is_across-clause-outer_grandchild : goal.returns-then-not-is_across-clause-outer_grandchild
 returns-then-not-is_across-clause-outer_grandchild g c gr m k h =
-    let n = g.N.Nodes.node in
+    let n = g.N.NodeStore.node in
     outer_now n h (sym (low_side n h c.side_of-low.result c.side_of-low.ensures) ∙ same_is c.side_of-low.result c.args.side (sym c.is_across.ensures ∙ c.if-not-is_across.true))
 
 pub returns-clause-outer_grandchild : goal.returns-clause-outer_grandchild
 returns-clause-outer_grandchild g c gr m k h =
-    let n = g.N.Nodes.node in
+    let n = g.N.NodeStore.node in
     outer_then n h (sym (low_side n h c.side_of-low.result c.side_of-low.ensures) ∙ across_is c.side_of-low.result c.args.side (sym c.is_across.ensures ∙ c.if-not-is_across.false)) c.rotate.ensures.rotated
 
 pub returns-then-not-is_across-clause-safe : goal.returns-then-not-is_across-clause-safe

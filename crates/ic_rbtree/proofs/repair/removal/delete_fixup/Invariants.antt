@@ -10,12 +10,12 @@ use Rattle.ic_rbtree.proofs.repair.removal.delete_fixup.Given as goal
 
 abbrev pub invariant-loop : goal.invariant-loop
 invariant-loop g l =
-    let n = g.N.Nodes.node in
-    let old = g.N.Nodes.table l.fn.links in
-    let now = g.N.Nodes.table l.links in
+    let n = g.N.NodeStore.node in
+    let old = g.N.NodeStore.table l.fn.links in
+    let now = g.N.NodeStore.table l.links in
     record {
       each : (k : Focus g.row.N-Entry.Denot) → Short n old l.fn.root l.fn.parent l.fn.side k → length k.frames < turns
           → (gs : List Frame) × (u : Tree) × Short n now l.root l.parent l.side (record k { frames = gs; subtree = u }) × (length gs < turns - l.counter);
       safe : (S : Place → Bool) → IsClosed n old l.fn.root S → IsIn S l.fn.parent → IsClosed n now l.root S × IsIn S l.parent;
-      quiet : g.N.Nodes.Quiet l.fn.links l.links;
+      keeps_links : g.N.NodeStore.KeepsLinks l.fn.links l.links;
     }

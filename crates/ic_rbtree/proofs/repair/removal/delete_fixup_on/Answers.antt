@@ -13,7 +13,7 @@ pub has_red_child-requires : goal.has_red_child-requires
 has_red_child-requires g c =
     let r = c.requires in
     let k = c.blacken_sibling.ensures.safe r.0 r.1 r.2 in
-    closed_read g.N.Nodes.node k.0 c.in-Some.sibling (in_there r.0 k.1.0 c.in-Some.is)
+    closed_read g.N.NodeStore.node k.0 c.in-Some.sibling (in_there r.0 k.1.0 c.in-Some.is)
 
 pub rotate_far_nephew-requires : goal.rotate_far_nephew-requires
 rotate_far_nephew-requires g c =
@@ -23,7 +23,7 @@ rotate_far_nephew-requires g c =
 
 pub returns-then-has_red_child-clause-restored : goal.returns-then-has_red_child-clause-restored
 returns-then-has_red_child-clause-restored g c x sib k h =
-    let n = g.N.Nodes.node in
+    let n = g.N.NodeStore.node in
     let l = c.in-Some.ensures.black_sibling x sib k h in
     (λ e. c.rotate_far_nephew.ensures.restored l.color l.sibling (record k { frames = l.frames }) l.beside (sym (sib_tells n l.beside) ∙ (sym c.has_red_child.ensures ∙ c.if-has_red_child.true)), λ e. cc)
 
@@ -43,7 +43,7 @@ redden_sibling-requires-clause-sibling g c =
 
 pub returns-clause-restored : goal.returns-clause-restored
 returns-clause-restored g c x sib k h =
-    let n = g.N.Nodes.node in
+    let n = g.N.NodeStore.node in
     let l = c.in-Some.ensures.black_sibling x sib k h in
     let f = c.redden_sibling.ensures.reddened c.blacken_sibling.new.root c.args.side l.color l.sibling (record k { frames = l.frames }) l.beside (sym (sib_tells n l.beside) ∙ (sym c.has_red_child.ensures ∙ c.if-has_red_child.false)) in
     (f.1, λ e. risen n k _ f.0 e l.red_or_same (f.2 e))

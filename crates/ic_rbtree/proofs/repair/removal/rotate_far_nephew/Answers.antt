@@ -19,14 +19,14 @@ child-requires g c = let r = c.requires in let k = c.rotate_near_nephew.ensures.
 pub returns-in_default-child-clause-restored : goal.returns-in_default-child-clause-restored
 returns-in_default-child-clause-restored g c x sib k h red =
     let l = c.in-Some.ensures.red_far_nephew c.args.place x sib k h red in
-    absurd (none_not l.far (sym c.in_default-child.is ∙ outer_some g.N.Nodes.node l c.other-far.result c.child.result c.other-far.ensures c.child.ensures))
+    absurd (none_not l.far (sym c.in_default-child.is ∙ outer_some g.N.NodeStore.node l c.other-far.result c.child.result c.other-far.ensures c.child.ensures))
 
 pub returns-in_default-child-clause-safe : goal.returns-in_default-child-clause-safe
 returns-in_default-child-clause-safe g c S h i = ((c.rotate_near_nephew.ensures.safe S h i.1).0, tt)
 
 pub set_color-requires : goal.set_color-requires
 set_color-requires g c =
-    let n = g.N.Nodes.node in
+    let n = g.N.NodeStore.node in
     let r = c.requires in
     let k = c.rotate_near_nephew.ensures.safe r.0 r.1 r.2.1 in
     in_linked n k.0 (in_child n k.0 _ c.in-Some.upper (in_there r.0 k.1.0 c.in-Some.is) c.child.ensures) c.in-Some-child.outer c.in-Some-child.is
@@ -39,7 +39,7 @@ rotate-requires g c =
 
 pub returns-clause-restored : goal.returns-clause-restored
 returns-clause-restored g c x sib k h red =
-    let n = g.N.Nodes.node in
+    let n = g.N.NodeStore.node in
     let l = c.in-Some.ensures.red_far_nephew c.args.place x sib k h red in
     let f = some_same (sym c.in-Some-child.is ∙ outer_some n l c.other-far.result c.child.result c.other-far.ensures c.child.ensures) in
     far_rotated n l c.in-Some-child.outer f c.set_color.ensures.set c.set_color.ensures.frame c.color-color.result (color_here n l c.color-color.result c.color-color.ensures) c.rotate.ensures.rotated
@@ -49,7 +49,7 @@ returns-clause-safe g c S h i =
     let k = c.rotate_near_nephew.ensures.safe S h i.1 in
     c.rotate.ensures.safe S (c.set_color.ensures.safe c.rotate_near_nephew.new.root None S k.0 tt) (i.0, (in_there S k.1.0 c.in-Some.is, tt))
 
-pub returns-clause-quiet : goal.returns-clause-quiet
-returns-clause-quiet g c =
-    let on = g.met.N.Nodes.quiet_on in
-    on _ _ _ c.rotate_near_nephew.ensures.quiet (on _ _ _ c.set_color.ensures.quiet c.rotate.ensures.quiet)
+pub returns-clause-keeps_links : goal.returns-clause-keeps_links
+returns-clause-keeps_links g c =
+    let on = g.met.N.NodeStore.keeps_links_on in
+    on _ _ _ c.rotate_near_nephew.ensures.keeps_links (on _ _ _ c.set_color.ensures.keeps_links c.rotate.ensures.keeps_links)

@@ -7,13 +7,13 @@ use Rattle.ic_rbtree.proofs.repair.removal.splice_out.Goals as goal
 
 pub side_below-side-requires : goal.side_below-side-requires
 side_below-side-requires g c =
-    let n = g.N.Nodes.node in
+    let n = g.N.NodeStore.node in
     let r = c.requires in
     in_linked n r.1 (in_parent n r.1 c.args.place r.2.0 c.parent-parent.ensures)
 
 pub change_child-requires : goal.change_child-requires
 change_child-requires g c =
-    let n = g.N.Nodes.node in
+    let n = g.N.NodeStore.node in
     let r = c.requires in
     record {
       parent = in_linked n r.1 (in_parent n r.1 c.args.place r.2.0 c.parent-parent.ensures);
@@ -22,7 +22,7 @@ change_child-requires g c =
 
 pub close_gap-requires : goal.close_gap-requires
 close_gap-requires g c =
-    let n = g.N.Nodes.node in
+    let n = g.N.NodeStore.node in
     let r = c.requires in
     let child = in_only n r.1 c.args.place r.2.0 c.only_child-child.ensures in
     let up = in_parent n r.1 c.args.place r.2.0 c.parent-parent.ensures in
@@ -30,7 +30,7 @@ close_gap-requires g c =
 
 pub returns-clause-taken : goal.returns-clause-taken
 returns-clause-taken g c base fs x ps s lone right =
-    let n = g.N.Nodes.node in
+    let n = g.N.NodeStore.node in
     c.close_gap.ensures.closed (without n base fs x (loose c.args.place ∷ ps))
     (taken_out n c.args.root.now c.change_child.new.root _ _ _ _ fs x c.args.place ps c.only_child-child.ensures c.parent-parent.ensures c.color-color.ensures c.side_below-side.ensures
     c.change_child.ensures.moved s lone right)
@@ -38,7 +38,7 @@ returns-clause-taken g c base fs x ps s lone right =
 
 pub returns-clause-safe : goal.returns-clause-safe
 returns-clause-safe g c S h i =
-    let n = g.N.Nodes.node in
+    let n = g.N.NodeStore.node in
     let child = in_only n h c.args.place i.0 c.only_child-child.ensures in
     let up = in_parent n h c.args.place i.0 c.parent-parent.ensures in
     c.close_gap.ensures.safe S (c.change_child.ensures.safe None S h (child, tt)) (child, (up, tt))

@@ -14,7 +14,7 @@ pub returns-in-Some-clause-moved : goal.returns-in-Some-clause-moved
 returns-in-Some-clause-moved g c = changes_child_some _ _ _ _ _ _ c.in-Some.parent _ _ c.in-Some.is c.side_of-side.ensures c.set_child.ensures.set c.set_child.ensures.frame
 
 pub returns-in_default-clause-safe : goal.returns-in_default-clause-safe
-returns-in_default-clause-safe g c but S h i = restarted g.N.Nodes.node h (subst (λ o. IsIn S o) (sym c.of.ensures) i.0)
+returns-in_default-clause-safe g c but S h i = restarted g.N.NodeStore.node h (subst (λ o. IsIn S o) (sym c.of.ensures) i.0)
 
 pub returns-in-Some-clause-safe : goal.returns-in-Some-clause-safe
 returns-in-Some-clause-safe g c but S h i = c.set_child.ensures.safe c.args.root.now but S h i

@@ -1,8 +1,7 @@
 use Rattle.std.proofs.Common.{◌∙◌, refl, sym, subst}
-use Rattle.ic_unsafe_ref.specs.declared.place.Place.{Place}
-use Rattle.ic_unsafe_ref.specs.Objects.{Objects}
+use Rattle.ic_link_ops.specs.Prelude.{Place, Objects}
 use Rattle.ic_rbtree.specs.Comparing.{compared, own_order}
-use Rattle.ic_rbtree.specs.Kept.{ShowsKept}
+use Rattle.ic_rbtree.specs.Kept.{RepresentsKept}
 use Rattle.ic_rbtree.specs.Ordered.{InsertsInOrder}
 use Rattle.ic_rbtree.proofs.InOrder.{still_kept, fits_safe, fitted, own_is}
 use Rattle.ic_rbtree.proofs.KeptHeads.{shown, room_new}
@@ -35,7 +34,7 @@ pub returns-clause-inserted : goal.returns-clause-inserted
 returns-clause-inserted g c s h =
     let n = g.L.RBTreeOps.node in
     let alike = g.met.L.RBTreeOps.linked_alike in
-    let Shows = ShowsKept g.E.TreeHead.kept n in
+    let Represents = RepresentsKept g.E.TreeHead.kept n in
     let l = g.met.L.LinkOps.does_replay _ _ _ c.if-not-acquire_link.ensures.acquired in
     let own = own_order g.A.Key.Ord.cmp (g.A.KeyAdapter.key_of c.args.self.now.adapter) in
     let before = g.L.LinkOps.table c.args.links.now in
@@ -43,10 +42,10 @@ returns-clause-inserted g c s h =
     let head = c.attach.new.self in
     let values = g.L.Values.values c.acquire_link.new.self in
     let x = c.hole_for-parent.ensures.hole s (still_kept n g.L.LinkOps.linked alike l.was l.is c.acquire_link.ensures.frame (g.E.TreeHead.kept c.args.self.now.head) s h) in
-    subst (λ (p : Place). InsertsInOrder Shows (compared (own (g.L.Values.values c.args.links.now) p) (g.L.Values.values c.args.links.now)) before after head s p) c.place-place.ensures
-    (subst (λ (o : Objects g.row.A-Value.Denot). InsertsInOrder Shows (compared (own o c.place-place.result) o) before after head s c.place-place.result)
+    subst (λ (p : Place). InsertsInOrder Represents (compared (own (g.L.Values.values c.args.links.now) p) (g.L.Values.values c.args.links.now)) before after head s p) c.place-place.ensures
+    (subst (λ (o : Objects g.row.A-Value.Denot). InsertsInOrder Represents (compared (own o c.place-place.result) o) before after head s c.place-place.result)
     (g.met.L.LinkValues.values_stay _ _ c.acquire_link.ensures.frame.extent)
-    (subst (λ order. InsertsInOrder Shows (compared order values) before after head s c.place-place.result)
+    (subst (λ order. InsertsInOrder Represents (compared order values) before after head s c.place-place.result)
     (own_is g.A.Key.Ord.cmp g.A.KeyAdapter.key_of values c.new-probe.ensures.adapter (c.new-probe.ensures.key ∙ c.get_key.ensures) refl c.value.ensures)
     (fitted n g.L.LinkOps.linked alike l.was l.is c.acquire_link.ensures.frame g.E.TreeHead.kept c.args.self.now.head head h x c.attach.ensures.attached c.attach.ensures.ends)))
 

@@ -1,8 +1,7 @@
 use Rattle.std.proofs.Common.{◌≡◌, sym, subst}
-use Rattle.ic_unsafe_ref.specs.declared.place.Place.{Place}
-use Rattle.ic_unsafe_ref.specs.Objects.{Objects}
+use Rattle.ic_link_ops.specs.Prelude.{Place, Objects}
 use Rattle.ic_rbtree.specs.Comparing.{compared}
-use Rattle.ic_rbtree.specs.Kept.{ShowsKept, InsertLooks}
+use Rattle.ic_rbtree.specs.Kept.{RepresentsKept, InsertLooks}
 use Rattle.ic_rbtree.specs.Ordered.{InsertsInOrder}
 use Rattle.ic_rbtree.proofs.InOrder.{still_kept, fits_safe, fitted}
 use Rattle.ic_rbtree.proofs.KeptHeads.{shown}
@@ -32,15 +31,15 @@ pub returns-clause-inserted : goal.returns-clause-inserted
 returns-clause-inserted g c s h =
     let n = g.L.RBTreeOps.node in
     let alike = g.met.L.RBTreeOps.linked_alike in
-    let Shows = ShowsKept g.E.TreeHead.kept n in
+    let Represents = RepresentsKept g.E.TreeHead.kept n in
     let l = g.met.L.LinkOps.does_replay _ _ _ c.if-not-acquire_link.ensures.acquired in
     let order = g.P.Probe.order c.args.probe.now in
     let before = g.L.LinkOps.table c.args.links.now in
     let after = g.L.LinkOps.table c.attach.new.nodes in
     let head = c.attach.new.self in
     let x = c.hole_for-parent.ensures.hole s (still_kept n g.L.LinkOps.linked alike l.was l.is c.acquire_link.ensures.frame (g.E.TreeHead.kept c.args.self.now.head) s h) in
-    subst (λ (p : Place). InsertsInOrder Shows (compared order (g.L.Values.values c.args.links.now)) before after head s p) c.place-place.ensures
-    (subst (λ (o : Objects g.row.A-Value.Denot). InsertsInOrder Shows (compared order o) before after head s c.place-place.result)
+    subst (λ (p : Place). InsertsInOrder Represents (compared order (g.L.Values.values c.args.links.now)) before after head s p) c.place-place.ensures
+    (subst (λ (o : Objects g.row.A-Value.Denot). InsertsInOrder Represents (compared order o) before after head s c.place-place.result)
     (g.met.L.LinkValues.values_stay _ _ c.acquire_link.ensures.frame.extent)
     (fitted n g.L.LinkOps.linked alike l.was l.is c.acquire_link.ensures.frame g.E.TreeHead.kept c.args.self.now.head head h x c.attach.ensures.attached c.attach.ensures.ends))
 

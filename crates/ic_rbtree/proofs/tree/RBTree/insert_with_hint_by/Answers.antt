@@ -1,9 +1,9 @@
 use Rattle.std.proofs.Common.{subst}
 use Rattle.ic_rbtree.specs.Comparing.{compared}
 use Rattle.ic_rbtree.specs.Holes.{HintedLooks}
-use Rattle.ic_rbtree.specs.Kept.{ShowsKept}
+use Rattle.ic_rbtree.specs.Kept.{RepresentsKept}
 use Rattle.ic_rbtree.specs.Ordered.{InsertsInOrder}
-use Rattle.ic_rbtree.proofs.InOrder.{still_shown, fits_safe, fitted}
+use Rattle.ic_rbtree.proofs.InOrder.{still_represented, fits_safe, fitted}
 use Rattle.ic_rbtree.proofs.KeptHeads.{shown, placed_root, member_root}
 use Rattle.ic_rbtree.proofs.tree.RBTree.insert_with_hint_by.Goals as goal
 
@@ -11,7 +11,7 @@ pub hole_near-parent-requires-clause-placed : goal.hole_near-parent-requires-cla
 hole_near-parent-requires-clause-placed g c =
     let r = placed_root (g.E.TreeHead.kept c.args.self.now.head) c.requires.placed in
     let l = g.met.L.LinkOps.does_replay _ _ _ c.if-not-acquire_link.ensures.acquired in
-    rw c.root-root.ensures (record { members = r.members; shown = still_shown g.L.RBTreeOps.node g.L.LinkOps.linked g.met.L.RBTreeOps.linked_alike l.was l.is c.acquire_link.ensures.frame r.shown; placed = r.placed })
+    rw c.root-root.ensures (record { members = r.members; shown = still_represented g.L.RBTreeOps.node g.L.LinkOps.linked g.met.L.RBTreeOps.linked_alike l.was l.is c.acquire_link.ensures.frame r.shown; placed = r.placed })
 
 pub hole_near-parent-requires-clause-member : goal.hole_near-parent-requires-clause-member
 hole_near-parent-requires-clause-member g c =
@@ -19,7 +19,7 @@ hole_near-parent-requires-clause-member g c =
     let n = g.L.RBTreeOps.node in
     let l = g.met.L.LinkOps.does_replay _ _ _ c.if-not-acquire_link.ensures.acquired in
     rw (c.root-root.ensures, c.place.ensures)
-    (record { front = m.front; back = m.back; shown = still_shown n g.L.LinkOps.linked g.met.L.RBTreeOps.linked_alike l.was l.is c.acquire_link.ensures.frame m.shown })
+    (record { front = m.front; back = m.back; shown = still_represented n g.L.LinkOps.linked g.met.L.RBTreeOps.linked_alike l.was l.is c.acquire_link.ensures.frame m.shown })
 
 pub attach-requires : goal.attach-requires
 attach-requires g c =
@@ -27,7 +27,7 @@ attach-requires g c =
     let alike = g.met.L.RBTreeOps.linked_alike in
     let r = placed_root (g.E.TreeHead.kept c.args.self.now.head) c.requires.placed in
     let l = g.met.L.LinkOps.does_replay _ _ _ c.if-not-acquire_link.ensures.acquired in
-    let x = c.hole_near-parent.ensures.hole r.members (rw c.root-root.ensures (still_shown n g.L.LinkOps.linked alike l.was l.is c.acquire_link.ensures.frame r.shown)) in
+    let x = c.hole_near-parent.ensures.hole r.members (rw c.root-root.ensures (still_represented n g.L.LinkOps.linked alike l.was l.is c.acquire_link.ensures.frame r.shown)) in
     fits_safe n g.L.LinkOps.linked alike l.was l.is c.acquire_link.ensures.frame r.shown x
 
 pub returns-clause-inserted : goal.returns-clause-inserted
@@ -35,8 +35,8 @@ returns-clause-inserted g c s h =
     let n = g.L.RBTreeOps.node in
     let alike = g.met.L.RBTreeOps.linked_alike in
     let l = g.met.L.LinkOps.does_replay _ _ _ c.if-not-acquire_link.ensures.acquired in
-    let x = c.hole_near-parent.ensures.hole s (rw c.root-root.ensures (still_shown n g.L.LinkOps.linked alike l.was l.is c.acquire_link.ensures.frame (shown (g.E.TreeHead.kept c.args.self.now.head) h))) in
-    subst (λ z. InsertsInOrder (ShowsKept g.E.TreeHead.kept n) (compared (g.P.Probe.order c.args.probe.now) (g.O.Values.values c.args.objects.now))
+    let x = c.hole_near-parent.ensures.hole s (rw c.root-root.ensures (still_represented n g.L.LinkOps.linked alike l.was l.is c.acquire_link.ensures.frame (shown (g.E.TreeHead.kept c.args.self.now.head) h))) in
+    subst (λ z. InsertsInOrder (RepresentsKept g.E.TreeHead.kept n) (compared (g.P.Probe.order c.args.probe.now) (g.O.Values.values c.args.objects.now))
     (g.L.LinkOps.table c.args.links.now) (g.L.LinkOps.table c.attach.new.nodes) c.attach.new.self s z) c.place-place.ensures
     (fitted n g.L.LinkOps.linked alike l.was l.is c.acquire_link.ensures.frame g.E.TreeHead.kept c.args.self.now.head c.attach.new.self h x c.attach.ensures.attached c.attach.ensures.ends)
 
@@ -45,4 +45,4 @@ returns-clause-looks g c s h =
     let l = g.met.L.LinkOps.does_replay _ _ _ c.if-not-acquire_link.ensures.acquired in
     subst (λ z. HintedLooks g.P.Probe.order g.P.Probe.count (g.O.Values.values c.args.objects.now) z c.args.probe.now c.hole_near-parent.new.probe s) c.place.ensures
     (c.hole_near-parent.ensures.looks s
-    (rw c.root-root.ensures (still_shown g.L.RBTreeOps.node g.L.LinkOps.linked g.met.L.RBTreeOps.linked_alike l.was l.is c.acquire_link.ensures.frame (shown (g.E.TreeHead.kept c.args.self.now.head) h))))
+    (rw c.root-root.ensures (still_represented g.L.RBTreeOps.node g.L.LinkOps.linked g.met.L.RBTreeOps.linked_alike l.was l.is c.acquire_link.ensures.frame (shown (g.E.TreeHead.kept c.args.self.now.head) h))))

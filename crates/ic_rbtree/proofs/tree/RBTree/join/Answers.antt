@@ -1,10 +1,10 @@
 use Rattle.std.proofs.Common.{Option, sym, subst}
 use Rattle.ic_unsafe_ref.specs.declared.place.Place.{Place}
 use Rattle.ic_link_ops.specs.Edits.{Inserts}
-use Rattle.ic_link_ops.specs.RedBlackTree.{Shows}
-use Rattle.ic_rbtree.specs.Kept.{root_kept, ShowsKept}
+use Rattle.ic_link_ops.specs.RedBlackTree.{Represents}
+use Rattle.ic_rbtree.specs.Kept.{root_kept, RepresentsKept}
 use Rattle.ic_rbtree.proofs.Attaching.{inserts}
-use Rattle.ic_rbtree.proofs.KeptHeads.{told, inserts_kept, parts_root}
+use Rattle.ic_rbtree.proofs.KeptHeads.{printed, inserts_kept, parts_root}
 use Rattle.ic_rbtree.proofs.Pairs.{can_join, joinable, joinable_pair, joined}
 use Rattle.ic_rbtree.proofs.tree.RBTree.join.Goals as goal
 
@@ -27,6 +27,6 @@ returns-clause-joined g c gap shown =
     let x = can_join n g.L.LinkOps.linked g.met.L.RBTreeOps.linked_alike l.was l.is c.acquire_link.ensures.frame (parts_root kept shown) in
     let i = inserts n old now new (root_kept (kept c.args.self.now.head)) c.join-root.result c.place-place.result gap c.acquire_link.ensures.frame
     (joined n x (c.join-root.ensures.joined (joinable n x) (joinable_pair n x c.root.ensures c.root-2.ensures))) in
-    subst (λ (z : Place). Inserts (ShowsKept kept n) old new head gap z) c.place-place.ensures
-    (inserts_kept kept head (subst (λ (o : Option Place). Inserts (Shows n) old new o gap c.place-place.result) (sym c.join.ensures.root) i)
-    (c.join.ensures.ends gap.front gap.back (told n old (kept c.args.self.now.head) gap.front shown.front) (told n old (kept c.args.other.now.head) gap.back shown.back)))
+    subst (λ (z : Place). Inserts (RepresentsKept kept n) old new head gap z) c.place-place.ensures
+    (inserts_kept kept head (subst (λ (o : Option Place). Inserts (Represents n) old new o gap c.place-place.result) (sym c.join.ensures.root) i)
+    (c.join.ensures.ends gap.front gap.back (printed n old (kept c.args.self.now.head) gap.front shown.front) (printed n old (kept c.args.other.now.head) gap.back shown.back)))

@@ -2,7 +2,7 @@ use Rattle.std.proofs.Common.{[], sym, ◌∙◌, subst, append-nil}
 use Rattle.ic_link_ops.specs.Sequences.{but_last}
 use Rattle.ic_link_ops.specs.declared.side.Side.TheVariants.{Right}
 use Rattle.ic_link_ops.proofs.SequenceLemmas.{split_last, but_last_of_none}
-use Rattle.ic_rbtree.specs.Kept.{ShowsKept}
+use Rattle.ic_rbtree.specs.Kept.{RepresentsKept}
 use Rattle.ic_rbtree.proofs.KeptHeads.{has_ends, end_is, object_there}
 use Rattle.ic_rbtree.proofs.tree.RBTree.pop_back.Goals as goal
 
@@ -16,7 +16,7 @@ remove-requires g c =
       member = record {
         front = but_last r.0;
         back = [];
-        shown = subst (ShowsKept g.E.TreeHead.kept g.L.RBTreeOps.node (g.L.LinkOps.table c.args.links.now) c.args.self.now.head) (split_last r.0 (sym (object_there g.L.RBTreeOps.node (g.L.LinkOps.table c.args.links.now) Right (g.E.TreeHead.kept c.args.self.now.head) r.0 c.last.ensures r.1 c.in_ok-last.was c.new-object.ensures))) r.1;
+        shown = subst (RepresentsKept g.E.TreeHead.kept g.L.RBTreeOps.node (g.L.LinkOps.table c.args.links.now) c.args.self.now.head) (split_last r.0 (sym (object_there g.L.RBTreeOps.node (g.L.LinkOps.table c.args.links.now) Right (g.E.TreeHead.kept c.args.self.now.head) r.0 c.last.ensures r.1 c.in_ok-last.was c.new-object.ensures))) r.1;
       };
     }
 
@@ -25,14 +25,14 @@ returns-clause-answer g c s h = object_there g.L.RBTreeOps.node (g.L.LinkOps.tab
 
 pub returns-clause-removed : goal.returns-clause-removed
 returns-clause-removed g c s h =
-    subst (λ z. ShowsKept g.E.TreeHead.kept g.L.RBTreeOps.node (g.L.LinkOps.table c.remove.new.links) c.remove.new.self.head z) (append-nil (but_last s))
+    subst (λ z. RepresentsKept g.E.TreeHead.kept g.L.RBTreeOps.node (g.L.LinkOps.table c.remove.new.links) c.remove.new.self.head z) (append-nil (but_last s))
     (c.remove.ensures.removed (but_last s) []
-    (subst (ShowsKept g.E.TreeHead.kept g.L.RBTreeOps.node (g.L.LinkOps.table c.args.links.now) c.args.self.now.head) (split_last s (sym (object_there g.L.RBTreeOps.node (g.L.LinkOps.table c.args.links.now) Right (g.E.TreeHead.kept c.args.self.now.head) s c.last.ensures h c.in_ok-last.was c.new-object.ensures))) h))
+    (subst (RepresentsKept g.E.TreeHead.kept g.L.RBTreeOps.node (g.L.LinkOps.table c.args.links.now) c.args.self.now.head) (split_last s (sym (object_there g.L.RBTreeOps.node (g.L.LinkOps.table c.args.links.now) Right (g.E.TreeHead.kept c.args.self.now.head) s c.last.ensures h c.in_ok-last.was c.new-object.ensures))) h))
 
 pub returns-in_err-last-clause-removed : goal.returns-in_err-last-clause-removed
 returns-in_err-last-clause-removed g c s h =
     let is = sym (end_is g.L.RBTreeOps.node (g.L.LinkOps.table c.args.links.now) Right (g.E.TreeHead.kept c.args.self.now.head) s c.last.ensures h) ∙ c.in_err-last.was in
-    subst (ShowsKept g.E.TreeHead.kept g.L.RBTreeOps.node (g.L.LinkOps.table c.args.links.now) c.args.self.now.head) (sym (but_last_of_none s is)) h
+    subst (RepresentsKept g.E.TreeHead.kept g.L.RBTreeOps.node (g.L.LinkOps.table c.args.links.now) c.args.self.now.head) (sym (but_last_of_none s is)) h
 
 pub returns-in_err-last-clause-answer : goal.returns-in_err-last-clause-answer
 returns-in_err-last-clause-answer g c s h = c.from_residual.ensures ∙ (sym c.in_err-last.was ∙ end_is g.L.RBTreeOps.node (g.L.LinkOps.table c.args.links.now) Right (g.E.TreeHead.kept c.args.self.now.head) s c.last.ensures h)

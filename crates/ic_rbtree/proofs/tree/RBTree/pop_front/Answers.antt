@@ -1,7 +1,7 @@
 use Rattle.std.proofs.Common.{[], drop, sym, ◌∙◌, subst}
 use Rattle.ic_link_ops.specs.declared.side.Side.TheVariants.{Left}
 use Rattle.ic_link_ops.proofs.SequenceLemmas.{first_is, nothing_first}
-use Rattle.ic_rbtree.specs.Kept.{ShowsKept}
+use Rattle.ic_rbtree.specs.Kept.{RepresentsKept}
 use Rattle.ic_rbtree.proofs.KeptHeads.{has_ends, end_is, object_there}
 use Rattle.ic_rbtree.proofs.tree.RBTree.pop_front.Goals as goal
 
@@ -12,7 +12,7 @@ pub remove-requires : goal.remove-requires
 remove-requires g c =
     let r = c.requires.shown in
     let is = (object_there g.L.RBTreeOps.node (g.L.LinkOps.table c.args.links.now) Left (g.E.TreeHead.kept c.args.self.now.head) r.0 c.first.ensures r.1 c.in_ok-first.was c.new-object.ensures) in
-    record { member = record { front = []; back = drop 1 r.0; shown = subst (ShowsKept g.E.TreeHead.kept g.L.RBTreeOps.node (g.L.LinkOps.table c.args.links.now) c.args.self.now.head) (first_is r.0 is) r.1 } }
+    record { member = record { front = []; back = drop 1 r.0; shown = subst (RepresentsKept g.E.TreeHead.kept g.L.RBTreeOps.node (g.L.LinkOps.table c.args.links.now) c.args.self.now.head) (first_is r.0 is) r.1 } }
 
 pub returns-clause-answer : goal.returns-clause-answer
 returns-clause-answer g c s h = object_there g.L.RBTreeOps.node (g.L.LinkOps.table c.args.links.now) Left (g.E.TreeHead.kept c.args.self.now.head) s c.first.ensures h c.in_ok-first.was c.new-object.ensures
@@ -20,7 +20,7 @@ returns-clause-answer g c s h = object_there g.L.RBTreeOps.node (g.L.LinkOps.tab
 pub returns-clause-removed : goal.returns-clause-removed
 returns-clause-removed g c s h =
     c.remove.ensures.removed [] (drop 1 s)
-    (subst (ShowsKept g.E.TreeHead.kept g.L.RBTreeOps.node (g.L.LinkOps.table c.args.links.now) c.args.self.now.head) (first_is s (object_there g.L.RBTreeOps.node (g.L.LinkOps.table c.args.links.now) Left (g.E.TreeHead.kept c.args.self.now.head) s c.first.ensures h c.in_ok-first.was c.new-object.ensures)) h)
+    (subst (RepresentsKept g.E.TreeHead.kept g.L.RBTreeOps.node (g.L.LinkOps.table c.args.links.now) c.args.self.now.head) (first_is s (object_there g.L.RBTreeOps.node (g.L.LinkOps.table c.args.links.now) Left (g.E.TreeHead.kept c.args.self.now.head) s c.first.ensures h c.in_ok-first.was c.new-object.ensures)) h)
 
 pub returns-in_err-first-clause-answer : goal.returns-in_err-first-clause-answer
 returns-in_err-first-clause-answer g c s h = c.from_residual.ensures ∙ (sym c.in_err-first.was ∙ end_is g.L.RBTreeOps.node (g.L.LinkOps.table c.args.links.now) Left (g.E.TreeHead.kept c.args.self.now.head) s c.first.ensures h)
@@ -28,5 +28,5 @@ returns-in_err-first-clause-answer g c s h = c.from_residual.ensures ∙ (sym c.
 pub returns-in_err-first-clause-removed : goal.returns-in_err-first-clause-removed
 returns-in_err-first-clause-removed g c s h =
     let none = nothing_first s (sym c.in_err-first.was ∙ end_is g.L.RBTreeOps.node (g.L.LinkOps.table c.args.links.now) Left (g.E.TreeHead.kept c.args.self.now.head) s c.first.ensures h) in
-    subst (λ z. ShowsKept g.E.TreeHead.kept g.L.RBTreeOps.node (g.L.LinkOps.table c.args.links.now) c.args.self.now.head (drop 1 z)) (sym none)
-    (subst (ShowsKept g.E.TreeHead.kept g.L.RBTreeOps.node (g.L.LinkOps.table c.args.links.now) c.args.self.now.head) none h)
+    subst (λ z. RepresentsKept g.E.TreeHead.kept g.L.RBTreeOps.node (g.L.LinkOps.table c.args.links.now) c.args.self.now.head (drop 1 z)) (sym none)
+    (subst (RepresentsKept g.E.TreeHead.kept g.L.RBTreeOps.node (g.L.LinkOps.table c.args.links.now) c.args.self.now.head) none h)

@@ -1,9 +1,9 @@
 use Rattle.std.proofs.Common.{sym, subst, append-nil}
 use Rattle.ic_link_ops.specs.Sequences.{at_back}
 use Rattle.ic_link_ops.specs.declared.side.Side.TheVariants.{Right}
-use Rattle.ic_rbtree.specs.Kept.{ShowsKept}
+use Rattle.ic_rbtree.specs.Kept.{RepresentsKept}
 use Rattle.ic_rbtree.proofs.KeptHeads.{shown, has_ends, end_is}
-use Rattle.ic_rbtree.proofs.Neighbors.{hole_behind}
+use Rattle.ic_rbtree.proofs.Neighbors.{hole_after}
 use Rattle.ic_rbtree.proofs.tree.RBTree.push_back.Goals as goal
 
 pub last-last-requires : goal.last-last-requires
@@ -15,13 +15,13 @@ insert-requires-clause-hole g c =
     let r = c.requires.shown in
     let k = g.E.TreeHead.kept c.args.self.now.head in (
       at_back r.0,
-      subst (ShowsKept g.E.TreeHead.kept n (g.L.LinkOps.table c.args.links.now) c.args.self.now.head) (sym (append-nil r.0)) r.1,
-      hole_behind n (shown k r.1) (end_is g.L.RBTreeOps.node (g.L.LinkOps.table c.args.links.now) Right k r.0 c.last-last.ensures r.1),
+      subst (RepresentsKept g.E.TreeHead.kept n (g.L.LinkOps.table c.args.links.now) c.args.self.now.head) (sym (append-nil r.0)) r.1,
+      hole_after n (shown k r.1) (end_is g.L.RBTreeOps.node (g.L.LinkOps.table c.args.links.now) Right k r.0 c.last-last.ensures r.1),
     )
 
 pub returns-clause-inserted : goal.returns-clause-inserted
 returns-clause-inserted g c s h =
     let n = g.L.RBTreeOps.node in
     let k = g.E.TreeHead.kept c.args.self.now.head in
-    rw c.place.ensures at c.if-not-insert.ensures.inserted (at_back s) (subst (ShowsKept g.E.TreeHead.kept n (g.L.LinkOps.table c.args.links.now) c.args.self.now.head) (sym (append-nil s)) h)
-    (hole_behind n (shown k h) (end_is g.L.RBTreeOps.node (g.L.LinkOps.table c.args.links.now) Right k s c.last-last.ensures h))
+    rw c.place.ensures at c.if-not-insert.ensures.inserted (at_back s) (subst (RepresentsKept g.E.TreeHead.kept n (g.L.LinkOps.table c.args.links.now) c.args.self.now.head) (sym (append-nil s)) h)
+    (hole_after n (shown k h) (end_is g.L.RBTreeOps.node (g.L.LinkOps.table c.args.links.now) Right k s c.last-last.ensures h))

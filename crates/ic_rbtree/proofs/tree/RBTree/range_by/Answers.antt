@@ -1,7 +1,5 @@
 use Rattle.std.proofs.Common.{Bool, [], refl, sym, ◌∙◌, subst, true≢false}
-use Rattle.ic_unsafe_ref.specs.declared.place.Place.{Place}
-use Rattle.ic_link_ops.specs.Sequences.{join}
-use Rattle.ic_link_ops.specs.PlacedObjects.{ArePlaced}
+use Rattle.ic_link_ops.specs.Prelude.{Place, join, ArePlaced}
 use Rattle.ic_rbtree.specs.Comparing.{compared_within, meets_lower, is_beyond}
 use Rattle.ic_rbtree.specs.Descents.{gap_in}
 use Rattle.ic_rbtree.specs.KeyProbe.{key_order}

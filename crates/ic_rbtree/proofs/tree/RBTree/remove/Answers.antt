@@ -1,5 +1,5 @@
 use Rattle.std.proofs.Common.{refl, ◌∷◌}
-use Rattle.ic_link_ops.proofs.ShownTrees.{one_sequence}
+use Rattle.ic_link_ops.proofs.RepresentedTrees.{one_sequence}
 use Rattle.ic_rbtree.proofs.KeptHeads as kept
 use Rattle.ic_rbtree.proofs.tree.RBTree.remove.Goals as goal
 

@@ -1,5 +1,5 @@
 use Rattle.std.proofs.Common.{subst, sym}
-use Rattle.ic_ring.specs.Rings.{Shows}
+use Rattle.ic_ring.specs.Rings.{Represents}
 use Rattle.ic_ring.proofs.CursorPlaces.{in_ring, moved_back, gap_ahead}
 use Rattle.ic_ring.proofs.cursor_mut.CursorMut.move_prev.Goals as goal
 
@@ -15,5 +15,5 @@ returns-clause-stands g c =
     let head = c.args.self.now.head in
     let k = c.requires.stands in
     let gap = gap_ahead head k.0.front k.0.back k.2 in
-    let shown = subst (Shows g.L.LinkedListOps.neighbors t head) (sym gap.1) k.1 in
+    let shown = subst (Represents g.L.LinkedListOps.neighbors t head) (sym gap.1) k.1 in
     (gap.0, shown, moved_back t c.prev_of-self.ensures gap.0.front gap.0.back shown gap.2)

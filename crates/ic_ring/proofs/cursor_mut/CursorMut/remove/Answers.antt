@@ -1,9 +1,9 @@
 use Rattle.std.proofs.Common.{[], ◌∷◌, drop, refl, sym, subst, ◌∙◌}
 use Rattle.ic_link_ops.proofs.DoublyLists.{neighbors_covered}
-use Rattle.ic_ring.specs.Rings.{Shows}
+use Rattle.ic_ring.specs.Rings.{Represents}
 use Rattle.ic_ring.proofs.Circles.{seen_at, ring_frame, tested_same, tested_other}
 use Rattle.ic_ring.proofs.OtherRings.{others_same}
-use Rattle.ic_ring.proofs.CursorPlaces.{in_ring, null_behind, taken_out, gone_on, gap_ahead, stands_ahead, others_without, ring_at}
+use Rattle.ic_ring.proofs.CursorPlaces.{in_ring, null_after, taken_out, gone_on, gap_ahead, stands_ahead, others_without, ring_at}
 use Rattle.ic_ring.proofs.cursor_mut.CursorMut.remove.Goals as goal
 
 pub returns-then-eq-clause-answer : goal.returns-then-eq-clause-answer
@@ -11,7 +11,7 @@ returns-then-eq-clause-answer g c = tested_same c.args.self.now.at c.args.self.n
 
 pub returns-then-eq-clause-moved : goal.returns-then-eq-clause-moved
 returns-then-eq-clause-moved g c gap shown is =
-    null_behind c.args.self.now.head gap.front gap.back shown (tested_same c.args.self.now.at c.args.self.now.head (sym c.eq.ensures ∙ c.if-eq.true)) is
+    null_after c.args.self.now.head gap.front gap.back shown (tested_same c.args.self.now.at c.args.self.now.head (sym c.eq.ensures ∙ c.if-eq.true)) is
 
 pub returns-then-eq-clause-kept : goal.returns-then-eq-clause-kept
 returns-then-eq-clause-kept g c = record {
@@ -59,7 +59,7 @@ returns-clause-kept g c = record {
       let k = c.requires.stands in
       let ahead = gap_ahead head k.0.front k.0.back k.2 in
       let gap = ahead.0 in
-      let shown = subst (Shows g.L.LinkedListOps.neighbors t head) (sym ahead.1) k.1 in
+      let shown = subst (Represents g.L.LinkedListOps.neighbors t head) (sym ahead.1) k.1 in
       stands_ahead (g.L.LinkOps.table c.unlink.new.links) head gap.front (drop 1 gap.back) (taken_out gap.front gap.back other ahead.2 shown c.unlink.ensures.taken)
       (gone_on t gap.front gap.back other ahead.2 shown c.next_of-next.ensures);
   same = (refl, refl);

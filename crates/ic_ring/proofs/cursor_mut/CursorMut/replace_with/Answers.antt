@@ -1,8 +1,8 @@
 use Rattle.std.proofs.Common.{◌∷◌, drop, refl, sym, subst, ◌∙◌}
 use Rattle.ic_link_ops.proofs.DoublyLists.{neighbors_covered}
-use Rattle.ic_ring.specs.Rings.{Shows, IsRingOf}
+use Rattle.ic_ring.specs.Rings.{Represents, IsRingOf}
 use Rattle.ic_ring.proofs.Circles.{tested_same, tested_other}
-use Rattle.ic_ring.proofs.CursorPlaces.{in_ring, gap_ahead, member_shown, stands_ahead, others_without, ring_at}
+use Rattle.ic_ring.proofs.CursorPlaces.{in_ring, gap_ahead, member_represented, stands_ahead, others_without, ring_at}
 use Rattle.ic_ring.proofs.cursor_mut.CursorMut.replace_with.Goals as goal
 
 pub returns-then-eq-clause-refused : goal.returns-then-eq-clause-refused
@@ -14,7 +14,7 @@ replace-requires-clause-member g c = rw c.new-out.ensures (in_ring (g.L.LinkOps.
 pub returns-clause-replaced : goal.returns-clause-replaced
 returns-clause-replaced g c gap shown is =
     let other = tested_other c.args.self.now.at c.args.self.now.head (sym c.eq.ensures ∙ c.if-eq.false) in
-    c.in_default.ensures.replaced c.args.self.now.head gap.front (drop 1 gap.back) (rw c.new-out.ensures (member_shown gap.front gap.back other is shown))
+    c.in_default.ensures.replaced c.args.self.now.head gap.front (drop 1 gap.back) (rw c.new-out.ensures (member_represented gap.front gap.back other is shown))
 
 pub returns-clause-kept : goal.returns-clause-kept
 returns-clause-kept g c = record {
@@ -25,8 +25,8 @@ returns-clause-kept g c = record {
       let k = c.requires.stands in
       let ahead = gap_ahead head k.0.front k.0.back k.2 in
       let gap = ahead.0 in
-      let shown = subst (Shows g.L.LinkedListOps.neighbors t head) (sym ahead.1) k.1 in
-      let put = c.in_default.ensures.replaced head gap.front (drop 1 gap.back) (rw c.new-out.ensures (member_shown gap.front gap.back other ahead.2 shown)) in
+      let shown = subst (Represents g.L.LinkedListOps.neighbors t head) (sym ahead.1) k.1 in
+      let put = c.in_default.ensures.replaced head gap.front (drop 1 gap.back) (rw c.new-out.ensures (member_represented gap.front gap.back other ahead.2 shown)) in
       rw c.place-place.ensures (stands_ahead (g.L.LinkOps.table c.replace.new.links) head gap.front (c.args.object ∷ drop 1 gap.back) put refl);
   same = (refl, refl);
   others = others_without (g.L.LinkOps.table c.args.self.now.links.now) c.requires.stands (rw c.new-out.ensures at c.replace.ensures.others);

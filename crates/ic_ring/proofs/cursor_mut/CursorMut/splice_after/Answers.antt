@@ -1,7 +1,7 @@
 use Rattle.std.proofs.Common.{◌∷◌, ◌++◌}
 use Rattle.ic_link_ops.specs.Sequences.{but_last}
 use Rattle.ic_link_ops.proofs.DoublyLists.{neighbors_covered}
-use Rattle.ic_ring.proofs.CursorPlaces.{in_ring, seen_behind, spliced_back, given_apart, others_without_both, ring_at, frame_both}
+use Rattle.ic_ring.proofs.CursorPlaces.{in_ring, seen_after, spliced_back, given_apart, others_without_both, ring_at, frame_both}
 use Rattle.ic_ring.proofs.cursor_mut.CursorMut.splice_after.Goals as goal
 
 pub splice_behind-requires : goal.splice_behind-requires
@@ -13,7 +13,7 @@ splice_behind-requires g c =
 pub returns-clause-spliced : goal.returns-clause-spliced
 returns-clause-spliced g c gap t shown is other =
     let w = but_last (c.args.self.now.head ∷ gap.front) in
-    let e = rw c.head.ensures at (c.splice_behind.ensures.spliced (gap.back ++ w) t (seen_behind gap.front gap.back is shown) (rw c.head.ensures other)) in
+    let e = rw c.head.ensures at (c.splice_behind.ensures.spliced (gap.back ++ w) t (seen_after gap.front gap.back is shown) (rw c.head.ensures other)) in
     (spliced_back gap.front gap.back t is e.0, e.1)
 
 pub returns-clause-stands : goal.returns-clause-stands
@@ -22,7 +22,7 @@ returns-clause-stands g c =
     let gap = k.0 in
     let a = c.requires.apart in
     let w = but_last (c.args.self.now.head ∷ gap.front) in
-    let e = rw c.head.ensures at (c.splice_behind.ensures.spliced (gap.back ++ w) a.0 (seen_behind gap.front gap.back k.2 k.1) (rw c.head.ensures a.1)) in
+    let e = rw c.head.ensures at (c.splice_behind.ensures.spliced (gap.back ++ w) a.0 (seen_after gap.front gap.back k.2 k.1) (rw c.head.ensures a.1)) in
     (record { front = gap.front; back = a.0 ++ gap.back }, spliced_back gap.front gap.back a.0 k.2 e.0, k.2)
 
 pub returns-clause-others : goal.returns-clause-others

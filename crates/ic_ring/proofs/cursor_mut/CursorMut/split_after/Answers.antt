@@ -1,6 +1,5 @@
 use Rattle.std.proofs.Common.{[], ◌∷◌, ◌++◌, sym, subst, append-nil}
-use Rattle.ic_link_ops.specs.Sequences.{IsAbsent}
-use Rattle.ic_link_ops.specs.Tables.{KeepsBeside}
+use Rattle.ic_link_ops.specs.Prelude.{IsAbsent, ChangesOnlyIn}
 use Rattle.ic_link_ops.proofs.DoublyLists.{neighbors_covered}
 use Rattle.ic_ring.specs.Rings.{IsCircle}
 use Rattle.ic_ring.proofs.CursorPlaces.{gap_of}
@@ -36,5 +35,5 @@ returns-clause-frame g c t other s shown =
     let law = neighbors_covered n g.L.LinkOps.table g.met.L.LinkOps.linked_is_covered g.met.L.LinkedListOps.linked_alike in
     let k = gap_of old c.requires.stands (law c.args.self.now.links.now) s shown in
     let here = subst (λ s. IsCircle n old.entry (head ∷ s)) k.1 shown in
-    subst (λ s. KeepsBeside old (g.L.LinkOps.table c.split_after.new.links) ((head ∷ s) ++ (c.args.rest.now ∷ t))) (sym k.1)
+    subst (λ s. ChangesOnlyIn old (g.L.LinkOps.table c.split_after.new.links) ((head ∷ s) ++ (c.args.rest.now ∷ t))) (sym k.1)
     (rw c.from_head-ring.ensures at (c.split_after.ensures.frame k.0.front k.0.back t (rw c.from_head-ring.ensures here) (rw c.from_head-ring.ensures k.2) other))

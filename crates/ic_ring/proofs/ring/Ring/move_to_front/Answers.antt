@@ -1,7 +1,6 @@
 use Rattle.std.proofs.Common.{List, ◌∷◌, refl, subst}
-use Rattle.ic_unsafe_ref.specs.declared.place.Place.{Place}
-use Rattle.ic_link_ops.specs.Sequences.{IsAbsent}
-use Rattle.ic_ring.specs.Rings.{Shows, ShowsBeside}
+use Rattle.ic_link_ops.specs.Prelude.{Place, IsAbsent}
+use Rattle.ic_ring.specs.Rings.{Represents, RepresentsBeside}
 use Rattle.ic_ring.proofs.ring.Ring.move_to_front.Goals as goal
 
 pub move_after-requires : goal.move_after-requires
@@ -15,7 +14,7 @@ returns-clause-left g c =
     let n = g.L.LinkedListOps.neighbors in
     let old = g.L.LinkOps.table c.args.links.now in
     let new = g.L.LinkOps.table c.move_after.new.links in
-    subst (λ at. (head : Place) (s : List Place) → ShowsBeside n old c.args.object.now head s → IsAbsent at (head ∷ s) → Shows n new head s) c.head.ensures
+    subst (λ at. (head : Place) (s : List Place) → RepresentsBeside n old c.args.object.now head s → IsAbsent at (head ∷ s) → Represents n new head s) c.head.ensures
     c.move_after.ensures.left
 
 pub returns-clause-others : goal.returns-clause-others

@@ -1,6 +1,6 @@
 use Rattle.std.proofs.Common.{◌∷◌, ◌++◌, [], drop, sym, ◌∙◌}
 use Rattle.ic_link_ops.proofs.SequenceLemmas.{first_is}
-use Rattle.ic_ring.proofs.Circles.{rotated, seen_from, behind_apart}
+use Rattle.ic_ring.proofs.Circles.{rotated, seen_from, after_apart}
 use Rattle.ic_ring.proofs.OtherRings.{others_from}
 use Rattle.ic_ring.proofs.ring.Ring.pop_front.Goals as goal
 
@@ -26,4 +26,4 @@ returns-clause-others g c =
     let ring = c.requires.shown in
     let is = first_is ring.0 (sym c.in_ok-front.was ∙ c.first.ensures ring.0 ring.1) in
     let circle = rw is at ring.1 in
-    others_from (λ r other out. behind_apart r c.args.self.now other out circle.chain.1.0.prev) c.unlink.ensures.others
+    others_from (λ r other out. after_apart r c.args.self.now other out circle.chain.1.0.prev) c.unlink.ensures.others

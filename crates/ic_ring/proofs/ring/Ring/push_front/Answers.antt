@@ -1,4 +1,4 @@
-use Rattle.ic_ring.proofs.Circles.{next_in_ring, next_stands, next_not, circle_after, behind_apart}
+use Rattle.ic_ring.proofs.Circles.{next_in_ring, next_stands, next_not, circle_after, after_apart}
 use Rattle.ic_ring.proofs.OtherRings.{others_from}
 use Rattle.ic_ring.proofs.ring.Ring.push_front.Goals as goal
 
@@ -25,7 +25,7 @@ pub returns-clause-others : goal.returns-clause-others
 returns-clause-others g c =
     let ring = c.requires.shown in
     let back = (next_stands ring.0 ring.1 (rw c.self.view_is at c.next_of-first.ensures)).1 in
-    others_from (λ r circle out. behind_apart r c.args.self.now circle out back) c.insert_between.ensures.others
+    others_from (λ r circle out. after_apart r c.args.self.now circle out back) c.insert_between.ensures.others
 
 pub returns-clause-frame : goal.returns-clause-frame
 returns-clause-frame g c s shown = record {

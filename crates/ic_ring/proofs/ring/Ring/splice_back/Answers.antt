@@ -1,8 +1,7 @@
 use Rattle.std.proofs.Common.{List, None, Some, [], ◌∷◌, ◌++◌, refl, sym, ap, ◌∙◌}
-use Rattle.ic_unsafe_ref.specs.declared.place.Place.{Place}
-use Rattle.ic_link_ops.specs.Tables.{KeepsBeside}
+use Rattle.ic_link_ops.specs.Prelude.{Place, ChangesOnlyIn}
 use Rattle.ic_link_ops.proofs.SequenceLemmas.{last_or-append, absent_left, absent_right, absent_both}
-use Rattle.ic_ring.specs.Rings.{Shows}
+use Rattle.ic_ring.specs.Rings.{Represents}
 use Rattle.ic_ring.proofs.Circles.{rotated, prev_in_ring, prev_not}
 use Rattle.ic_ring.proofs.OtherRings.{others_stay_two}
 use Rattle.ic_ring.proofs.JoinedRings.{joined_at_back}
@@ -45,14 +44,14 @@ returns-clause-spliced g c s t shown other =
     (ap Some c.head-given_head.ensures) in
     (rotated t (head ∷ s) cut.0, cut.1)
 
-pub returns-clause-no_step : goal.returns-clause-no_step
-returns-clause-no_step g c = g.met.L.LinkOps.does_on _ _ _ _ _ c.exchange.ensures.no_step c.exchange-2.ensures.no_step
+pub returns-clause-trace_stays : goal.returns-clause-trace_stays
+returns-clause-trace_stays g c = g.met.L.LinkOps.does_on _ _ _ _ _ c.exchange.ensures.trace_stays c.exchange-2.ensures.trace_stays
 
 module _ (g : Over) (c : goal.After-exchange-2 g) where
   -- nothing is changed but entries of both rings
-  kept : (s t : List Place) → Shows g.L.LinkedListOps.neighbors (g.L.LinkOps.table c.args.links.now) c.args.self.now s
-      → Shows g.L.LinkedListOps.neighbors (g.L.LinkOps.table c.args.links.now) c.args.given.now t
-      → KeepsBeside (g.L.LinkOps.table c.args.links.now) (g.L.LinkOps.table c.exchange-2.new.links) ((c.args.self.now ∷ s) ++ (c.args.given.now ∷ t))
+  kept : (s t : List Place) → Represents g.L.LinkedListOps.neighbors (g.L.LinkOps.table c.args.links.now) c.args.self.now s
+      → Represents g.L.LinkedListOps.neighbors (g.L.LinkOps.table c.args.links.now) c.args.given.now t
+      → ChangesOnlyIn (g.L.LinkOps.table c.args.links.now) (g.L.LinkOps.table c.exchange-2.new.links) ((c.args.self.now ∷ s) ++ (c.args.given.now ∷ t))
   kept s t shown other =
       let head = c.args.self.now in
       let given = c.args.given.now in

@@ -1,12 +1,10 @@
 use Rattle.std.proofs.Common.{◌≡◌, List, Some, None, [], ◌∷◌, ◌++◌, refl, sym, ◌∙◌, append_assoc}
-use Rattle.ic_unsafe_ref.specs.declared.place.Place.{Place}
-use Rattle.ic_link_ops.specs.Sequences.{last}
-use Rattle.ic_link_ops.specs.Tables.{KeepsBeside}
+use Rattle.ic_link_ops.specs.Prelude.{Place, last, ChangesOnlyIn}
 use Rattle.ic_link_ops.proofs.SequenceLemmas.{last_or-append, absent_left, absent_right, absent_both, absent_turned}
-use Rattle.ic_ring.specs.Rings.{Shows}
+use Rattle.ic_ring.specs.Rings.{Represents}
 use Rattle.ic_ring.proofs.Circles.{rotated, seen_at, prev_in_ring, prev_not}
 use Rattle.ic_ring.proofs.OtherRings.{others_stay_two}
-use Rattle.ic_ring.proofs.JoinedRings.{last_behind, last_member, joined_behind}
+use Rattle.ic_ring.proofs.JoinedRings.{last_after, last_member, joined_behind}
 use Rattle.ic_ring.proofs.ring.Ring.split_after.Goals as goal
 use Rattle.ic_ring.proofs.ring.Ring.split_after.Given.{Over}
 
@@ -40,16 +38,16 @@ returns-clause-split g c front back t shown is_at other =
     let a = c.requires.apart in
     let behind = (t ++ k ∷ []) ++ back in
     let whole = joined_behind a.1 a.2 c.exchange.ensures.joins front back t shown is_at other c.head.ensures in
-    let is_last = sym (rw c.head-2.ensures at c.prev_of-last.ensures) ∙ whole.chain.0.prev ∙ last_or-append None (h ∷ front) behind ∙ last_behind (last (h ∷ front)) t k back
-    ∙ sym (last_behind None t k back) in
+    let is_last = sym (rw c.head-2.ensures at c.prev_of-last.ensures) ∙ whole.chain.0.prev ∙ last_or-append None (h ∷ front) behind ∙ last_after (last (h ∷ front)) t k back
+    ∙ sym (last_after None t k back) in
     let cut = c.exchange-2.ensures.cuts (h ∷ front) behind whole is_at is_last in
     (cut.0, rotated t (k ∷ back) (rw (append_assoc t (k ∷ []) back) at cut.1))
 
 module _ (g : Over) (c : goal.After-exchange-2 g) where
   -- nothing is changed but entries of both rings
-  kept : (front back t : List Place) → Shows g.L.LinkedListOps.neighbors (g.L.LinkOps.table c.args.links.now) c.args.self.now (front ++ back)
-      → Some c.args.at ≡ last (c.args.self.now ∷ front) → Shows g.L.LinkedListOps.neighbors (g.L.LinkOps.table c.args.links.now) c.args.rest.now t
-      → KeepsBeside (g.L.LinkOps.table c.args.links.now) (g.L.LinkOps.table c.exchange-2.new.links) ((c.args.self.now ∷ (front ++ back)) ++ (c.args.rest.now ∷ t))
+  kept : (front back t : List Place) → Represents g.L.LinkedListOps.neighbors (g.L.LinkOps.table c.args.links.now) c.args.self.now (front ++ back)
+      → Some c.args.at ≡ last (c.args.self.now ∷ front) → Represents g.L.LinkedListOps.neighbors (g.L.LinkOps.table c.args.links.now) c.args.rest.now t
+      → ChangesOnlyIn (g.L.LinkOps.table c.args.links.now) (g.L.LinkOps.table c.exchange-2.new.links) ((c.args.self.now ∷ (front ++ back)) ++ (c.args.rest.now ∷ t))
   kept front back t shown is_at other =
       let h = c.args.self.now in
       let k = c.args.rest.now in

@@ -33,5 +33,5 @@ returns-clause-gathered g c =
       };
     }
 
-pub returns-clause-told : goal.returns-clause-told
-returns-clause-told g c = subst (g.G.Gate.Told c.args.gate.now c.args.number) c.requires.long c.gather.ensures.told
+pub returns-clause-reported : goal.returns-clause-reported
+returns-clause-reported g c = subst (g.G.Gate.Reported c.args.gate.now c.args.number) c.requires.long c.gather.ensures.reported

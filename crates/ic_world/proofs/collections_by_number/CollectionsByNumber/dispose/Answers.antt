@@ -1,7 +1,7 @@
 use Rattle.std.proofs.Common.{◌∙◌, arith, refl}
 use Rattle.std.proofs.lemmas.Option.{slice_get_read}
 use Rattle.ic_world.proofs.ByNumber.{reads_live, index_there, field_there}
-use Rattle.ic_world.proofs.TakenOut.{gone_already, number_there, taken_numbered, taken_shown}
+use Rattle.ic_world.proofs.TakenOut.{gone_already, number_there, taken_numbered, taken_represented}
 use Rattle.ic_world.proofs.collections_by_number.CollectionsByNumber.dispose.Goals as goal
 
 pub returns-then-slot : goal.returns-then-slot
@@ -50,4 +50,4 @@ returns g c =
     let ns = c.self.inside.numbers in
     let s = c.index-slot.result.now in
     let r = reads_live c.self.invariant c.args.number s (slice_get_read ns.items c.len.result c.args.number s (c.len.ensures ∙ ns.ok.0) c.if-number-len.false c.index-slot.ensures) c.if-slot.false in
-    taken_shown lists.items ns.items c.args.number s c.self.invariant r c.index_mut.result.now c.index_mut.ensures.value c.take_out-moved.result c.take_out-moved.new.list c.take_out-moved.ensures _ refl c.self.view_is
+    taken_represented lists.items ns.items c.args.number s c.self.invariant r c.index_mut.result.now c.index_mut.ensures.value c.take_out-moved.result c.take_out-moved.new.list c.take_out-moved.ensures _ refl c.self.view_is

@@ -2,7 +2,7 @@ use Rattle.std.proofs.Common.{◌∙◌, Some, map, ap, sym, arith}
 use Rattle.ic_world.specs.Collections.{its_members}
 use Rattle.ic_world.specs.ByNumber.{items_of}
 use Rattle.ic_world.specs.declared.collections_by_number.Numbered.{Numbered}
-use Rattle.ic_world.proofs.ByNumber.{reads, index_there, one_is, one_shown}
+use Rattle.ic_world.proofs.ByNumber.{reads, index_there, one_is, one_represented}
 use Rattle.ic_world.proofs.collections_by_number.CollectionsByNumber.members.Goals as goal
 
 pub index-requires-2 : goal.index-requires-2
@@ -21,4 +21,4 @@ returns g c =
     let s = c.index-slot.result.now in
     let r = reads (map items_of lists) ns c.args.number s c.self.view_is c.requires c.index-slot.ensures in
     ap (λ (x : Numbered _). Some x.members) (one_is lists ns c.args.number s r c.index.result.now c.index.ensures c.index-2.result.now c.index-2.ensures)
-    ∙ sym (ap its_members (one_shown (map items_of lists) ns c.args.number s c.self.view_is r))
+    ∙ sym (ap its_members (one_represented (map items_of lists) ns c.args.number s c.self.view_is r))

@@ -3,7 +3,7 @@ use Rattle.std.specs.Vec.{with_item}
 use Rattle.ic_world.specs.Collections.{its_members}
 use Rattle.ic_world.specs.ByNumber.{items_of}
 use Rattle.ic_world.specs.declared.collections_by_number.Numbered.{Numbered}
-use Rattle.ic_world.proofs.ByNumber.{reads, field_there, index_there, one_is, one_shown, lent_numbered, lent_shown}
+use Rattle.ic_world.proofs.ByNumber.{reads, field_there, index_there, one_is, one_represented, lent_numbered, lent_represented}
 use Rattle.ic_world.proofs.collections_by_number.CollectionsByNumber.members_mut.Goals as goal
 
 pub index_mut-list-requires : goal.index_mut-list-requires
@@ -44,9 +44,9 @@ returns g c =
     let read = c.index_mut-list.ensures.value in
     let x = c.index_mut-found.result.now in
     let at_index = c.index_mut-found.ensures.value in (
-      (refl, λ w. lent_shown lists ns c.args.number s r list read x at_index w (with_item list s.index (record { number = x.number; members = w })) refl c.self.invariant c.self.view_is),
+      (refl, λ w. lent_represented lists ns c.args.number s r list read x at_index w (with_item list s.index (record { number = x.number; members = w })) refl c.self.invariant c.self.view_is),
       record {
         writes_back = tt;
-        value = ap (λ (y : Numbered _). Some y.members) (one_is lists ns c.args.number s r list read x at_index) ∙ sym (ap its_members (one_shown (map items_of lists) ns c.args.number s c.self.view_is r));
+        value = ap (λ (y : Numbered _). Some y.members) (one_is lists ns c.args.number s r list read x at_index) ∙ sym (ap its_members (one_represented (map items_of lists) ns c.args.number s c.self.view_is r));
       },
     )

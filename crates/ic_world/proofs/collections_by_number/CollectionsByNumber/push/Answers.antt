@@ -2,7 +2,7 @@ use Rattle.std.proofs.Common.{◌≡◌, ◌∙◌, ◌++◌, ◌∷◌, [], Som
 use Rattle.std.proofs.lemmas.List.{length-map}
 use Rattle.ic_world.specs.ByNumber.{items_of, AreNumbered, by_number, in_slot}
 use Rattle.ic_world.proofs.Steps.{if_ok}
-use Rattle.ic_world.proofs.Entered.{not_refused, numbered_more, shown_more}
+use Rattle.ic_world.proofs.Entered.{not_refused, numbered_more, represented_more}
 use Rattle.ic_world.proofs.collections_by_number.CollectionsByNumber.push.Goals as goal
 
 pub invariant_of-self-2 : goal.invariant_of-self-2
@@ -25,6 +25,6 @@ returns g c =
     let more : c.push.new.self.items ≡ ns.items ++ s ∷ [] = c.push.ensures.items ∙ if_ok c.push.result _ _ (c.push.ensures.succeeds (omega (arith, room))) ∙ ap (λ xs. xs ++ s ∷ []) c.try_reserve.ensures.items in
     let number : c.len-number.result ≡ length ns.items = c.len-number.ensures ∙ c.try_reserve.new.self.ok.0 ∙ ap length c.try_reserve.ensures.items in (
       number ∙ sym (length-map ns.items (in_slot ls)) ∙ ap length c.self.view_is,
-      ap (by_number new) more ∙ shown_more {new = new} c.self.invariant c.args.field (record { number = c.len-number.result; members = c.args.members }) s c.in-Some.ensures number
+      ap (by_number new) more ∙ represented_more {new = new} c.self.invariant c.args.field (record { number = c.len-number.result; members = c.args.members }) s c.in-Some.ensures number
           ∙ ap (λ xs. xs ++ Some (record { field = c.args.field; members = c.args.members }) ∷ []) c.self.view_is,
     )

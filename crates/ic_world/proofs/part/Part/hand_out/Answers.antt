@@ -1,4 +1,4 @@
-use Rattle.ic_any_collection.specs.AnyTables.{look}
+use Rattle.ic_any_collection.specs.AnyTables.{table_in}
 use Rattle.ic_any_collection.specs.AnyCollection.{members_in}
 use Rattle.ic_any_collection.proofs.AllKinds.{lawful}
 use Rattle.ic_world.proofs.Parted.{hands_all, hands_after, hands_before}
@@ -6,7 +6,7 @@ use Rattle.ic_world.proofs.part.Part.hand_out.Goals as goal
 
 pub returns-in-All : goal.returns-in-All
 returns-in-All g c =
-    let t = look c.args.links.now in
+    let t = table_in c.args.links.now in
     let s = members_in t c.args.members.now in
     let e = c.take.ensures in
     rw c.in-All.is

@@ -10,7 +10,7 @@ returns-in-Ok g c =
     let from = c.probe_within-from.ensures in
     let to = c.probe_within-to.ensures in
     let objects = c.self.inside.objects in
-    rw (c.looks_in.ensures.told, c.looks_in-in-Ok.ensures.told)
+    rw (c.looks_in.ensures, c.looks_in-in-Ok.ensures)
     (ranged g.A.Key.Ord.cmp g.A.KeyAdapter.key_of c.args.min c.args.max c.in-Ok.places.items (looks_within c.range_by.new.min) (looks_within c.range_by.new.max) c.self.inside.adapter objects _ _ c.args.collection c.self.view_is
     c.in-Some.ensures.some (kind_tested c.kind.ensures c.is_tree.ensures c.if-not-is_tree.false) (rw (from.order objects, to.order objects) at e.range)
     (few_for _ _ objects _ _ _ _ from.none (from.order objects) looks.min_looks, few_for _ _ objects _ _ _ _ to.none (to.order objects) looks.max_looks))

@@ -17,7 +17,7 @@ returns-in_err-object-clause-refused g c =
     rw e.refused.1 (queue_is c.place.new.self.links (has_covered e.keeps.entries c.self.invariant)) in
     passed_on _ c.from_residual.result c.from_residual.ensures (e.refused.0, rw (← c.self.view_is) same, rw (← c.self.view_is) (lacks_exactly _ _ e.full e.refused.0))
 
--- it waits behind all others
+-- it waits after all others
 pub invariant_of-self-2 : goal.invariant_of-self-2
 invariant_of-self-2 g c =
     let placed = c.in_ok-object.ensures in

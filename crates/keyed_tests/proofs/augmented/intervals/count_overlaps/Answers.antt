@@ -1,10 +1,9 @@
 use Rattle.std.proofs.Common.{List, map, subst, arith}
 use Rattle.std.specs.Ordering.{nat_cmp}
-use Rattle.ic_unsafe_ref.specs.declared.place.Place.{Place}
-use Rattle.ic_link_ops.specs.PlacedObjects.{ArePlaced}
-use Rattle.ic_link_ops.specs.RedBlackTree.{Shows}
+use Rattle.ic_link_ops.specs.Prelude.{Place, ArePlaced}
+use Rattle.ic_link_ops.specs.RedBlackTree.{Represents}
 use Rattle.ic_rbtree.specs.Borders.{IsSorted}
-use Rattle.ic_augmented.specs.Consistent.{ShowsSummed}
+use Rattle.ic_augmented.specs.Consistent.{RepresentsSummed}
 use Rattle.ic_augmented.specs.Greatest.{greatest}
 use Rattle.ic_augmented.specs.Intervals.{start_in}
 use Rattle.keyed_tests.proofs.Intervals.{in_order_at, none_counted, found, in_front, parted, one_more, few_counted, all_counted}
@@ -30,7 +29,7 @@ next_overlap-at-requires g c =
       _,
       in_front _ q.members k c.in-Some.is,
       (found _ q.members k c.in-Some.is).back,
-      subst (Shows g.L.RBTreeOps.node (g.L.LinkOps.table c.args.summed.now.links) _) parts q.shown.shows,
+      subst (Represents g.L.RBTreeOps.node (g.L.LinkOps.table c.args.summed.now.links) _) parts q.shown.shows,
       subst (ArePlaced (g.L.Values.values c.args.summed.now.links)) parts (in_order_at q.shown.shows c.requires.intervals.sorted).0,
     )
 
@@ -48,7 +47,7 @@ loop-at-preserved g c = record {
       let starts = g.L.Values.values c.args.summed.now.links in
       one_more _ s k c.in-Some.is
       (c.next_overlap-at.ensures _ (in_front _ s k c.in-Some.is) (found _ s k c.in-Some.is).back
-      (subst (ShowsSummed g.L.RBTreeOps.node (greatest c.args.summed.now.sums) (g.L.LinkOps.table c.args.summed.now.links) _) parts shown)
+      (subst (RepresentsSummed g.L.RBTreeOps.node (greatest c.args.summed.now.sums) (g.L.LinkOps.table c.args.summed.now.links) _) parts shown)
       (subst (λ (t : List Place). IsSorted nat_cmp (map (start_in starts) t)) parts (in_order_at shown.shows c.requires.intervals.sorted).1));
 }
 

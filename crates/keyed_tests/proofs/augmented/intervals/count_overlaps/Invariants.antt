@@ -1,7 +1,7 @@
 use Rattle.std.proofs.Common.{◌-◌, List}
 use Rattle.ic_unsafe_ref.specs.declared.place.Place.{Place}
 use Rattle.ic_rbtree.specs.Tree.{root_of}
-use Rattle.ic_augmented.specs.Consistent.{ShowsSummed}
+use Rattle.ic_augmented.specs.Consistent.{RepresentsSummed}
 use Rattle.ic_augmented.specs.Greatest.{greatest, number_at}
 use Rattle.ic_augmented.specs.Intervals.{start_in, overlaps}
 use Rattle.ic_augmented.specs.Summed.{links_of, sums_of}
@@ -10,7 +10,7 @@ use Rattle.keyed_tests.proofs.augmented.intervals.count_overlaps.Given as goal
 
 abbrev pub invariant-loop-at : goal.invariant-loop-at
 invariant-loop-at g l = record {
-  counted : (s : List Place) → ShowsSummed g.L.RBTreeOps.node (greatest (sums_of l.summed)) (g.L.LinkOps.table (links_of l.summed)) (root_of l.tree) s
+  counted : (s : List Place) → RepresentsSummed g.L.RBTreeOps.node (greatest (sums_of l.summed)) (g.L.LinkOps.table (links_of l.summed)) (root_of l.tree) s
       → IsCounted (overlaps (start_in (g.L.Values.values (links_of l.summed))) (number_at (sums_of l.summed)) l.from l.to) s l.count l.at;
 }
 

@@ -1,5 +1,5 @@
 use Rattle.ic_link_ops.proofs.Calling.{either}
-use Rattle.ic_hash_table.proofs.Callers.{held_shown}
+use Rattle.ic_hash_table.proofs.Callers.{held_represented}
 use Rattle.keyed_tests.proofs.Extents.{places_of}
 use Rattle.keyed_tests.proofs.hash_table.equals.put_beside.Goals as goal
 
@@ -7,7 +7,7 @@ pub insert_equal-requires-clause-held : goal.insert_equal-requires-clause-held
 insert_equal-requires-clause-held g c = (c.requires.beside.0, c.requires.beside.1)
 
 pub returns-clause-covers : goal.returns-clause-covers
-returns-clause-covers g c = let q = c.requires.beside in places_of (c.insert_equal.ensures.kept.chains.frame q.0 (held_shown q.1)).extent c.requires.covers
+returns-clause-covers g c = let q = c.requires.beside in places_of (c.insert_equal.ensures.kept.chains.frame q.0 (held_represented q.1)).extent c.requires.covers
 
 pub returns-clause-beside : goal.returns-clause-beside
 returns-clause-beside g c =

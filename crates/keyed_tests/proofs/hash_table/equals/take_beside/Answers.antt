@@ -3,7 +3,7 @@ use Rattle.ic_unsafe_ref.specs.declared.place.Place.{Place}
 use Rattle.ic_hash_table.specs.HashTable.{number, Holds}
 use Rattle.ic_hash_table.specs.SideBySide.{AreSideBySide, same_key}
 use Rattle.ic_hash_table.proofs.SideBySideLemmas.{keys_alike}
-use Rattle.ic_hash_table.proofs.Callers.{held_shown}
+use Rattle.ic_hash_table.proofs.Callers.{held_represented}
 use Rattle.keyed_tests.proofs.HashTables.{removed_beside}
 use Rattle.keyed_tests.proofs.Extents.{places_of}
 use Rattle.keyed_tests.proofs.hash_table.equals.take_beside.Goals as goal
@@ -12,7 +12,7 @@ pub remove-requires-clause-held : goal.remove-requires-clause-held
 remove-requires-clause-held g c = (c.requires.beside.0, c.requires.beside.1)
 
 pub returns-clause-covers : goal.returns-clause-covers
-returns-clause-covers g c = let q = c.requires.beside in places_of (c.remove.ensures.kept.chains.frame q.0 (held_shown q.1)).extent c.requires.covers
+returns-clause-covers g c = let q = c.requires.beside in places_of (c.remove.ensures.kept.chains.frame q.0 (held_represented q.1)).extent c.requires.covers
 
 pub returns-clause-beside : goal.returns-clause-beside
 returns-clause-beside g c =

@@ -1,6 +1,6 @@
 use Rattle.ic_link_ops.specs.Sequences.{insert}
 use Rattle.ic_link_ops.proofs.Calling.{either}
-use Rattle.ic_hash_table.proofs.Callers.{held_shown}
+use Rattle.ic_hash_table.proofs.Callers.{held_represented}
 use Rattle.keyed_tests.proofs.Extents.{places_of}
 use Rattle.keyed_tests.proofs.hash_table.keyed.put_keyed.Goals as goal
 
@@ -9,7 +9,7 @@ insert_keyed-requires-clause-placed g c =
     g.met.L.LinkValues.covered_has_value c.args.links.now c.reference.result (rw (c.requires.covers, c.reference.ensures) c.requires.few)
 
 pub returns-clause-covers : goal.returns-clause-covers
-returns-clause-covers g c = let q = c.requires.held in places_of (c.insert_keyed.ensures.kept.chains.frame q.0 (held_shown q.1)).extent c.requires.covers
+returns-clause-covers g c = let q = c.requires.held in places_of (c.insert_keyed.ensures.kept.chains.frame q.0 (held_represented q.1)).extent c.requires.covers
 
 pub returns-clause-held : goal.returns-clause-held
 returns-clause-held g c =

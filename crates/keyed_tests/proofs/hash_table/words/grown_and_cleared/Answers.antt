@@ -1,10 +1,9 @@
 use Rattle.std.proofs.Common.{ℕ, List, map, ap, ◌∙◌, subst, MutBor}
-use Rattle.ic_unsafe_ref.specs.Places.{place_at, word_of}
-use Rattle.ic_unsafe_ref.specs.declared.place.Place.{Place}
+use Rattle.ic_link_ops.specs.Prelude.{Place, place_at, word_of}
 use Rattle.ic_hash_table.specs.BucketLaws.{lent_on}
 use Rattle.ic_hash_table.specs.Buckets.{AreRewritten}
-use Rattle.ic_hash_table.specs.HashTable.{IsShown}
-use Rattle.ic_hash_table.proofs.Callers.{new_held, held_shown}
+use Rattle.ic_hash_table.specs.HashTable.{IsRepresented}
+use Rattle.ic_hash_table.proofs.Callers.{new_held, held_represented}
 use Rattle.ic_hash_table.proofs.KeptBuckets.{emptied_words, zero_fronts}
 use Rattle.keyed_tests.proofs.HashTables.{told_either}
 use Rattle.keyed_tests.proofs.hash_table.words.grown_and_cleared.Goals as goal
@@ -19,8 +18,8 @@ pub clear-requires : goal.clear-requires
 clear-requires g c =
     let e = c.grow_one-is_grown.ensures in
     let q = c.put.ensures.held in
-    let Shown : Type 0 = (s : List Place) × IsShown g.L.SinglyLinkedListOps.successor (λ (words : MutBor (List ℕ)). map place_at words.now) (g.L.LinkOps.table c.grow_one-is_grown.new.links) c.grow_one-is_grown.new.self s in
-    record { shown = told_either {Goal = Shown} c.grow_one-is_grown.result (e.holds q.0 q.1) e.full (λ k. (k.members, held_shown k.holds)) (λ same. (q.0, rw (same.0, same.1) (held_shown q.1))) }
+    let Represented : Type 0 = (s : List Place) × IsRepresented g.L.SinglyLinkedListOps.successor (λ (words : MutBor (List ℕ)). map place_at words.now) (g.L.LinkOps.table c.grow_one-is_grown.new.links) c.grow_one-is_grown.new.self s in
+    record { shown = told_either {Goal = Represented} c.grow_one-is_grown.result (e.holds q.0 q.1) e.full (λ k. (k.members, held_represented k.holds)) (λ same. (q.0, rw (same.0, same.1) (held_represented q.1))) }
 
 pub returns-clause-zero : goal.returns-clause-zero
 returns-clause-zero g c =

@@ -1,6 +1,6 @@
 use Rattle.std.proofs.Common.{ℕ, ◌^◌, leb, Ok, subst}
 use Rattle.region_allocator.specs.Neighbors.{StartsFrom}
-use Rattle.region_allocator.proofs.Keeping.{shown_apart}
+use Rattle.region_allocator.proofs.Keeping.{represented_apart}
 use Rattle.region_allocator.proofs.Joining.{touches, overlaps_front, overlaps_back}
 use Rattle.region_allocator.proofs.free_regions.FreeRegions.touching.Goals as goal
 
@@ -9,7 +9,7 @@ returns-in-Err-clause-refused g c = overlaps_front c.neighbors-below.ensures c.r
 
 pub returns-in-Ok-starting_at-clause-touched : goal.returns-in-Ok-starting_at-clause-touched
 returns-in-Ok-starting_at-clause-touched g c =
-    touches c.requires.region (shown_apart c.requires.kept) c.neighbors-below.ensures c.in-Ok.ensures
+    touches c.requires.region (represented_apart c.requires.kept) c.neighbors-below.ensures c.in-Ok.ensures
     (subst (λ (n : ℕ). StartsFrom c.neighbors-below.result.1 n (Ok c.in-Ok-starting_at.back)) c.end.ensures c.in-Ok-starting_at.ensures)
 
 pub returns-in-Err-starting_at-clause-refused : goal.returns-in-Err-starting_at-clause-refused

@@ -1,6 +1,5 @@
 use Rattle.std.proofs.Common.{[], ◌∷◌, drop, inl, inr, refl, subst, sym, ◌++◌}
-use Rattle.ic_link_ops.specs.Sequences.{IsAbsent}
-use Rattle.ic_link_ops.specs.LinkSteps.{acquires}
+use Rattle.ic_link_ops.specs.Prelude.{IsAbsent, acquires}
 use Rattle.ic_link_ops.proofs.SequenceLemmas.{absent_both}
 use Rattle.ic_ring.proofs.Circles.{free_outside}
 use Rattle.structure_tests.proofs.Rings.{either_way, both_ways, heads_apart, first_of, first_in_ring, first_absent, places_of, member_apart}

@@ -1,8 +1,7 @@
 use Rattle.std.proofs.Common.{List, [], ◌∷◌, ◌++◌, sym, subst}
-use Rattle.ic_unsafe_ref.specs.declared.place.Place.{Place}
-use Rattle.ic_link_ops.specs.Sequences.{IsMember, but_last}
+use Rattle.ic_link_ops.specs.Prelude.{Place, IsMember, but_last}
 use Rattle.ic_link_ops.proofs.SequenceLemmas.{split_member}
-use Rattle.ic_ring.specs.Rings.{Shows}
+use Rattle.ic_ring.specs.Rings.{Represents}
 use Rattle.structure_tests.proofs.Rings.{last_of}
 use Rattle.structure_tests.proofs.ring.connections.close_last.Goals as goal
 
@@ -12,7 +11,7 @@ is_last-was_last-requires g c =
     let t = g.L.LinkOps.table c.args.links.now in
     let q = c.requires.queue in
     let front = but_last q.0 in record {
-      here = subst (λ p. (r : List Place) × Shows n t c.args.queue.now r × IsMember p (c.args.queue.now ∷ r)) (sym c.new-connection.ensures)
+      here = subst (λ p. (r : List Place) × Represents n t c.args.queue.now r × IsMember p (c.args.queue.now ∷ r)) (sym c.new-connection.ensures)
           (front ++ c.in-Some.last ∷ [], last_of n t q.0 q.1 (c.in-Some.ensures q.0 q.1), split_member (c.args.queue.now ∷ front) c.in-Some.last []);
     }
 
@@ -22,6 +21,6 @@ close_here-behind-requires g c =
     let t = g.L.LinkOps.table c.args.links.now in
     let q = c.requires.queue in
     let front = but_last q.0 in record {
-      here = subst (λ p. (r : List Place) × Shows n t c.args.queue.now r × IsMember p (c.args.queue.now ∷ r)) (sym c.new-connection.ensures)
+      here = subst (λ p. (r : List Place) × Represents n t c.args.queue.now r × IsMember p (c.args.queue.now ∷ r)) (sym c.new-connection.ensures)
           (front ++ c.in-Some.last ∷ [], last_of n t q.0 q.1 (c.in-Some.ensures q.0 q.1), split_member (c.args.queue.now ∷ front) c.in-Some.last []);
     }

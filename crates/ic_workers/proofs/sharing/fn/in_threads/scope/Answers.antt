@@ -39,7 +39,7 @@ pub spawn_with-requires-clause-keeps : goal.spawn_with-requires-clause-keeps
 spawn_with-requires-clause-keeps g c κs inside r has =
     let claims_are = (ready_one g c).claims_are ∙ sym c.of.ensures in (
       subst (λ claims. HasGathered claims r) claims_are has.0,
-      subst (λ claims. g.G.Gate.Told c.of-in-loop-party.result.value (c.len-number.result + 1) (places_of claims)) claims_are (subst (λ gate. g.G.Gate.Told gate (c.len-number.result + 1) (places_of (claims_of c.in-Some.party.links))) (sym c.of-in-loop-party.ensures) has.1),
+      subst (λ claims. g.G.Gate.Reported c.of-in-loop-party.result.value (c.len-number.result + 1) (places_of claims)) claims_are (subst (λ gate. g.G.Gate.Reported gate (c.len-number.result + 1) (places_of (claims_of c.in-Some.party.links))) (sym c.of-in-loop-party.ensures) has.1),
     )
 
 pub loop-party-preserved : goal.loop-party-preserved
@@ -63,7 +63,7 @@ loop-party-preserved g c =
 
 -- what has been brought back at a place keeps the promise of the thread there, which is of these claims and of the number
 module _ (g : given.Over) (c : goal.In_ok-join_promised g) (k : ℕ) (d : Gathered g.row.A.Denot) (low : k < length c.in_ok-join_promised.field-0.items) where
-  kept : HasGathered c.captures.claims.now (slice_index_or c.in_ok-join_promised.field-0.items k d) × g.G.Gate.Told c.captures.gate.now (k + 1) (places_of c.captures.claims.now)
+  kept : HasGathered c.captures.claims.now (slice_index_or c.in_ok-join_promised.field-0.items k d) × g.G.Gate.Reported c.captures.gate.now (k + 1) (places_of c.captures.claims.now)
   kept =
       let e = c.in_ok-join_promised.ensures in
       let done = c.in_ok-join_promised.field-0 in
@@ -83,6 +83,6 @@ returns g c =
           let k : ℕ = worker - 1 in
           let low : k < length done.items = omega (arith, some, few, done.ok.0) in
           let next : k + 1 ≡ worker = omega (arith, some) in
-          subst (λ n. g.G.Gate.Told c.captures.gate.now n (places_of c.captures.claims.now)) next (kept g c k (one_of done.items (omega (arith, low))) low).1),
+          subst (λ n. g.G.Gate.Reported c.captures.gate.now n (places_of c.captures.claims.now)) next (kept g c k (one_of done.items (omega (arith, low))) low).1),
       omega (arith, e.len, c.loop-party.invariant.count, c.in-None.ensures.steps.0, c.into_iter-party-iterator.ensures.into_iter_gives.1),
     )

@@ -1,26 +1,26 @@
-use Rattle.ic_world.proofs.Inserted.{puts_front, puts_back, puts_before, puts_after}
+use Rattle.std.proofs.Common.{sym, ap, ◌∙◌}
+use Rattle.ic_any_collection.specs.Gaps.{can_insert}
+use Rattle.ic_world.specs.declared.calls.one_call.Call.TheVariants as one
+use Rattle.ic_world.proofs.Inserted.{put_in, put_not}
+use Rattle.ic_world.proofs.Seeking.{ran_not}
 use Rattle.ic_world.proofs.calls.gaps.PutOneCall.run.Goals as goal
 
-pub returns-in-Front : goal.returns-in-Front
-returns-in-Front g c =
-    let e = c.push_front.ensures in
-    rw (c.in-Front.is, c.told.ensures)
-    (puts_front g.row.A-Key.Denot c.args.links.now c.push_front.new.links c.args.self.now.1 c.args.members.now c.push_front.new.self c.push_front.result e.tested e.put e.unchanged)
+pub returns-then-not-can_insert : goal.returns-then-not-can_insert
+returns-then-not-can_insert g c =
+    let at = c.args.self.now.0 in
+    ran_not {K = g.row.A-Key.Denot} (one.Put at c.args.self.now.1) c.requires.held (ap (can_insert at) (sym c.kind.ensures) ∙ sym c.can_insert.ensures ∙ c.if-not-can_insert.true)
 
-pub returns-in-Back : goal.returns-in-Back
-returns-in-Back g c =
-    let e = c.push_back.ensures in
-    rw (c.in-Back.is, c.told-in-Back.ensures)
-    (puts_back g.row.A-Key.Denot c.args.links.now c.push_back.new.links c.args.self.now.1 c.args.members.now c.push_back.new.self c.push_back.result e.tested e.put e.unchanged)
+pub insert-requires-clause-can : goal.insert-requires-clause-can
+insert-requires-clause-can g c = ap (can_insert c.args.self.now.0) (sym c.kind.ensures) ∙ sym c.can_insert.ensures ∙ c.if-not-can_insert.false
 
-pub returns-in-Before : goal.returns-in-Before
-returns-in-Before g c =
-    let e = c.insert_before.ensures in
-    rw (c.in-Before.is, c.told-in-Before.ensures)
-    (puts_before g.row.A-Key.Denot c.args.links.now c.insert_before.new.links c.args.self.now.1 c.args.members.now c.insert_before.new.self c.insert_before.result e.tested e.put e.unchanged)
+pub returns-then-not-insert : goal.returns-then-not-insert
+returns-then-not-insert g c =
+    let at = c.args.self.now.0 in
+    let can = ap (can_insert at) (sym c.kind.ensures) ∙ sym c.can_insert.ensures ∙ c.if-not-can_insert.false in
+    put_not g.row.A-Key.Denot c.args.links.now c.insert.new.links at c.args.self.now.1 c.args.members.now c.insert.new.self can c.if-not-insert.ensures.refused
 
-pub returns-in-After : goal.returns-in-After
-returns-in-After g c =
-    let e = c.insert_after.ensures in
-    rw (c.in-After.is, c.told-in-After.ensures)
-    (puts_after g.row.A-Key.Denot c.args.links.now c.insert_after.new.links c.args.self.now.1 c.args.members.now c.insert_after.new.self c.insert_after.result e.tested e.put e.unchanged)
+pub returns : goal.returns
+returns g c =
+    let at = c.args.self.now.0 in
+    let can = ap (can_insert at) (sym c.kind.ensures) ∙ sym c.can_insert.ensures ∙ c.if-not-can_insert.false in
+    put_in g.row.A-Key.Denot c.args.links.now c.insert.new.links at c.args.self.now.1 c.args.members.now c.insert.new.self can c.if-not-insert.ensures.inserted

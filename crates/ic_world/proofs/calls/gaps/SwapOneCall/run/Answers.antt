@@ -1,14 +1,35 @@
-use Rattle.ic_world.proofs.Inserted.{swaps_before, swaps_after}
+use Rattle.std.proofs.Common.{sym, ap, ◌∙◌}
+use Rattle.ic_any_collection.specs.Gaps.{can_replace}
+use Rattle.ic_world.specs.declared.calls.one_call.Call.TheVariants as one
+use Rattle.ic_world.proofs.Inserted.{swapped_in, swap_nothing, swap_not}
+use Rattle.ic_world.proofs.Seeking.{ran_not}
 use Rattle.ic_world.proofs.calls.gaps.SwapOneCall.run.Goals as goal
 
-pub returns-in-Before : goal.returns-in-Before
-returns-in-Before g c =
-    let e = c.replace_with.ensures in
-    rw (c.in-Before.is, c.told.ensures)
-    (swaps_before g.row.A-Key.Denot c.args.links.now c.replace_with.new.links c.args.self.now.1 c.args.members.now c.replace_with.new.self c.requires.covered.0 c.replace_with.result e.tested e.swapped e.unchanged)
+pub returns-then-not-can_replace : goal.returns-then-not-can_replace
+returns-then-not-can_replace g c =
+    let at = c.args.self.now.0 in
+    ran_not {K = g.row.A-Key.Denot} (one.Swap at c.args.self.now.1) c.requires.held (ap (can_replace at) (sym c.kind.ensures) ∙ sym c.can_replace.ensures ∙ c.if-not-can_replace.true)
 
-pub returns-in-After : goal.returns-in-After
-returns-in-After g c =
-    let e = c.replace_next_with.ensures in
-    rw (c.in-After.is, c.told-in-After.ensures)
-    (swaps_after g.row.A-Key.Denot c.args.links.now c.replace_next_with.new.links c.args.self.now.1 c.args.members.now c.replace_next_with.new.self c.requires.covered.0 c.replace_next_with.result c.requires.held e.tested e.swapped e.unchanged)
+pub replace-out-requires-clause-can : goal.replace-out-requires-clause-can
+replace-out-requires-clause-can g c = ap (can_replace c.args.self.now.0) (sym c.kind.ensures) ∙ sym c.can_replace.ensures ∙ c.if-not-can_replace.false
+
+pub returns-in_default : goal.returns-in_default
+returns-in_default g c =
+    let at = c.args.self.now.0 in
+    let can = ap (can_replace at) (sym c.kind.ensures) ∙ sym c.can_replace.ensures ∙ c.if-not-can_replace.false in
+    let e = rw c.in_default.is at c.replace-out.ensures in
+    swap_nothing g.row.A-Key.Denot c.args.links.now c.replace-out.new.links at c.args.self.now.1 c.args.members.now c.replace-out.new.self can c.requires.held c.replace-out.result.1 e
+
+pub returns-then-not-acquired : goal.returns-then-not-acquired
+returns-then-not-acquired g c =
+    let at = c.args.self.now.0 in
+    let can = ap (can_replace at) (sym c.kind.ensures) ∙ sym c.can_replace.ensures ∙ c.if-not-can_replace.false in
+    let e = rw (c.in-Some.is, c.if-not-acquired.true) at c.replace-out.ensures in
+    swap_not g.row.A-Key.Denot c.args.links.now c.replace-out.new.links at c.args.self.now.1 c.args.members.now c.replace-out.new.self can c.requires.held c.in-Some.out e
+
+pub returns : goal.returns
+returns g c =
+    let at = c.args.self.now.0 in
+    let can = ap (can_replace at) (sym c.kind.ensures) ∙ sym c.can_replace.ensures ∙ c.if-not-can_replace.false in
+    let e = rw (c.in-Some.is, c.if-not-acquired.false) at c.replace-out.ensures in
+    swapped_in g.row.A-Key.Denot c.args.links.now c.replace-out.new.links at c.args.self.now.1 c.args.members.now c.replace-out.new.self can c.requires.held c.in-Some.out c.requires.covered.0 e

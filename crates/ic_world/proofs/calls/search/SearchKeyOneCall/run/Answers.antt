@@ -32,7 +32,7 @@ returns-in-LowerBound g c =
     let probe = c.probe_within-probe.ensures in
     let objects = c.args.objects.now in
     let border = rw (probe.order objects) at e.border in
-    rw (c.in-LowerBound.is, c.looks_in.ensures.told)
+    rw (c.in-LowerBound.is, c.looks_in.ensures)
     (searched (c.lower_bound_by-found.result, looks_within c.lower_bound_by-found.new.bound) (ap is_tree (sym c.kind.ensures) ∙ sym c.is_tree.ensures ∙ c.if-not-is_tree.false) e.moved
     (λ same. (border, few_for _ _ objects _ _ _ _ probe.none (probe.order objects) e.looks, same)))
 
@@ -45,6 +45,6 @@ returns-in-UpperBound g c =
     let probe = c.probe_within-probe-in-UpperBound.ensures in
     let objects = c.args.objects.now in
     let border = rw (probe.order objects) at e.border in
-    rw (c.in-UpperBound.is, c.looks_in-in-UpperBound.ensures.told)
+    rw (c.in-UpperBound.is, c.looks_in-in-UpperBound.ensures)
     (searched (c.upper_bound_by-found.result, looks_within c.upper_bound_by-found.new.bound) (ap is_tree (sym c.kind.ensures) ∙ sym c.is_tree.ensures ∙ c.if-not-is_tree.false) e.moved
     (λ same. (border, few_for _ _ objects _ _ _ _ probe.none (probe.order objects) e.looks, same)))

@@ -1,0 +1,76 @@
+-- The gaps that calls are meant for: which kinds have them, which member is meant there, and where the cursor is after an edit.
+use Rattle.std.specs.Prelude.{◌≡◌, Bool, true, false, Option, Some, None, List, drop}
+use Rattle.ic_link_ops.specs.Prelude.{Place, Cut, first, but_last, IsAfter, IsBefore}
+use Rattle.ic_any_collection.specs.declared.kind.Kind.{Kind}
+use Rattle.ic_any_collection.specs.declared.gap.Gap.{Gap}
+use Rattle.ic_any_collection.specs.declared.gap.Gap.TheVariants.{Front, Back, Before, After}
+use Rattle.ic_any_collection.specs.Kinds.{has_before, is_list, is_two_way_list, is_singly}
+
+-- WHICH KINDS have objects put into a gap, the member there taken out, and it swapped
+abbrev pub can_insert : Gap → Kind → Bool
+can_insert Front k = is_list k
+can_insert Back k = is_two_way_list k
+can_insert Before k = has_before k
+can_insert After k = true
+
+abbrev pub can_remove : Gap → Kind → Bool
+can_remove Front k = is_list k
+can_remove Back k = is_two_way_list k
+can_remove Before k = has_before k
+can_remove After k = is_singly k
+
+abbrev pub can_replace : Gap → Kind → Bool
+can_replace Before k = has_before k
+can_replace After k = is_singly k
+can_replace _ k = false
+
+-- an edit there is made from the cursor's position, or from null
+abbrev pub from : {P : Type 0} → Gap → (null at : P) → P
+from Front null at = null
+from Back null at = null
+from Before null at = at
+from After null at = at
+
+-- after that position, or before it
+abbrev pub is_after : Gap → Bool
+is_after Front = true
+is_after Back = false
+is_after Before = false
+is_after After = true
+
+abbrev pub beside : Bool → Cut → Option Place → Type 0
+beside true gap position = IsAfter gap position
+beside false gap position = IsBefore gap position
+
+-- THE GAP that is meant, of what has a cursor there; and where the cursor is after an edit there
+abbrev pub IsGapAt : Gap → Option Place → Cut → Type 0
+IsGapAt Front cursor gap = IsAfter gap None
+IsGapAt Back cursor gap = IsBefore gap None
+IsGapAt Before cursor gap = IsBefore gap cursor
+IsGapAt After cursor gap = IsAfter gap cursor
+
+abbrev pub rests : Gap → Option Place → Option Place
+rests Front cursor = None
+rests Back cursor = None
+rests Before cursor = cursor
+rests After cursor = cursor
+
+-- THE GAP WHOSE NEXT MEMBER is meant: at the back, the one before the last member
+abbrev pub IsFrontOf : Gap → List Place → Option Place → Cut → Type 0
+IsFrontOf Front s cursor gap = IsAfter gap None
+IsFrontOf Back s cursor gap = gap.front ≡ but_last s
+IsFrontOf Before s cursor gap = IsBefore gap cursor
+IsFrontOf After s cursor gap = IsAfter gap cursor
+
+-- a cursor on that member goes on to the next one where it is taken out, and is on p where it is swapped for p
+abbrev pub onward : Gap → Option Place → Cut → Option Place
+onward Front cursor gap = None
+onward Back cursor gap = None
+onward Before cursor gap = first (drop 1 gap.back)
+onward After cursor gap = cursor
+
+abbrev pub onto : Gap → Option Place → Place → Option Place
+onto Front cursor p = None
+onto Back cursor p = None
+onto Before cursor p = Some p
+onto After cursor p = cursor

@@ -1,0 +1,25 @@
+-- What a field's table ends as, where a `&mut` to the table inside it is returned.
+use Rattle.std.specs.Prelude.{⊤}
+use Rattle.std.specs.Borrow.{Lends, Fml, RattleType, MutBor, unit}
+use Rattle.std.specs.declared.alloc.Allocator.{Ghosts}
+use Rattle.ic_any_collection.specs.declared.any_table.AnyTable.{AnyTable}
+use Rattle.ic_any_collection.specs.declared.any_table.AnyTable.TheVariants.{WithPrev}
+use Rattle.ic_any_collection.specs.declared.table_with_prev.TableWithPrev.{TableWithPrev}
+use Rattle.ic_any_collection.specs.declared.table_with_prev.TableWithPrev.TheVariants.{Tree}
+use Rattle.ic_link_ops.specs.declared.table.PlainTable.{PlainTable}
+use Rattle.ic_link_ops.specs.declared.rbtree.ThreeWords.{ThreeWords}
+use Rattle.ic_any_collection.specs.contracts.any_table.AnyTable.{the_row as any_row}
+use Rattle.ic_any_collection.specs.contracts.table_with_prev.TableWithPrev.{the_row as with_prev_row}
+use Rattle.ic_link_ops.specs.contracts.table.PlainTable.{the_row as plain_row}
+use Rattle.ic_link_ops.specs.contracts.rbtree.ThreeWords.{the_row as words_row}
+
+-- once the borrow r ends, the table s has inside it what was left behind r
+module _ (M : RattleType) (alloc : Ghosts M.Denot) where
+  abbrev pub LendsWithPrev : MutBor (AnyTable M.Denot) → MutBor (TableWithPrev M.Denot) → Fml
+  LendsWithPrev s r = Lends (any_row M alloc) (with_prev_row M alloc) s r (λ t. WithPrev t)
+
+  abbrev pub LendsTree : MutBor (AnyTable M.Denot) → MutBor (PlainTable ThreeWords M.Denot ⊤) → Fml
+  LendsTree s r = Lends (any_row M alloc) (plain_row words_row M unit alloc) s r (λ t. WithPrev (Tree t))
+
+  abbrev pub LendsTreeOf : MutBor (TableWithPrev M.Denot) → MutBor (PlainTable ThreeWords M.Denot ⊤) → Fml
+  LendsTreeOf s r = Lends (with_prev_row M alloc) (plain_row words_row M unit alloc) s r (λ t. Tree t)

@@ -1,0 +1,11 @@
+use Rattle.std.proofs.Common.{subst}
+use Rattle.ic_raw.specs.declared.gap.Side.TheVariants.{After}
+use Rattle.ic_raw.specs.LinkWords.{narrow_words}
+use Rattle.ic_raw.specs.ListCalls.{InsertCall}
+use Rattle.ic_raw.specs.Words.{place_of}
+use Rattle.ic_raw.proofs.Numbers.{none_named}
+use Rattle.ic_ffi.proofs.narrow_list_calls.ic_list32_push_front.Goals as goal
+
+pub returns : goal.returns
+returns c =
+    subst (λ at. InsertCall narrow_words c.args.table.now c.insert_at.new.table c.args.list.now c.insert_at.new.list c.insert_at.result After at (place_of c.args.place)) none_named c.insert_at.ensures

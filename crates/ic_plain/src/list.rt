@@ -1,0 +1,190 @@
+//! Lists of every kind, over a table that accepts each place that is not linked, as a plain one does with words of 8 bytes or of 4.
+//!
+//! A call has the bounds of the collection's own call, so they say which kinds have it. For `list` you can also write the name of a kind.
+//!
+//! ```text
+//! let mut list: LinkedList<Job> = linked_list::new();
+//! linked_list::push_front(&mut list, &mut links, object); // no answer: it is not linked
+//! linked_list::pop_front(&mut list, &mut links)           // the object
+//! ```
+
+ghost use Rattle.std.specs.Prelude.{◌≡◌, ◌↔◌, ◌∷◌, [], List, IsTrue, IfSome, IfNone, drop, ◌++◌};
+ghost use Rattle.ic_link_ops.specs.Prelude.{Place, first, last, but_last, IsCovered, IsUnlinked, LinksAlso, Unlinks, KeepsLinked, ChangesOnlyIn, HasMember};
+ghost use Rattle.ic_link_ops.specs.Chains.{empty_list, RepresentsChain, RepresentsSomeChain};
+
+use ic_chain::{BidirectionalLinks, Chain, DoubleEnded, ForwardLinks, ListKind, NamesBoth};
+use ic_link_ops::{AcceptsUnlinked, LinkOps};
+use ic_unsafe_ref::{Place, UnsafeRef};
+
+/// A list with no members, for which every table represents the empty sequence. It takes no memory.
+#[inline]
+pub fn new<K: ListKind, T>() -> Chain<K, T>
+    ensures empty { result ≡ empty_list K.kept }
+{
+    Chain::new()
+}
+
+/// Whether the list has no members. O(1).
+#[inline]
+pub fn is_empty<K: ForwardLinks<L>, T, L: LinkOps>(list: &Chain<K, T>, links: &L) -> bool
+    requires shown { RepresentsSomeChain K.Between K.kept (L.table links.now) list.now }
+    ensures empty { (s : List Place) → RepresentsChain K.Between K.kept (L.table links.now) list.now s → IsTrue result ↔ (s ≡ []) }
+{
+    let _ = links;
+    list.is_empty()
+}
+
+/// The place of the first member, `None` in an empty list. O(1).
+#[inline]
+pub fn first<K: ForwardLinks<L>, T, L: LinkOps>(list: &Chain<K, T>, links: &L) -> Option<Place>
+    requires shown { RepresentsSomeChain K.Between K.kept (L.table links.now) list.now }
+    ensures first { (s : List Place) → RepresentsChain K.Between K.kept (L.table links.now) list.now s → result ≡ first s }
+{
+    let _ = links;
+    list.first()
+}
+
+/// The place of the last member, `None` in an empty list. O(1).
+#[inline]
+pub fn last<K: DoubleEnded + ForwardLinks<L>, T, L: LinkOps>(
+    list: &Chain<K, T>,
+    links: &L,
+) -> Option<Place>
+    requires shown { RepresentsSomeChain K.Between K.kept (L.table links.now) list.now }
+    ensures last { (s : List Place) → RepresentsChain K.Between K.kept (L.table links.now) list.now s → result ≡ last s }
+{
+    let _ = links;
+    list.last()
+}
+
+/// Puts the object before all others. It requires that its place is covered, and that it is not linked. O(1).
+#[inline]
+pub fn push_front<K: ForwardLinks<L>, T, L: AcceptsUnlinked>(
+    list: &mut Chain<K, T>,
+    links: &mut L,
+    object: UnsafeRef<T>,
+)
+    requires covered { IsCovered (L.table links.old) object }
+    requires unlinked { IsUnlinked L.linked (L.table links.old) object }
+    requires shown { RepresentsSomeChain K.Between K.kept (L.table links.old) list.old }
+    ensures shown { (s : List Place) → RepresentsChain K.Between K.kept (L.table links.old) list.old s
+        → RepresentsChain K.Between K.kept (L.table links.new) list.new (object ∷ s) }
+    ensures shows { RepresentsSomeChain K.Between K.kept (L.table links.new) list.new }
+    ensures linked { LinksAlso L.linked (L.table links.old) (L.table links.new) object }
+    ensures frame { (s : List Place) → RepresentsChain K.Between K.kept (L.table links.old) list.old s
+        → ChangesOnlyIn (L.table links.old) (L.table links.new) (object ∷ s) }
+{
+    let _ = list.push_front(links, object); // proved: it is not linked
+}
+
+/// Puts the object after all others. It requires that its place is covered, and that it is not linked. O(1).
+#[inline]
+pub fn push_back<K: DoubleEnded + ForwardLinks<L>, T, L: AcceptsUnlinked>(
+    list: &mut Chain<K, T>,
+    links: &mut L,
+    object: UnsafeRef<T>,
+)
+    requires covered { IsCovered (L.table links.old) object }
+    requires unlinked { IsUnlinked L.linked (L.table links.old) object }
+    requires shown { RepresentsSomeChain K.Between K.kept (L.table links.old) list.old }
+    ensures shown { (s : List Place) → RepresentsChain K.Between K.kept (L.table links.old) list.old s
+        → RepresentsChain K.Between K.kept (L.table links.new) list.new (s ++ object ∷ []) }
+    ensures shows { RepresentsSomeChain K.Between K.kept (L.table links.new) list.new }
+    ensures linked { LinksAlso L.linked (L.table links.old) (L.table links.new) object }
+    ensures frame { (s : List Place) → RepresentsChain K.Between K.kept (L.table links.old) list.old s
+        → ChangesOnlyIn (L.table links.old) (L.table links.new) (object ∷ s) }
+{
+    let _ = list.push_back(links, object); // proved: it is not linked
+}
+
+/// Takes the first member off and returns it, or `None` if the list is empty. O(1).
+#[inline]
+pub fn pop_front<K: ForwardLinks<L>, T, L: LinkOps>(
+    list: &mut Chain<K, T>,
+    links: &mut L,
+) -> Option<UnsafeRef<T>>
+    requires shown { RepresentsSomeChain K.Between K.kept (L.table links.old) list.old }
+    ensures answer { (s : List Place) → RepresentsChain K.Between K.kept (L.table links.old) list.old s → result ≡ first s }
+    ensures shown { (s : List Place) → RepresentsChain K.Between K.kept (L.table links.old) list.old s
+        → RepresentsChain K.Between K.kept (L.table links.new) list.new (drop 1 s) }
+    ensures shows { RepresentsSomeChain K.Between K.kept (L.table links.new) list.new }
+    ensures unlinked { IfSome result (λ object. Unlinks L.linked (L.table links.old) (L.table links.new) object) }
+    ensures empty { IfNone result ((list.new ≡ list.old) × (links.new ≡ links.old)) }
+    ensures frame { (s : List Place) → RepresentsChain K.Between K.kept (L.table links.old) list.old s
+        → ChangesOnlyIn (L.table links.old) (L.table links.new) s }
+{
+    list.pop_front(links)
+}
+
+/// Takes the last member off and returns it, or `None` if the list is empty. O(1).
+#[inline]
+pub fn pop_back<K: DoubleEnded + BidirectionalLinks<L>, T, L: LinkOps>(
+    list: &mut Chain<K, T>,
+    links: &mut L,
+) -> Option<UnsafeRef<T>>
+    requires shown { RepresentsSomeChain K.Between K.kept (L.table links.old) list.old }
+    ensures answer { (s : List Place) → RepresentsChain K.Between K.kept (L.table links.old) list.old s → result ≡ last s }
+    ensures shown { (s : List Place) → RepresentsChain K.Between K.kept (L.table links.old) list.old s
+        → RepresentsChain K.Between K.kept (L.table links.new) list.new (but_last s) }
+    ensures shows { RepresentsSomeChain K.Between K.kept (L.table links.new) list.new }
+    ensures unlinked { IfSome result (λ object. Unlinks L.linked (L.table links.old) (L.table links.new) object) }
+    ensures empty { IfNone result ((list.new ≡ list.old) × (links.new ≡ links.old)) }
+    ensures frame { (s : List Place) → RepresentsChain K.Between K.kept (L.table links.old) list.old s
+        → ChangesOnlyIn (L.table links.old) (L.table links.new) s }
+{
+    list.pop_back(links)
+}
+
+/// Takes the object off the list. It requires that it is a member. O(1).
+#[inline]
+pub fn remove<K: NamesBoth<L>, T, L: LinkOps>(
+    list: &mut Chain<K, T>,
+    links: &mut L,
+    object: &UnsafeRef<T>,
+)
+    requires member { HasMember (RepresentsChain K.Between K.kept (L.table links.old) list.old) object.now }
+    ensures shown { (front back : List Place) → RepresentsChain K.Between K.kept (L.table links.old) list.old (front ++ object.now ∷ back)
+        → RepresentsChain K.Between K.kept (L.table links.new) list.new (front ++ back) }
+    ensures shows { RepresentsSomeChain K.Between K.kept (L.table links.new) list.new }
+    ensures unlinked { Unlinks L.linked (L.table links.old) (L.table links.new) object.now }
+    ensures frame { (s : List Place) → RepresentsChain K.Between K.kept (L.table links.old) list.old s
+        → ChangesOnlyIn (L.table links.old) (L.table links.new) s }
+{
+    list.remove(links, object);
+}
+
+/// Puts the object, which stays linked, before all others. It requires that it is a member. O(1).
+#[inline]
+pub fn move_to_front<K: DoubleEnded + NamesBoth<L>, T, L: LinkOps>(
+    list: &mut Chain<K, T>,
+    links: &mut L,
+    object: &UnsafeRef<T>,
+)
+    requires member { HasMember (RepresentsChain K.Between K.kept (L.table links.old) list.old) object.now }
+    ensures shown { (front back : List Place) → RepresentsChain K.Between K.kept (L.table links.old) list.old (front ++ object.now ∷ back)
+        → RepresentsChain K.Between K.kept (L.table links.new) list.new (object.now ∷ (front ++ back)) }
+    ensures shows { RepresentsSomeChain K.Between K.kept (L.table links.new) list.new }
+    ensures linked { KeepsLinked L.linked (L.table links.old) (L.table links.new) }
+    ensures frame { (s : List Place) → RepresentsChain K.Between K.kept (L.table links.old) list.old s
+        → ChangesOnlyIn (L.table links.old) (L.table links.new) s }
+{
+    list.move_to_front(links, object);
+}
+
+/// Puts the object, which stays linked, after all others. It requires that it is a member. O(1).
+#[inline]
+pub fn move_to_back<K: DoubleEnded + NamesBoth<L>, T, L: LinkOps>(
+    list: &mut Chain<K, T>,
+    links: &mut L,
+    object: &UnsafeRef<T>,
+)
+    requires member { HasMember (RepresentsChain K.Between K.kept (L.table links.old) list.old) object.now }
+    ensures shown { (front back : List Place) → RepresentsChain K.Between K.kept (L.table links.old) list.old (front ++ object.now ∷ back)
+        → RepresentsChain K.Between K.kept (L.table links.new) list.new ((front ++ back) ++ object.now ∷ []) }
+    ensures shows { RepresentsSomeChain K.Between K.kept (L.table links.new) list.new }
+    ensures linked { KeepsLinked L.linked (L.table links.old) (L.table links.new) }
+    ensures frame { (s : List Place) → RepresentsChain K.Between K.kept (L.table links.old) list.old s
+        → ChangesOnlyIn (L.table links.old) (L.table links.new) s }
+{
+    list.move_to_back(links, object);
+}

@@ -1,4 +1,0 @@
-use Rattle.ic_program.proofs.text.behind_word.Goals as goal
-
-pub returns : goal.returns
-returns c = (c.first_word.result.0.now, c.first_word.ensures)

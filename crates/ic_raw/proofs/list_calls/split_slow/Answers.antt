@@ -1,0 +1,36 @@
+use Rattle.std.proofs.Common.{sym, ◌∙◌, rules}
+use Rattle.ic_link_ops.specs.Sequences.{join}
+use Rattle.ic_link_ops.proofs.SequenceLemmas.{some_same}
+use Rattle.ic_raw.specs.Touches.{sides}
+use Rattle.ic_raw.specs.Doubly.{Represents}
+use Rattle.ic_raw.proofs.Doubly.{gap_viewed, split_back, told_viewed}
+use Rattle.ic_raw.proofs.Ends.{cut_same}
+use Rattle.ic_raw.proofs.Moves.{stands_back}
+use Rattle.ic_raw.proofs.Lists.{kept}
+use Rattle.ic_raw.specs.LinkWords.{lent_table}
+use Rattle.ic_raw.proofs.LinkViews.{link_words, viewed, touched_back}
+use Rattle.ic_raw.proofs.list_calls.split_slow.Goals as goal
+
+pub returns-in-Some : goal.returns-in-Some
+returns-in-Some g c =
+    let words = link_words g.W.Words g.W.NextWord g.W.PrevPlace in record {
+      split = λ cut beside empty.
+          let view = c.new-links.ensures.1 in
+          split_back words c.args.side c.new-links.result c.split-part.new.links c.args.list.now c.write_back.new.words c.write_back-in-Some.new.words cut view (search rules) c.write_back.ensures.set c.write_back-in-Some.ensures.set (λ shown.
+          let seen : Represents words (lent_table words c.new-links.result) c.list_of-edited.result (join cut) = rw c.list_of-edited.ensures (viewed words kept c.new-links.result view shown) in
+          c.split-part.ensures.split cut seen (some_same (sym c.in-Some.is ∙ c.gap_at.ensures.shown cut seen (rw c.place_of.ensures beside))));
+      empty = search rules;
+      stands = λ made. stands_back words c.new-links.result c.new-links.ensures.1 c.place_of.ensures (c.gap_at.ensures.at _ c.in-Some.is);
+      links_back = λ made. told_viewed words c.args.side c.new-links.result c.new-links.ensures.1 c.list_of-edited.ensures c.place_of.ensures (c.gap_at.ensures.links_back _ c.in-Some.is);
+      touched = λ made.
+          let gap = gap_viewed words c.args.side c.new-links.result c.new-links.ensures.1 c.list_of-edited.ensures c.place_of.ensures (c.gap_at.ensures.sides _ c.in-Some.is) in
+          touched_back words c.new-links.result c.split-part.new.links c.new-links.ensures.1 (search rules) (λ k. sides (gap k)) c.split-part.ensures.touched;
+      own = λ made.
+          let gap = gap_viewed words c.args.side c.new-links.result c.new-links.ensures.1 c.list_of-edited.ensures c.place_of.ensures (c.gap_at.ensures.sides _ c.in-Some.is) in
+          cut_same c.args.side gap (sym c.list_of-edited.ensures) c.write_back.ensures.set c.write_back-in-Some.ensures.set c.split-part.ensures.own;
+      words = search rules;
+      rest_words = search rules;
+      refused = search rules;
+      why = search rules;
+      is_status = search rules;
+    }

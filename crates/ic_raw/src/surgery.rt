@@ -1,0 +1,75 @@
+//! The surgery of a tree over a view of the table, by whoever wants to see what it writes.
+//!
+//! ```text
+//! search_calls::insert_by(&mut Plain, table, keys, tree, 7) // as `insert`
+//! ```
+
+ghost use Rattle.std.specs.Prelude.{Some, [], ◌∷◌, Option};
+ghost use Rattle.ic_link_ops.specs.Prelude.{Place, Table};
+ghost use Rattle.ic_rbtree.specs.Closed.{ClosesAt, IsSafe, IsSafeBut, StaysClosed};
+ghost use Rattle.ic_rbtree.specs.Insertion.{Attaches};
+ghost use Rattle.ic_rbtree.specs.Transplants.{TakesAway};
+ghost use Rattle.ic_rbtree.specs.Tree.{root_of};
+ghost use Rattle.ic_raw.specs.declared.words.RawThree.{RawThree};
+ghost use Rattle.ic_raw.specs.Seen.{seen, seen_node, KeepsMarks};
+ghost use Rattle.ic_raw.specs.Tree.{lent_table};
+
+use crate::table::RawTable;
+use crate::words::RawThree;
+use ic_link_ops::Side;
+use ic_rbtree::RBTree;
+use ic_unsafe_ref::Place;
+
+/// Who puts places into a tree and takes members out, over a view of the table.
+pub trait Surgery {
+    // What it tells, from one state of its own to another, of what was written between two states of the table.
+    ghost Tells: { Self → Self → Table RawThree → Table RawThree → Type 0 };
+
+    /// Puts the place in, as [`RBTree::attach`] does. O(log n).
+    fn attach(
+        &mut self,
+        links: &mut RawTable<'_, RawThree>,
+        tree: &mut RBTree<()>,
+        parent: Option<Place>,
+        side: Side,
+        place: Place,
+    )
+        requires { IsSafeBut seen_node (seen (lent_table links.old)) (root_of tree.old) place (Some place ∷ parent ∷ []) }
+        ensures attached { Attaches seen_node (seen (lent_table links.old)) (seen (lent_table links.new)) (root_of tree.old) (root_of tree.new) parent side place }
+        ensures safe { ClosesAt seen_node (seen (lent_table links.old)) (seen (lent_table links.new)) (root_of tree.old) (root_of tree.new) place (Some place ∷ parent ∷ []) }
+        ensures keeps_links { KeepsMarks (lent_table links.old) (lent_table links.new) }
+        ensures told { Tells self.old self.new (lent_table links.old) (lent_table links.new) };
+
+    /// Takes the member out, as [`RBTree::unlink`] does. O(log n).
+    fn unlink(&mut self, links: &mut RawTable<'_, RawThree>, tree: &mut RBTree<()>, place: Place)
+        requires { IsSafe seen_node (seen (lent_table links.old)) (root_of tree.old) (Some place ∷ []) }
+        ensures taken { TakesAway seen_node (seen (lent_table links.old)) (seen (lent_table links.new)) (root_of tree.old) (root_of tree.new) place }
+        ensures safe { StaysClosed seen_node (seen (lent_table links.old)) (seen (lent_table links.new)) (root_of tree.old) (root_of tree.new) (Some place ∷ []) [] }
+        ensures keeps_links { KeepsMarks (lent_table links.old) (lent_table links.new) }
+        ensures told { Tells self.old self.new (lent_table links.old) (lent_table links.new) };
+}
+
+/// The surgery alone, which tells nothing.
+#[derive(Drop)]
+pub struct Plain;
+
+impl Surgery for Plain {
+    ghost Tells = { λ a b old new. Unit {0} };
+
+    #[inline]
+    fn attach(
+        &mut self,
+        links: &mut RawTable<'_, RawThree>,
+        tree: &mut RBTree<()>,
+        parent: Option<Place>,
+        side: Side,
+        place: Place,
+    ) {
+        tree.attach(links, parent, side, place);
+    }
+
+    #[inline]
+    fn unlink(&mut self, links: &mut RawTable<'_, RawThree>, tree: &mut RBTree<()>, place: Place) {
+        tree.unlink(links, place);
+    }
+}

@@ -1,0 +1,17 @@
+use Rattle.std.proofs.Common.{◌≡◌, ◌-◌, Bool, true, Option, Some, None}
+use Rattle.ic_unsafe_ref.specs.declared.place.Place.{Place}
+use Rattle.ic_rbtree.specs.Closed.{IsClosed}
+use Rattle.ic_raw.specs.Seen.{has_place, seen, seen_node}
+use Rattle.ic_raw.specs.Tree.{lent_table}
+use Rattle.ic_raw_augmented.proofs.Searches.{FindsBelow}
+use Rattle.ic_raw_augmented.proofs.find.first_below.Given as goal
+
+-- whatever a search from here finds the search from the first place finds
+abbrev pub invariant-loop : goal.invariant-loop
+invariant-loop l =
+    let t = lent_table l.fn.links in
+    record {
+      inside : has_place t l.place ≡ true;
+      found : (r : Option Place) → FindsBelow l.fn.kind t l.fn.sums (Some l.place) l.done l.fn.bound (67 - l.counter) r → FindsBelow l.fn.kind t l.fn.sums (Some l.fn.place) l.fn.done l.fn.bound 67 r;
+      there : (S : Place → Bool) → IsClosed seen_node (seen t) None S → S l.fn.place ≡ true → S l.place ≡ true;
+    }

@@ -1,0 +1,55 @@
+-- WHAT THE CALLS DO THAT EDIT A TREE AND KEEP ITS SUMS: each record is the whole contract of a call. It says by `call` that the words are edited as
+-- by the call without sums, if there is a sum for each place, and then what becomes of the sums.
+use Rattle.std.specs.Prelude.{◌≡◌, ◌≢◌, ◌⊎◌, ◌≤◌, ◌∷◌, ℕ, List, [], Option, None, length}
+use Rattle.ic_link_ops.specs.Prelude.{Place}
+use Rattle.ic_link_ops.specs.Walk.{is_end}
+use Rattle.ic_link_ops.specs.declared.side.Side.{Side}
+use Rattle.ic_raw.specs.declared.status.TheConstants.{OK, NULL}
+use Rattle.ic_raw.specs.declared.words.RawRoot.{RawRoot}
+use Rattle.ic_raw.specs.declared.words.RawThree.{RawThree}
+use Rattle.ic_raw.specs.Answers.{refusal}
+use Rattle.ic_raw.specs.Keys.{keys_fault}
+use Rattle.ic_raw.specs.SearchCalls.{PutCall}
+use Rattle.ic_raw.specs.Tree.{Represents, fault_at, fault_of, table_of}
+use Rattle.ic_raw.specs.TreeCalls.{InsertCall, RemoveCall}
+use Rattle.ic_raw_augmented.specs.declared.sums.Kind.{Kind}
+use Rattle.ic_raw_augmented.specs.declared.sums.RawSum.{RawSum}
+use Rattle.ic_raw_augmented.specs.Sums.{IsSummed, IsSummedBut, KeepsValues, sums_fault}
+
+-- `sums`, `sums'`: before the call and after it. `old`, `new`: the words of the table. `status`: what the call returns
+module _ (kind : Kind) (sums sums' : List RawSum) (old new : List RawThree) (status : ℕ) where
+  -- THE SUMS STAY RIGHT: after an accepted call they are right of each tree that the words represent then, if before it they were at all its
+  -- members but `came`
+  abbrev pub KeepsSums : (came : Option Place) → Type 0
+  KeepsSums came = status ≡ OK → (root : Option Place) (s : List Place) → Represents (table_of new) root s → IsSummedBut kind (table_of old) sums s (is_end came)
+      → IsSummed kind (table_of new) sums' s
+
+-- `tree`, `tree'`: the word of the tree before and after
+module _ (kind : Kind) (keys : List ℕ) (sums sums' : List RawSum) (old new : List RawThree) (status : ℕ) where
+  -- A PLACE GOES IN BEHIND ALL MEMBERS with no greater key than its own
+  pub record SumsPutCall (tree tree' : RawRoot) (place : Option Place) : Type 0 where
+    pub call : length old ≤ length sums → PutCall keys old new status tree tree' place
+    pub summed : KeepsSums kind sums sums' old new status place
+    pub values : KeepsValues sums sums'
+    pub has_sums : status ≡ OK → length old ≤ length sums
+    pub refused : status ≢ OK → (new ≡ old) × (tree' ≡ tree) × (sums' ≡ sums)
+    pub why : status ≢ OK → status ≡ refusal (sums_fault sums (length old) ∷ keys_fault keys (length old) ∷ fault_of old place ∷ [])
+
+module _ (kind : Kind) (sums sums' : List RawSum) (old new : List RawThree) (tree tree' : RawRoot) (status : ℕ) where
+  -- A PLACE GOES IN AS THE CHILD on this side of the member `at`, at none as the only member
+  pub record SumsInsertCall (side : Side) (at place : Option Place) : Type 0 where
+    pub call : length old ≤ length sums → InsertCall old new tree tree' status side at place
+    pub summed : KeepsSums kind sums sums' old new status place
+    pub values : KeepsValues sums sums'
+    pub has_sums : status ≡ OK → length old ≤ length sums
+    pub refused : status ≢ OK → (new ≡ old) × (tree' ≡ tree) × (sums' ≡ sums)
+    pub why : status ≢ OK → status ≡ refusal (sums_fault sums (length old) ∷ fault_at old at ∷ fault_of old place ∷ [])
+
+  -- A MEMBER LEAVES
+  pub record SumsRemoveCall (at : Option Place) : Type 0 where
+    pub call : length old ≤ length sums → RemoveCall old new tree tree' status at
+    pub summed : KeepsSums kind sums sums' old new status None
+    pub values : KeepsValues sums sums'
+    pub has_sums : (status ≡ OK) ⊎ (status ≡ NULL) → length old ≤ length sums
+    pub refused : status ≢ OK → (new ≡ old) × (tree' ≡ tree) × (sums' ≡ sums)
+    pub why : status ≢ OK → status ≢ NULL → status ≡ refusal (sums_fault sums (length old) ∷ fault_at old at ∷ [])

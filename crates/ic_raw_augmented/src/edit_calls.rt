@@ -1,0 +1,108 @@
+//! Calls for C that edit a tree, and keep its sums right.
+//!
+//! ```text
+//! insert(table, keys, sums, Kind::Sum, tree, 7) // OK: in the order of keys[0], keys[1] ..
+//! remove(table, sums, Kind::Sum, tree, 7)       // OK
+//! ```
+
+ghost use Rattle.std.specs.Prelude.{◌≡◌, ◌≢◌, ◌≤◌, List, Option, length};
+ghost use Rattle.ic_link_ops.specs.Prelude.{Place};
+ghost use Rattle.ic_raw.specs.declared.status.TheConstants.{OK};
+ghost use Rattle.ic_raw.specs.Tree.{Represents, table_of};
+ghost use Rattle.ic_raw.specs.Words.{place_of};
+ghost use Rattle.ic_raw_augmented.specs.EditCalls.{SumsInsertCall, SumsPutCall, SumsRemoveCall};
+ghost use Rattle.ic_raw_augmented.specs.Sums.{IsSummed, IsSummedBut, KeepsValues};
+ghost use Rattle.ic_raw_augmented.specs.Written.{is_noted};
+
+use crate::renew::renew_written;
+use crate::sums::{Kind, RawSum};
+use crate::written::Written;
+use ic_link_ops::Side;
+use ic_raw::{OK, OUT_OF_RANGE, RawRoot, RawTable, RawThree, place_of, search_calls, tree_calls};
+
+// Joins the sums anew where an edit has written, if it was accepted.
+fn settle(table: &mut [RawThree], sums: &mut [RawSum], kind: Kind, written: &Written, status: u32)
+    requires enough { length table.old ≤ length sums.old }
+    ensures right { status ≡ OK → (root : Option Place) (s : List Place) → Represents (table_of table.old) root s
+        → IsSummedBut kind (table_of table.old) sums.old s (is_noted written.now) → IsSummed kind (table_of table.old) sums.new s }
+    ensures refused { status ≢ OK → sums.new ≡ sums.old }
+    ensures kept { KeepsValues sums.old sums.new }
+    ensures same { table.new ≡ table.old }
+{
+    if status != OK {
+        return;
+    }
+    let links = RawTable::new(table);
+    renew_written(&links, sums, kind, written);
+}
+
+/// Puts a place in after all members with no greater key than its own, as [`search_calls::insert`] does, and joins the sums anew that change. O(log n).
+///
+/// The place has to be one of the table, and not linked, and there has to be a key and a sum for each place of the table. If the sums of a tree were
+/// right at its members, they are right after it. If there are fewer sums than places, it returns [`OUT_OF_RANGE`].
+pub fn insert(
+    table: &mut [RawThree],
+    keys: &[u64],
+    sums: &mut [RawSum],
+    kind: Kind,
+    tree: &mut RawRoot,
+    place: u32,
+) -> u32
+    ensures { SumsPutCall kind keys.now sums.old sums.new table.old table.new result tree.old tree.new (place_of place) }
+{
+    if sums.len() < table.len() {
+        return OUT_OF_RANGE;
+    }
+    let mut written = Written::of(place_of(place));
+    let status = search_calls::insert_by(&mut written, table, keys, tree, place);
+    settle(table, sums, kind, &written, status);
+    status
+}
+
+/// Puts a place in as the child on this side of the member `at`, at [`NONE`](ic_raw::NONE) as the only member, as [`tree_calls::insert_at`] does, and
+/// joins the sums anew that change. O(log n).
+///
+/// The place has to be one of the table, and not linked, and there has to be a sum for each place of the table. If the sums of a tree were right at
+/// its members, they are right after it. If there are fewer sums than places, it returns [`OUT_OF_RANGE`].
+pub fn insert_at(
+    table: &mut [RawThree],
+    sums: &mut [RawSum],
+    kind: Kind,
+    tree: &mut RawRoot,
+    side: Side,
+    at: u32,
+    place: u32,
+) -> u32
+    ensures { SumsInsertCall kind sums.old sums.new table.old table.new tree.old tree.new result side (place_of at) (place_of place) }
+{
+    if sums.len() < table.len() {
+        return OUT_OF_RANGE;
+    }
+    let mut written = Written::of(place_of(place));
+    let status = tree_calls::insert_at_by(&mut written, table, tree, side, at, place);
+    settle(table, sums, kind, &written, status);
+    status
+}
+
+/// Takes the member `at` off, as [`tree_calls::remove`] does, and joins the sums anew that change, or returns [`NULL`](ic_raw::NULL) at
+/// [`NONE`](ic_raw::NONE). O(log n).
+///
+/// There has to be a sum for each place of the table. If the sums of a tree were right at its members, they are right after it. If there are
+/// fewer sums than places, it returns [`OUT_OF_RANGE`].
+pub fn remove(
+    table: &mut [RawThree],
+    sums: &mut [RawSum],
+    kind: Kind,
+    tree: &mut RawRoot,
+    at: u32,
+) -> u32
+    ensures { SumsRemoveCall kind sums.old sums.new table.old table.new tree.old tree.new result (place_of at) }
+{
+    if sums.len() < table.len() {
+        return OUT_OF_RANGE;
+    }
+    let mut written = Written::of(None);
+    let status = tree_calls::remove_by(&mut written, table, tree, at);
+    settle(table, sums, kind, &written, status);
+    status
+}

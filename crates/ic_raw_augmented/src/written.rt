@@ -1,0 +1,59 @@
+//! The places whose children an edit has written, noted by the nodes over which its surgery goes.
+//!
+//! ```text
+//! let mut written = Written::of(None);
+//! let status = tree_calls::remove_by(&mut written, table, tree, 7);
+//! renew_written(&links, sums, kind, &written); // joins the sums anew from each of them up
+//! ```
+
+ghost use Rattle.std.specs.Prelude.{◌≡◌, Option, Some, true};
+ghost use Rattle.ic_link_ops.specs.Prelude.{Place};
+ghost use Rattle.ic_raw_augmented.specs.Written.{is_noted};
+
+use ic_unsafe_ref::Place;
+
+// An edit of a tree writes children at no more places, one of them more than once: 10 at an insertion, and 13 at a removal.
+const ROOM: usize = 14;
+
+/// Places whose children were written, in the order of the writes.
+#[derive(Drop)]
+pub struct Written {
+    // The word of each, 0 for none.
+    pub(crate) words: [u64; 14],
+    count: usize,
+    // There was no room for one, which may be any.
+    pub(crate) is_full: bool,
+}
+
+impl Written {
+    /// With this place, or with none. O(1).
+    #[inline]
+    pub(crate) fn of(place: Option<Place>) -> Written
+        ensures { (q : Place) → place ≡ Some q → is_noted result q ≡ true }
+    {
+        let mut written = Written {
+            words: [0; 14],
+            count: 0,
+            is_full: false,
+        };
+        if let Some(place) = place {
+            written.note(place);
+        }
+        written
+    }
+
+    /// Notes the place. O(1).
+    #[inline]
+    pub(crate) fn note(&mut self, place: Place)
+        ensures here { is_noted self.new place ≡ true }
+        ensures others { (q : Place) → is_noted self.old q ≡ true → is_noted self.new q ≡ true }
+    {
+        let count = self.count;
+        if count >= ROOM || self.words[count] != 0 {
+            self.is_full = true;
+            return;
+        }
+        self.words[count] = Place::to_word(Some(place));
+        self.count = count + 1;
+    }
+}

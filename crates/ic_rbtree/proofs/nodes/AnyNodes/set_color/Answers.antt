@@ -1,5 +1,0 @@
-use Rattle.ic_rbtree.proofs.NoSteps.{no_step_more}
-use Rattle.ic_rbtree.proofs.nodes.AnyNodes.set_color.Goals as goal
-
-pub returns-clause-quiet : goal.returns-clause-quiet
-returns-clause-quiet g c = no_step_more g.L.LinkOps.Does g.met.L.LinkOps.does_on c.set_color.ensures.no_step

@@ -1,0 +1,4 @@
+use Rattle.plain_tests.proofs.lists.singly_linked.Goals as goal
+
+pub push_front-requires-clause-shown : goal.push_front-requires-clause-shown
+push_front-requires-clause-shown g c = c.new_singly-list.ensures.shows _

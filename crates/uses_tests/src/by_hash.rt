@@ -1,0 +1,28 @@
+//! Connections that are found by a hash table. The program over them finds them by a tree.
+
+use crate::fixtures::check;
+use connections::{ConnectionTable, OpenError};
+use ic_hash_index::{HashIndex, empty_buckets};
+use ic_test_support::rationed::Rationed;
+
+// Two connections in two chains. What is open already is refused, and so is one where no memory is left.
+#[test]
+fn connections_by_a_hash_table(rt: HostRuntime) {
+    let buckets = empty_buckets(rt.alloc(), 2).expect(&rt, "memory for buckets");
+    let memory = Rationed::new(rt.alloc(), 0);
+    let mut table = ConnectionTable::with_index(&memory, HashIndex::new(buckets));
+    check(
+        &rt,
+        matches!(table.open(7), Err(OpenError::NoRoom)) && table.find(7).is_none(),
+    );
+    check(&rt, table.open(7).is_ok());
+    table.advance_to(30);
+    check(
+        &rt,
+        table.open(9).is_ok() && matches!(table.open(7), Err(OpenError::AlreadyOpen)),
+    );
+    let seen = table.find(9).map(|connection| connection.seen);
+    check(&rt, seen == Some(30));
+    let oldest = table.close_oldest().map(|connection| connection.id);
+    check(&rt, oldest == Some(7) && table.find(7).is_none());
+}

@@ -1,0 +1,28 @@
+//! Tables whose kind is chosen when a program runs.
+
+use ic_any_collection::AnyTable;
+use ic_unsafe_ref::Place;
+use ic_world::Kind;
+use std::alloc::Global;
+
+// How many of the first four places a new table of the kind tells to be unlinked, where it was made to cover three.
+fn unlinked_of_three(alloc: Global, kind: Kind) -> usize {
+    let mut links = AnyTable::new(alloc, kind);
+    let _ = links.cover(3);
+    let mut unlinked = 0usize;
+    for index in 0..4 {
+        if let Some(place) = Place::new(index) {
+            if index < links.covers() && !links.is_linked(place) {
+                unlinked = unlinked.wrapping_add(1);
+            }
+        }
+    }
+    unlinked
+}
+
+#[test]
+fn tables_of_each_kind(rt: HostRuntime) {
+    for kind in [Kind::Singly, Kind::Xor, Kind::Doubly, Kind::Tree] {
+        assert!(rt; unlinked_of_three(rt.alloc(), kind) == 3);
+    }
+}

@@ -1,0 +1,314 @@
+//! Trees with sums: a value for each place, and what the values of a member and of all members below it make together.
+
+use crate::error::{done, handed_out, try_counted};
+use crate::link::{number, Link};
+use crate::{Error, Link3, Tree};
+use ic_sys::*;
+
+/// What a tree with sums has for each place beside its link: a value, which you write, and a sum, which calls write.
+///
+/// A slice of yours has one for each place. The sum at a member is what the values of this member and of all members below it make together, by
+/// the [`SumKind`] that you hand to each call. If each value is 1, a search by sums finds the member at a position, and tells the position of a
+/// member:
+///
+/// ```
+/// use ic::{Error, Link3, Sum, SumKind, Tree};
+///
+/// let deadlines = [30, 10, 20];
+/// let (mut links, mut counts, mut timers) = ([Link3::UNLINKED; 3], [Sum::new(1); 3], Tree::new());
+/// for timer in 0..3 {
+///     timers.sums_insert(&mut links, &deadlines, &mut counts, SumKind::Sum, timer)?;
+/// }
+/// assert_eq!(timers.sums_total(&counts), 3);
+/// assert_eq!(timers.sums_find(&links, &counts, SumKind::Sum, None, 1)?, Some(2)); // at the position 1, from 0 on
+/// assert_eq!(Tree::sums_before(&links, &counts, SumKind::Sum, 0)?, 2);
+///
+/// // After the value of one member has changed, the call makes those sums right that it is part of.
+/// counts[2].value = 5;
+/// Tree::sums_renew(&links, &mut counts, SumKind::Sum, Some(2))?;
+/// assert_eq!(Tree::sums_before(&links, &counts, SumKind::Sum, 0)?, 6);
+/// timers.sums_remove(&mut links, &mut counts, SumKind::Sum, 1)?;
+/// assert_eq!(timers.sums_total(&counts), 6);
+/// # Ok::<(), Error>(())
+/// ```
+///
+/// If the keys are the starts of intervals, and the values their ends, a search finds each interval that overlaps another one:
+///
+/// ```
+/// use ic::{Error, Link3, Sum, SumKind, Tree};
+///
+/// let (starts, ends) = ([10, 20, 25, 40], [30, 22, 45, 50]);
+/// let (mut links, mut sums, mut regions) = ([Link3::UNLINKED; 4], ends.map(Sum::new), Tree::new());
+/// for region in 0..4 {
+///     regions.insert(&mut links, &starts, region)?;
+/// }
+/// Tree::sums_renew(&links, &mut sums, SumKind::Greatest, None)?;
+/// let first = regions.sums_overlap(&links, &starts, &sums, None, 23, 26)?;
+/// assert_eq!(first, Some(0));
+/// assert_eq!(regions.sums_overlap(&links, &starts, &sums, first, 23, 26)?, Some(2));
+/// assert_eq!(regions.sums_overlap(&links, &starts, &sums, Some(2), 23, 26)?, None);
+/// # Ok::<(), Error>(())
+/// ```
+#[repr(C)]
+#[derive(Clone, Copy, Debug, Default, PartialEq, Eq, Hash)]
+pub struct Sum {
+    /// The value of the place, which you write, and no call changes.
+    pub value: u64,
+    /// What the value and those of all members below the place make together, once a call has made it right.
+    pub sum: u64,
+}
+
+impl Sum {
+    /// Returns a value with a sum that is yet to be made, in O(1).
+    #[inline]
+    #[must_use]
+    pub const fn new(value: u64) -> Sum {
+        Sum { value, sum: 0 }
+    }
+}
+
+/// What values make together.
+#[repr(u32)]
+#[derive(Clone, Copy, Debug, Default, PartialEq, Eq, Hash)]
+pub enum SumKind {
+    /// Their sum, which is at most `u64::MAX`.
+    #[default]
+    Sum = IC_SUM,
+    /// The greatest of them.
+    Greatest = IC_GREATEST,
+}
+
+/// Trees with sums. There has to be a [`Sum`] for each place.
+///
+/// The edits below keep right sums right, and those of an empty tree are right. Other edits leave the sums as they are. After those call
+/// [`sums_renew`](Self::sums_renew) with `None`, and after you have changed the value of one member, with that member.
+impl Tree {
+    /// Returns what the values of all members make together, in O(1), if the sums are right, and 0 if there are no members.
+    #[inline]
+    #[must_use]
+    pub fn sums_total(&self, sums: &[Sum]) -> u64 {
+        self.root().and_then(|root| sums.get(root as usize)).map_or(0, |root| root.sum)
+    }
+
+    // tools/c-calls --write writes from here: tree-sums
+    /// Inserts `place` by its key as ic_tree_insert does, and makes the sums right again that change with it, in O(log n). If those of the
+    /// tree were right before the call, they are right after it, whatever the sum of `place` was.
+    ///
+    /// # Errors
+    ///
+    /// [`Error::OutOfRange`] if there are fewer keys than places, or there are fewer sums than places, or `place` is not below the table's
+    /// length. [`Error::Linked`] if `place` is linked already. [`Error::Broken`] if the root does not belong to this table.
+    #[inline]
+    pub fn sums_insert(
+        &mut self,
+        table: &mut [Link3],
+        keys: &[u64],
+        sums: &mut [Sum],
+        kind: SumKind,
+        place: u32,
+    ) -> Result<(), Error> {
+        let (links, places) = Link3::parts(table);
+        // SAFETY: each pointer comes from a reference, with the length of its slice, and no mutable reference overlaps another one.
+        done(unsafe {
+            ic_tree_sums_insert(
+                links,
+                places,
+                keys.as_ptr(),
+                keys.len(),
+                sums.as_mut_ptr().cast(),
+                sums.len(),
+                kind as u32,
+                &mut self.0,
+                place,
+            )
+        })
+    }
+
+    /// Inserts `place` as ic_tree_insert_left does, and makes the sums right again that change with it, in O(log n).
+    ///
+    /// # Errors
+    ///
+    /// [`Error::OutOfRange`] if there are fewer sums than places, or `at` or `place` is not below the table's length. [`Error::Linked`] if
+    /// `place` is linked already. [`Error::NotLinked`] if the place `at` is not linked. [`Error::Broken`] if `at` has a left child, or `at`
+    /// is `None` and the tree has members, or the root does not belong to this table.
+    #[inline]
+    pub fn sums_insert_left(
+        &mut self,
+        table: &mut [Link3],
+        sums: &mut [Sum],
+        kind: SumKind,
+        at: Option<u32>,
+        place: u32,
+    ) -> Result<(), Error> {
+        let (links, places) = Link3::parts(table);
+        // SAFETY: each pointer comes from a reference, with the length of its slice, and no mutable reference overlaps another one.
+        done(unsafe {
+            ic_tree_sums_insert_left(
+                links,
+                places,
+                sums.as_mut_ptr().cast(),
+                sums.len(),
+                kind as u32,
+                &mut self.0,
+                number(at),
+                place,
+            )
+        })
+    }
+
+    /// Inserts `place` as ic_tree_insert_right does, and makes the sums right again that change with it, in O(log n).
+    ///
+    /// # Errors
+    ///
+    /// [`Error::OutOfRange`] if there are fewer sums than places, or `at` or `place` is not below the table's length. [`Error::Linked`] if
+    /// `place` is linked already. [`Error::NotLinked`] if the place `at` is not linked. [`Error::Broken`] if `at` has a right child, or
+    /// `at` is `None` and the tree has members, or the root does not belong to this table.
+    #[inline]
+    pub fn sums_insert_right(
+        &mut self,
+        table: &mut [Link3],
+        sums: &mut [Sum],
+        kind: SumKind,
+        at: Option<u32>,
+        place: u32,
+    ) -> Result<(), Error> {
+        let (links, places) = Link3::parts(table);
+        // SAFETY: each pointer comes from a reference, with the length of its slice, and no mutable reference overlaps another one.
+        done(unsafe {
+            ic_tree_sums_insert_right(
+                links,
+                places,
+                sums.as_mut_ptr().cast(),
+                sums.len(),
+                kind as u32,
+                &mut self.0,
+                number(at),
+                place,
+            )
+        })
+    }
+
+    /// Removes the member `at`, and makes the sums right again that change with it, in O(log n). If those of the tree were right before the
+    /// call, they are right after it.
+    ///
+    /// # Errors
+    ///
+    /// [`Error::Null`] if the place `at` is `u32::MAX`. [`Error::OutOfRange`] if there are fewer sums than places, or the place `at` is not
+    /// below the table's length. [`Error::NotLinked`] if the place `at` is not linked. [`Error::Broken`] if the root does not belong to
+    /// this table.
+    #[inline]
+    pub fn sums_remove(&mut self, table: &mut [Link3], sums: &mut [Sum], kind: SumKind, at: u32) -> Result<(), Error> {
+        let (links, places) = Link3::parts(table);
+        // SAFETY: each pointer comes from a reference, with the length of its slice, and no mutable reference overlaps another one.
+        done(unsafe {
+            ic_tree_sums_remove(links, places, sums.as_mut_ptr().cast(), sums.len(), kind as u32, &mut self.0, at)
+        })
+    }
+
+    /// Makes the sums right again after the value of `at` has changed: its own sum, and those above it as far as they change, in O(log n).
+    /// If `at` is `None`, it makes all sums of the table right, of whichever trees it has, in O(p log p) for p places. It writes nothing
+    /// else.
+    ///
+    /// # Errors
+    ///
+    /// [`Error::OutOfRange`] if there are fewer sums than places, or the place `at` is not below the table's length. [`Error::NotLinked`]
+    /// if the place `at` is not linked.
+    #[inline]
+    pub fn sums_renew(table: &[Link3], sums: &mut [Sum], kind: SumKind, at: Option<u32>) -> Result<(), Error> {
+        let (links, places) = Link3::read_parts(table);
+        // SAFETY: each pointer comes from a reference, with the length of its slice, and no mutable reference overlaps another one.
+        done(unsafe {
+            ic_tree_sums_renew(links, places, sums.as_mut_ptr().cast(), sums.len(), kind as u32, number(at))
+        })
+    }
+
+    /// Finds the first member after the member `at`, or the first of all if `at` is `None`, at which what the values of the members after
+    /// `at` up to it make together is greater than `bound`, and returns it, in O(log n). It writes nothing else. It returns `None` if what
+    /// the values of all members after `at` make together is not greater than `bound`.
+    ///
+    /// # Errors
+    ///
+    /// [`Error::OutOfRange`] if there are fewer sums than places, or the place `at` is not below the table's length. [`Error::NotLinked`]
+    /// if the place `at` is not linked. [`Error::Broken`] if the sums of the tree are not right, or the root does not belong to this table.
+    #[inline]
+    pub fn sums_find(
+        &self,
+        table: &[Link3],
+        sums: &[Sum],
+        kind: SumKind,
+        at: Option<u32>,
+        bound: u64,
+    ) -> Result<Option<u32>, Error> {
+        let (links, places) = Link3::read_parts(table);
+        // SAFETY: each pointer comes from a reference, with the length of its slice, and no mutable reference overlaps another one.
+        handed_out(|it| unsafe {
+            ic_tree_sums_find(
+                links,
+                places,
+                sums.as_ptr().cast(),
+                sums.len(),
+                kind as u32,
+                &self.0,
+                number(at),
+                bound,
+                it,
+            )
+        })
+    }
+
+    /// Finds what the values of the members before the member `at` make together, and returns it, in O(log n). It writes nothing else.
+    ///
+    /// # Errors
+    ///
+    /// [`Error::Null`] if the place `at` is `u32::MAX`. [`Error::OutOfRange`] if there are fewer sums than places, or the place `at` is not
+    /// below the table's length. [`Error::NotLinked`] if the place `at` is not linked. [`Error::Broken`] if the links lead from `at` to no
+    /// root.
+    #[inline]
+    pub fn sums_before(table: &[Link3], sums: &[Sum], kind: SumKind, at: u32) -> Result<u64, Error> {
+        let (links, places) = Link3::read_parts(table);
+        // SAFETY: each pointer comes from a reference, with the length of its slice, and no mutable reference overlaps another one.
+        try_counted(|sum| unsafe {
+            ic_tree_sums_before(links, places, sums.as_ptr().cast(), sums.len(), kind as u32, at, sum)
+        })
+    }
+
+    /// Finds the first member after the member `at`, or the first of all if `at` is `None`, whose interval overlaps the one from `from` on
+    /// before `to`, and returns it, in O(log n). The interval of a member is from its key on before its value. The sums are those of
+    /// [`SumKind::Greatest`], and from one member to the next the keys must not fall. It writes nothing else. It returns `None` if no such
+    /// interval overlaps it.
+    ///
+    /// # Errors
+    ///
+    /// [`Error::OutOfRange`] if there are fewer keys than places, or there are fewer sums than places, or the place `at` is not below the
+    /// table's length. [`Error::NotLinked`] if the place `at` is not linked. [`Error::Broken`] if the sums of the tree are not right, or
+    /// the root does not belong to this table.
+    #[inline]
+    pub fn sums_overlap(
+        &self,
+        table: &[Link3],
+        keys: &[u64],
+        sums: &[Sum],
+        at: Option<u32>,
+        from: u64,
+        to: u64,
+    ) -> Result<Option<u32>, Error> {
+        let (links, places) = Link3::read_parts(table);
+        // SAFETY: each pointer comes from a reference, with the length of its slice, and no mutable reference overlaps another one.
+        handed_out(|it| unsafe {
+            ic_tree_sums_overlap(
+                links,
+                places,
+                keys.as_ptr(),
+                keys.len(),
+                sums.as_ptr().cast(),
+                sums.len(),
+                &self.0,
+                number(at),
+                from,
+                to,
+                it,
+            )
+        })
+    }
+    // to here
+}
