@@ -1,5 +1,5 @@
 /* Writes that wait on a disk, in batches. A batch comes from a file, so its list is checked before it is used. It is sorted by sector, so
- * that the disk's head goes one way, and merged into the writes that wait already. No call takes memory. */
+ * that the disk's head goes one way, and merged into the writes that already wait. No call takes memory. */
 #include "ic.h"
 #include <stdio.h>
 #include <string.h>

@@ -1,4 +1,4 @@
-/* Connections that close themselves: each stands in one of the rings `busy` and `idle`, and leaves with no ring named. */
+/* Connections that close themselves: each is in one of the rings `busy` and `idle`, and leaves its ring without naming it. */
 #include "ic.h"
 #include <stdio.h>
 

@@ -1,5 +1,5 @@
 /* The extents of a file, which say which bytes have which owner. They are in a tree by their first bytes, and none overlaps another. Bytes
- * that get an owner leave the extents that they were in, and neighbors of one owner become one extent. It allocates nothing. */
+ * that get an owner leave the extents that they were in, and neighbors of one owner become one extent. The program allocates nothing. */
 #include "ic_in.h"
 #include <stdio.h>
 
@@ -55,7 +55,7 @@ static uint32_t cut(uint64_t start, uint64_t end) {
     return status;
 }
 
-/* Makes the extents on both sides of a byte one, if they are neighbors with one owner. */
+/* Joins the extents on both sides of a byte into one, if they are neighbors with the same owner. */
 static uint32_t merge(uint64_t byte) {
     uint32_t before, after;
     if (ic_tree_in_find(extents, byte, &after) != IC_OK || (before = ic_tree_in_before(extents, after)) == IC_NONE)
@@ -66,7 +66,7 @@ static uint32_t merge(uint64_t byte) {
     return drop(after);
 }
 
-/* Gives the bytes from `start` on, before `end`, to an owner, or with a space to none. */
+/* Gives the bytes from `start` on, before `end`, to an owner, or to nobody if `owner` is a space. */
 static uint32_t give(uint64_t start, uint64_t end, char owner) {
     uint32_t status = cut(start, end);
     if (status == IC_OK && owner != ' ')

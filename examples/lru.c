@@ -1,4 +1,4 @@
-/* A least recently used cache of four pages over one doubly linked list. It allocates nothing. */
+/* A least recently used cache of four pages over one doubly linked list. The program allocates nothing. */
 #include "ic.h"
 #include <stdio.h>
 
@@ -9,7 +9,7 @@ static struct ic_list order, vacant; /* the page used last is the first of `orde
 static int page_of[SLOTS];
 static uint32_t slot_of[PAGES];
 
-/* Uses a page: 1 if it was in the cache, 0 if it has been loaded, and -1 if that failed. */
+/* Uses a page. Returns 1 if the page was in the cache, 0 if it has been loaded, and -1 if loading failed. */
 static int use(int page) {
     uint32_t slot = slot_of[page];
     if (slot != IC_NONE)

@@ -1,5 +1,5 @@
-/* A cache of the pages that were used last, found by a key of 64 bits: a hash table is its index. A page is in a chain of the one table of
- * links and in the order of use of the other. The free places are a list beside the chains. It allocates nothing. */
+/* A cache of the pages that were used last, found by a key of 64 bits: a hash table is its index. A page is in a chain of one table of
+ * links, and in the order of use of the other table. The free places are a list in the table of the chains. The program allocates nothing. */
 #include "ic_in.h"
 #include <stdio.h>
 
@@ -20,7 +20,7 @@ static uint64_t hash_of(uint64_t key) {
     return key * UINT64_C(0x9E3779B97F4A7C15) >> 32;
 }
 
-/* The value of a key, whose page becomes the one used last, or a null pointer. */
+/* Returns the value of a key, or a null pointer. The page of the key becomes the one that was used last. */
 static const char *get(uint64_t key) {
     uint32_t page;
     if (ic_hash_in_find(pages, hash_of(key), key, &page) != IC_OK || ic_list_in_move_to_front(order, page) != IC_OK)
@@ -38,7 +38,7 @@ static uint32_t drop(uint64_t key) {
     return status == IC_OK ? ic_stack_in_push_front(vacant, page) : status;
 }
 
-/* Gives a key a value. If no place is free, the page that was not used for longest leaves. */
+/* Gives a key a value. If no place is free, the page that was not used for longest leaves the cache. */
 static uint32_t put(uint64_t key, const char *value) {
     uint32_t page, status;
     if (get(key)) {

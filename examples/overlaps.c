@@ -1,5 +1,5 @@
-/* Meetings of a day, in a tree by when they begin. Some overlap each other. The program finds those that overlap an interval, each in O(log n), by the
- * greatest ends that are kept beside the tree, and the meeting at a position. It allocates nothing. */
+/* Meetings of a day, in a tree by when they begin. Some overlap each other. The program finds the meetings that overlap an interval, each in O(log n), by the
+ * greatest ends that are kept beside the tree, and the meeting at a position. The program allocates nothing. */
 #include "ic.h"
 #include <stdio.h>
 

@@ -4,7 +4,7 @@
 
 enum { TASKS = 8, PRIORITIES = 3 };
 
-/* The tasks of a priority, first the one that waits longest, and the one after which the next goes. */
+/* The tasks of a priority, of which the first has waited longest, and the last task, after which the next one is inserted. */
 struct level {
     struct ic_stack tasks;
     uint32_t last;
@@ -13,7 +13,7 @@ struct level {
 static struct ic_link1 links[TASKS]; /* of all levels: a task is in one of them */
 static struct level levels[PRIORITIES] = {{{0}, IC_NONE}, {{0}, IC_NONE}, {{0}, IC_NONE}};
 
-/* Inserts a task at the end of its level. What it returns tells a task that waits already, and one that is none. */
+/* Inserts a task at the end of its level. Returns IC_LINKED if the task waits already, and IC_OUT_OF_RANGE if there is no such task. */
 static uint32_t wake(uint32_t task, int priority) {
     struct level *level = &levels[priority];
     uint32_t status = ic_stack_insert_after(links, TASKS, &level->tasks, level->last, task);

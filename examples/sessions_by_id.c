@@ -1,5 +1,5 @@
-/* Sessions that a request names by an id of 64 bits. A hash table finds the session, and a list in the same table has the free places. Where
- * there are more sessions than buckets, all of them move to twice as many. It allocates nothing. */
+/* Sessions that a request names by an id of 64 bits. A hash table finds the session, and a list in the same table has the free places. If
+ * there are more sessions than buckets, all sessions move to twice as many buckets. The program allocates nothing. */
 #include "ic.h"
 #include <stdio.h>
 
@@ -12,7 +12,7 @@ static int in_use;
 static uint64_t ids[SESSIONS], hashes[SESSIONS];
 static unsigned requests[SESSIONS];
 
-/* Ids that are numbered on, or end alike, get hashes that do not (the last steps of MurmurHash3). */
+/* Ids that follow one another, or end alike, get hashes that do not (by the last steps of MurmurHash3). */
 static uint64_t hash_of(uint64_t id) {
     id = (id ^ id >> 33) * UINT64_C(0xFF51AFD7ED558CCD);
     id = (id ^ id >> 33) * UINT64_C(0xC4CEB9FE1A85EC53);
@@ -26,7 +26,7 @@ static uint32_t find(uint64_t id) {
     return status == IC_OK ? found : IC_NONE;
 }
 
-/* Moves all sessions to twice as many buckets, one call for each bucket that there was. */
+/* Moves all sessions to twice as many buckets, by one call for each of the old buckets. */
 static uint32_t grow(void) {
     uint32_t status = IC_OK;
     for (size_t i = 0; status == IC_OK && i < bucket_count; i++)
@@ -36,7 +36,7 @@ static uint32_t grow(void) {
     return status;
 }
 
-/* Opens a session with an id that none has. IC_NULL: all places are in use. */
+/* Opens a session with an id that no other session has. IC_NULL: all places are in use. */
 static uint32_t open_session(uint64_t id) {
     uint32_t session, status = ic_stack_pop_front(links, SESSIONS, &vacant, &session);
     if (status == IC_OK && open_count == bucket_count && bucket_count < MOST_BUCKETS)

@@ -102,7 +102,7 @@ static void do_job(struct shared *shared, uint32_t slot) {
     unlock(shared);
 }
 
-/* Has the process killed while it holds the lock, and has overwritten half of the links. */
+/* Kills the process while it holds the lock, and after it has overwritten half of the links. */
 static void die(struct shared *shared) {
     lock(shared);
     memset(shared->links, 0xFF, sizeof shared->links / 2);
@@ -116,7 +116,7 @@ static struct shared *map(int file) {
     return shared;
 }
 
-/* What a worker does. Each maps the file once more than the one before it, so that its last address is another. */
+/* What a worker does. Each maps the file once more often than the worker before it, so that its last mapping is at another address. */
 static void run_worker(int file, int worker) {
     struct shared *shared = map(file);
     for (int again = 0; again < worker; again++)

@@ -1,4 +1,4 @@
-/* A timer queue: a red-black tree by deadlines, which are in an array of their own. It allocates nothing. */
+/* A timer queue: a red-black tree by deadlines, which are in an array of their own. The program allocates nothing. */
 #include "ic.h"
 #include <stdio.h>
 
@@ -8,7 +8,7 @@ static struct ic_link3 links[TIMERS];
 static struct ic_tree queue; /* the timer that is due first is the first member, and of those due at once the one started first */
 static uint64_t deadlines[TIMERS];
 
-/* Starts a timer. What it returns tells a timer that runs already, and one that is none. */
+/* Starts a timer. Returns IC_LINKED if the timer runs already, and IC_OUT_OF_RANGE if there is no such timer. */
 static uint32_t start(uint32_t timer, uint64_t deadline) {
     if (timer >= TIMERS)
         return IC_OUT_OF_RANGE;
@@ -17,7 +17,7 @@ static uint32_t start(uint32_t timer, uint64_t deadline) {
     return ic_tree_insert(links, TIMERS, deadlines, TIMERS, &queue, timer);
 }
 
-/* Stops a timer. What it returns tells one that does not run. */
+/* Stops a timer. Returns IC_NOT_LINKED if the timer does not run. */
 static uint32_t cancel(uint32_t timer) {
     return ic_tree_remove(links, TIMERS, &queue, timer);
 }

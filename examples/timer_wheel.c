@@ -1,6 +1,6 @@
 /* A hierarchical timer wheel. Each level has eight slots, and a slot stands for as many ticks as the whole level below. A timer waits in the
  * ring of its slot, and leaves it without a search: no code has to know which slot that is. As its time comes nearer, it moves down with all
- * timers of its slot. No call takes memory, and none but a tick goes over timers. */
+ * timers of its slot. No call takes memory, and only a tick goes over timers. */
 #include "ic_in.h"
 #include <stdio.h>
 
@@ -23,7 +23,7 @@ static uint32_t slot_of(uint32_t timer) {
     return slot(level, due_at[timer]);
 }
 
-/* Starts a timer, or starts one anew that waits already. With a period it rings again and again. */
+/* Starts a timer, or starts it anew if it waits already. With a period it rings again and again. */
 static uint32_t start(uint32_t timer, uint32_t delay, uint32_t period) {
     if (timer >= TIMERS)
         return IC_OUT_OF_RANGE;

@@ -1,9 +1,9 @@
 /* This library has lists, rings, hash tables and a red-black tree over tables of links in your memory. The lists are doubly linked, singly
  * linked and XOR lists.
  *
- * An object is a place, which is an index of your own arrays. A table has a link for each place, and a list or a tree leads from place
- * to place through one table. A place is in at most one list or tree of a table. An object that has to be in several at once has a link
- * in several tables. The library allocates nothing, keeps nothing between calls, and calls nothing.
+ * An object is a place, which is an index of your own arrays. A table has a link for each place, and a list or a tree leads from place to place
+ * through one table. A place is in at most one list or tree of a table. An object that has to be in several lists or trees at once has a link in
+ * several tables. The library allocates nothing, keeps nothing between calls, and calls nothing.
  *
  *     struct ic_link2 links[100] = {0};                   // a hundred unlinked places
  *     struct ic_list list = {0};                          // a list with no members
@@ -17,27 +17,26 @@
  * Every bit pattern is a value, and zeroed memory is a table of unlinked places, an empty list and an empty tree. A copy of a table with
  * its lists and trees is as good as the original.
  *
- * A call requires that `table` points to `places` links, `keys` to `key_count` keys, `hashes` to `hash_count` hashes, `buckets` to
- * `bucket_count` lists, and each other pointer to one value of its type. No two of these overlap, and no other thread writes or reads them
- * during the call, except that threads may read what all of them take as const. A call requires nothing else, so words, keys, hashes and
- * places may be any. The one dangerous number is a length that is greater than its array, because a call may leave your memory by it. A
- * length that is less is safe.
+ * A call requires that `table` points to `places` links, `keys` to `key_count` keys, `hashes` to `hash_count` hashes, `buckets` to `bucket_count`
+ * lists, and each other pointer to one value of its type. No two of these overlap, and no other thread writes or reads them during the call, except
+ * that threads may read what all of them take as const. A call requires nothing else, so words, keys, hashes and places may have any values. The one
+ * dangerous number is a length that is greater than its array, because with it a call may access memory that is not yours. A length that is too small
+ * is safe.
  *
  * This is what every call does, whatever you hand to it:
  *   - It returns one of the statuses below.
  *   - It writes to nothing but the first `places` links of the table, the lists, the tree, its ends, the buckets where the hashes lead, and
  *     the out parameter that you hand to it.
- *   - If the status is not IC_OK, it has changed nothing, out parameters included. The status says what is wrong with the first member
- *     that is named, else with the next one, else with the place to insert, else that the words do not fit together (IC_BROKEN). If the
- *     comment says what a call does if a place is IC_NONE, nothing is wrong with IC_NONE there.
- *   - It takes at most as many steps as its cost says, in which n is the number of members. If the links form no list or tree, a call whose
+ *   - If the status is not IC_OK, it has changed nothing, out parameters included. The status says what is wrong with the first member that is named,
+ *     else with the next one, else with the place to insert, else that the words do not fit together (IC_BROKEN). If the comment of a call says what
+ *     the call does with IC_NONE for a place, IC_NONE is not wrong there.
+ *   - The call takes at most as many steps as its cost says, in which n is the number of members. If the links form no list or tree, a call whose
  *     cost depends on members takes at most a fixed number of steps for each place of the table, and for each bucket that it goes through.
  *
- * If the table holds the list or tree, and the member that you name is one of its members, the call makes the edit that its comment says.
- * Every other list and tree of the table stays as it was. A call refuses a member of another list of the same table with IC_BROKEN if the
- * words of its neighbors tell, as they do at an end of a doubly linked list. In the middle of a list, in singly linked lists and in trees
- * they do not tell, and the call mixes both lists up, within the table. The word of an XOR list's member does not always tell its neighbors
- * either, as the part on XOR lists says.
+ * If the table holds the list or tree, and the member that you name is one of its members, the call makes the edit that its comment says. Every other
+ * list and tree of the table stays as it was. A call refuses a member of another list of the same table with IC_BROKEN if it can detect this by the
+ * words of the neighbors, as at an end of a doubly linked list. In the middle of a list, in singly linked lists and in trees it cannot detect this,
+ * and mixes up both lists, within the table. In an XOR list the call cannot always detect a wrong neighbor either, as the part on XOR lists explains.
  */
 #ifndef IC_H
 #define IC_H
@@ -52,7 +51,7 @@
 
 /* A program that includes this header needs code that defines this name, which only code of the same major and minor version does. If a program
  * contains code that needs two versions, the linker refuses the program, because both versions of the library define the same calls. On Linux GNU ld
- * also refuses a program with only the code of another version. The reference takes no memory of the program. */
+ * also refuses a program with only the code of another version. The reference to this name takes no memory of the program. */
 #if defined(__GNUC__) && defined(__ELF__)
 __asm__(".pushsection .ic_version, \"\"\n\t.long ic_version_0_1\n\t.popsection");
 #elif defined(__GNUC__) && !defined(__wasm__)
@@ -63,7 +62,7 @@ __asm__(".globl ic_version_0_1");
 extern "C" {
 #endif
 
-/* Marks a call that may be refused, so that the compiler warns if you overlook its status. -DIC_NODISCARD= switches the warning off. The older
+/* Marks a call that may be refused, so that the compiler warns if you ignore its status. -DIC_NODISCARD= switches the warning off. The older
  * attribute of GCC warns of (void)call, too, and the standard one, which GCC has from version 11 on, does not. */
 #ifndef IC_NODISCARD
 #if (defined(__cplusplus) && __cplusplus >= 201703L) || (defined(__STDC_VERSION__) && __STDC_VERSION__ >= 202311L)
@@ -77,15 +76,15 @@ extern "C" {
 #endif
 #endif
 
-/* This is the type of the length of an array. The calls take 64 bits for it, so on a processor whose size_t has 32 it is a longer number. The compiler converts
- * each length of yours to it. */
+/* This is the type of the length of an array. A call takes a length of 64 bits, so on a processor whose size_t has 32 bits this type is longer than
+ * size_t. The compiler converts each length that you pass to this type. */
 #if SIZE_MAX >= UINT64_MAX
 typedef size_t ic_length;
 #else
 typedef uint64_t ic_length;
 #endif
 
-/* Names no place. As a cursor of a list it is the position between the last member and the first. */
+/* Names no place. As a cursor of a list, IC_NONE is the position between the last member and the first. */
 #define IC_NONE UINT32_MAX
 
 /* These are the statuses that a call returns. */
@@ -149,7 +148,7 @@ struct ic_list {
     uint64_t head, tail;
 };
 
-/* This is an XOR list, whose links have the exclusive or of both neighbors. */
+/* This is an XOR list. The link of a member has the exclusive or of its two neighbors. */
 struct ic_xor_list {
     uint64_t head, tail;
 };
@@ -177,7 +176,7 @@ static inline uint64_t ic_word(uint32_t place) {
     return (uint64_t)(uint32_t)(place + 1u) * 8;
 }
 
-/* Returns the number that a word keeps, which is 0 for no place. Bits 0 to 2 and those from 36 on count for nothing. */
+/* Returns the number that a word keeps, which is 0 for no place. The function ignores bits 0 to 2 and all bits from 36 on. */
 static inline uint64_t ic_number(uint64_t word) {
     return word / 8 % (UINT64_C(1) << 33);
 }
@@ -191,25 +190,26 @@ static inline uint32_t ic_place(uint64_t word) {
 /* ---- Reads and loops --------------------------------------------------------------------------------------------------------------
  *
  * The inline functions that read a link take the table's length, as the calls do. They return IC_NONE if the place is out of range or unlinked, and
- * if the word there names no place of the table. So none of them reads outside the table, whatever the words say. Those that read only a list or a
- * tree, such as ic_list_first, are handed no length. If its words are broken, they may return a place that is out of range.
+ * if the word in the link names no place of the table. So none of them reads outside the table, whatever the words say. The functions that read only
+ * a list or a tree, such as ic_list_first, take no length. If the words of the list or tree are broken, these functions may return a place that is
+ * out of range.
  *
- * A macro makes a loop, which runs its body once for each member. It declares `place` and the other variables that are named before
- * `table`. You can leave it with `break`, go on with `continue`, and write one loop inside another.
+ * A macro makes a loop, which runs its body once for each member. The macro declares `place` and the other variables that are named before `table`.
+ * You can leave the loop with `break`, go on with `continue`, and write one loop inside another.
  *
  *     IC_LIST_FOREACH(place, links, 100, &list)
  *         if (place % 2 == 0)
  *             printf("%u\n", (unsigned)place);
  *
- * Whatever the links are, a loop runs its body at most `places` times, each time for a linked place of the table. It ends at a word that
- * leads to no such place. It evaluates `table`, `places` and `list` in each round.
+ * Whatever the links are, a loop runs its body at most `places` times, each time for a linked place of the table. The loop ends at a word that leads
+ * to no such place. It evaluates `table`, `places` and `list` in each round.
  *
- * A plain loop ends early if its body removes the member. The body of a ..._SAFE loop may remove it, and may then insert the place into
- * another list or tree. It has to leave the members beside it where they are. A ..._FROM loop begins at the member `at`. To begin after a
- * member, hand the one after it to the loop, as ic_list_next returns it.
+ * A plain loop ends early if its body removes the current member. The body of a ..._SAFE loop may remove the current member, and may then insert its
+ * place into another list or tree. The body has to leave the members beside the current one where they are. A ..._FROM loop begins at the member
+ * `at`. To begin after a member, pass the next member, which ic_list_next returns.
  *
- * If your objects are in an array, a ..._ENTRY loop gives you the object. You declare a pointer to it, and hand its name to the loop. The array has
- * to have an object for each place of the table. After the last round the pointer is null, and after a `break` it still is the object:
+ * If your objects are in an array, a ..._ENTRY loop gives you the object. You declare a pointer to an object, and pass its name to the loop. The
+ * array has to have an object for each place of the table. After the last round the pointer is null, and after a `break` it still is the object:
  *
  *     struct job jobs[100], *job;
  *     IC_LIST_FOREACH_ENTRY(job, jobs, links, 100, &list)
@@ -230,14 +230,14 @@ static inline uint32_t ic_place_within(ic_length places, uint64_t word) {
     return place < ic_bound(places) ? place : IC_NONE;
 }
 
-/* Returns the status of a call that needs `place` as a member, if it can't use the place. `is_linked` says whether the place is linked. */
+/* Returns the status of a call that needs `place` as a member and has to refuse it. `is_linked` says whether the place is linked. */
 static inline uint32_t ic_fault_of(ic_length places, uint32_t place, int is_linked) {
     if (place == IC_NONE)
         return IC_NULL;
     return place >= ic_bound(places) ? IC_OUT_OF_RANGE : is_linked ? IC_BROKEN : IC_NOT_LINKED;
 }
 
-/* The loops below are made of these two. They run while `place` is a member, and go on to the member that `next` finds from it. */
+/* The loops below are made of these two macros. They run while `place` is a member, and go on to the member that `next` finds from it. */
 #define IC_LOOP(place, first, places, is_member, next)                                                       \
     for (uint32_t place = (first), ic_rounds_##place = ic_bound(places); (is_member) && ic_rounds_##place--; \
          place = (next))
@@ -245,12 +245,13 @@ static inline uint32_t ic_fault_of(ic_length places, uint32_t place, int is_link
     for (uint32_t place = (first), follower = (next), ic_rounds_##place = ic_bound(places); \
          (is_member) && ic_rounds_##place--; place = follower, follower = (next))
 
-/* IC_ENTRY is the object of a place in the array `objects`, or a null pointer if the place is IC_NONE. It evaluates `place` twice. IC_PLACE_OF
- * is the place of an object. With a read of an end or of a neighbor you get that object, as by IC_ENTRY(jobs, ic_list_front(links, 100, &list)). */
+/* IC_ENTRY is the object of a place in the array `objects`, or a null pointer if the place is IC_NONE. It evaluates `place` twice. IC_PLACE_OF is the
+ * place of an object. If you pass IC_ENTRY a read of an end or a neighbor, you get the object there, as with IC_ENTRY(jobs, ic_list_front(links, 100,
+ * &list)). */
 #define IC_ENTRY(objects, place) ((place) == IC_NONE ? NULL : &(objects)[place])
 #define IC_PLACE_OF(object, objects) ((uint32_t)((object) - (objects)))
 
-/* The loops that give objects are made of these: `object` is the one of `place` in each round, and null after the last one. */
+/* The loops that give objects are made of these macros. In each round `object` is the object of `place`, and after the last round it is null. */
 #define IC_ENTRY_IF(object, objects, place, is_member) ((is_member) ? ((object) = &(objects)[place], 1) : ((object) = NULL, 0))
 #define IC_LOOP_ENTRY(object, objects, place, first, places, is_member, next)              \
     for (uint32_t place = (first), ic_rounds_##place = ic_bound(places);                   \
@@ -261,10 +262,10 @@ static inline uint32_t ic_fault_of(ic_length places, uint32_t place, int is_link
 
 /* ---- Doubly linked lists: 16 bytes a place, calls O(1) except to fill, clear, check, sort and merge --------------------------------------
  *
- * Take them for queues, and for caches, from whose middle objects leave.
+ * Take doubly linked lists for queues, and for caches, where objects also leave from the middle.
  */
 
-/* ---- Lists: what both widths have ---- */
+/* ---- Lists: functions for links of 8-byte and of 4-byte words ---- */
 
 /* Returns whether a place is in a list of the table. */
 static inline int ic_list_is_linked(const struct ic_link2 *table, ic_length places, uint32_t place) {
@@ -321,8 +322,8 @@ static inline int ic_list_is_singular(const struct ic_link2 *table, ic_length pl
     return ic_list_is_first(table, places, list, ic_list_last(list));
 }
 
-/* These loops go from the first member to the last, and back. `next` is the member after `place`, and `prev` is the member before it. Beyond an
- * end they are IC_NONE.
+/* These loops go from the first member to the last, and back. `next` is the member after `place`, and `prev` is the member before it. Beyond an end
+ * of the list, `next` and `prev` are IC_NONE.
  *
  *     IC_LIST_FOREACH_SAFE(place, next, links, 100, &list)
  *         if (is_done(place))
@@ -406,8 +407,8 @@ IC_NODISCARD
 uint32_t ic_list_remove(struct ic_link2 *table, ic_length places, struct ic_list *list, uint32_t at);
 
 /* Removes the member `at`, and inserts `place` where it was, in O(1).
- * IC_NULL: the place `at` is IC_NONE. IC_OUT_OF_RANGE: `at` or `place` is not below `places`. IC_LINKED: `place` is linked already, also
- * where `at` and `place` are the same. IC_NOT_LINKED: the place `at` is not linked. IC_BROKEN: `at` is no member of the list. */
+ * IC_NULL: the place `at` is IC_NONE. IC_OUT_OF_RANGE: `at` or `place` is not below `places`. IC_LINKED: `place` is linked already, also if
+ * `at` and `place` are the same. IC_NOT_LINKED: the place `at` is not linked. IC_BROKEN: `at` is no member of the list. */
 IC_NODISCARD
 uint32_t ic_list_replace(struct ic_link2 *table, ic_length places, struct ic_list *list, uint32_t at, uint32_t place);
 
@@ -466,7 +467,7 @@ IC_NODISCARD
 uint32_t ic_list_fill(struct ic_link2 *table, ic_length places, struct ic_list *list, uint32_t first, uint32_t count);
 
 /* Removes all members, in O(n).
- * IC_BROKEN: the links do not lead from the first member to the last, each to the next one and back. */
+ * IC_BROKEN: the links do not lead from the first member to the last, or the links of two neighbors do not name each other. */
 IC_NODISCARD
 uint32_t ic_list_clear(struct ic_link2 *table, ic_length places, struct ic_list *list);
 
@@ -483,8 +484,8 @@ IC_NODISCARD
 uint32_t ic_list_split_before(struct ic_link2 *table, ic_length places, struct ic_list *list, uint32_t at, struct ic_list *rest);
 
 /* Counts the members, and sets *members to how many there are, in O(n). Call it if the words come from a file, or from memory that others
- * write. If the status is IC_OK, each call does what it says of a list that the table holds.
- * IC_BROKEN: the links do not lead from the first member to the last, each to the next one and back. */
+ * write. If the status is IC_OK, every other call on this list does what the comment of that call says.
+ * IC_BROKEN: the links do not lead from the first member to the last, or the links of two neighbors do not name each other. */
 IC_NODISCARD
 uint32_t ic_list_check(const struct ic_link2 *table, ic_length places, const struct ic_list *list, uint64_t *members);
 
@@ -492,22 +493,22 @@ uint32_t ic_list_check(const struct ic_link2 *table, ic_length places, const str
 
 /* ---- Lists by keys ----
  *
- * The keys are numbers, of which the least comes first. There has to be one for each place, and the calls read only those of members. Both calls
- * check the lists first, so they are never half done. A sort is recursive, to a depth of at most 33 calls.
+ * The keys are numbers, of which the least comes first. There has to be a key for each place, and the calls read only the keys of members. Both calls
+ * check the lists before they change anything, so no call is refused when it is half done. A sort is recursive, to a depth of at most 33 calls.
  */
 
 /* tools/c-calls --write writes from here: list-keys */
 
 /* Sorts the members by their keys, in O(n log n). Members with equal keys keep their order.
- * IC_OUT_OF_RANGE: there are fewer keys than places. IC_BROKEN: the links do not lead from the first member to the last, each to the next
- * one and back. */
+ * IC_OUT_OF_RANGE: there are fewer keys than places. IC_BROKEN: the links do not lead from the first member to the last, or the links of
+ * two neighbors do not name each other. */
 IC_NODISCARD
 uint32_t ic_list_sort(struct ic_link2 *table, ic_length places, const uint64_t *keys, ic_length key_count, struct ic_list *list);
 
 /* Moves all members of `given` to where their keys belong, if both lists are in the order of their keys, in O(n). Of members with equal
  * keys, those of `list` come first. The call leaves `given` empty.
  * IC_OUT_OF_RANGE: there are fewer keys than places. IC_BROKEN: the links of one of the lists do not lead from its first member to its
- * last, each to the next one and back, or both lists begin with the same member, as a list and its copy do. */
+ * last, or the links of two neighbors do not name each other, or both lists begin with the same member, as a list and its copy do. */
 IC_NODISCARD
 uint32_t ic_list_merge(struct ic_link2 *table, ic_length places, const uint64_t *keys, ic_length key_count, struct ic_list *list,
                        struct ic_list *given);
@@ -516,7 +517,7 @@ uint32_t ic_list_merge(struct ic_link2 *table, ic_length places, const uint64_t 
 
 /* ---- Members that go from list to list ----
  *
- * A transfer moves one member of another list of the same table, as a scheduler does with a task that waits no longer:
+ * A transfer moves one member of another list of the same table, as a scheduler does with a task that no longer waits:
  *
  *     status = ic_list_transfer_before(links, 100, &ready, IC_NONE, &waiting, 7);  // 7 becomes the last member of `ready`
  *
@@ -528,8 +529,8 @@ uint32_t ic_list_merge(struct ic_link2 *table, ic_length places, const uint64_t 
 /* Moves the member `place` of `given` after the member `at`, or to the front if `at` is IC_NONE, in O(1). The place stays linked during the
  * call.
  * IC_NULL: `place` is IC_NONE. IC_OUT_OF_RANGE: `at` or `place` is not below `places`. IC_NOT_LINKED: `at` or `place` is not linked.
- * IC_BROKEN: `at` is no member of the list, or `place` is none of `given`, or both lists begin with the same member, as a list and its copy
- * do. */
+ * IC_BROKEN: `at` is no member of the list, or `place` is no member of `given`, or both lists begin with the same member, as a list and its
+ * copy do. */
 IC_NODISCARD
 uint32_t ic_list_transfer_after(struct ic_link2 *table, ic_length places, struct ic_list *list, uint32_t at, struct ic_list *given,
                                 uint32_t place);
@@ -537,8 +538,8 @@ uint32_t ic_list_transfer_after(struct ic_link2 *table, ic_length places, struct
 /* Moves the member `place` of `given` before the member `at`, or to the back if `at` is IC_NONE, in O(1). The place stays linked during the
  * call.
  * IC_NULL: `place` is IC_NONE. IC_OUT_OF_RANGE: `at` or `place` is not below `places`. IC_NOT_LINKED: `at` or `place` is not linked.
- * IC_BROKEN: `at` is no member of the list, or `place` is none of `given`, or both lists begin with the same member, as a list and its copy
- * do. */
+ * IC_BROKEN: `at` is no member of the list, or `place` is no member of `given`, or both lists begin with the same member, as a list and its
+ * copy do. */
 IC_NODISCARD
 uint32_t ic_list_transfer_before(struct ic_link2 *table, ic_length places, struct ic_list *list, uint32_t at, struct ic_list *given,
                                  uint32_t place);
@@ -547,9 +548,9 @@ uint32_t ic_list_transfer_before(struct ic_link2 *table, ic_length places, struc
 
 /* ---- Doubly linked lists with words of 4 bytes: 8 bytes a place, calls O(1) except to clear and check ---------------------------------------
  *
- * These are lists with half the memory. A word is that of a wide link, cut to 4 bytes, so it can name the places below 536,870,911. Other places are
- * out of range. The list itself is a struct ic_list as before. Each call, read and loop does what the one without the 32 in its name does. Only wide
- * links have fills, sorts and merges.
+ * These lists take half the memory for their links. A word of 4 bytes is the word of an 8-byte link, cut to 4 bytes, so it can name the places below
+ * 536,870,911. Other places are out of range. The list itself is a struct ic_list as before. Each call, read and loop does what the one without the
+ * 32 in its name does. Lists with words of 4 bytes have no fills, sorts and merges.
  *
  *     struct ic_link2_32 links[100] = {0};               // 100 unlinked places
  *     struct ic_list list = {0};                         // a list with no members
@@ -557,7 +558,7 @@ uint32_t ic_list_transfer_before(struct ic_link2 *table, ic_length places, struc
  *     IC_LIST32_FOREACH(place, links, 100, &list)        // reads the members from the first to the last
  */
 
-/* Returns how many places a table of such links has, which is `places`, but at most 536,870,911. */
+/* Returns how many places a table of links with words of 4 bytes has, which is `places`, but at most 536,870,911. */
 static inline ic_length ic_places_32(ic_length places) {
     return places < 536870911 ? places : 536870911;
 }
@@ -606,7 +607,7 @@ uint32_t ic_list32_remove(struct ic_link2_32 *table, ic_length places, struct ic
 
 /* Removes the member `at`, and inserts `place` where it was, in O(1).
  * IC_NULL: the place `at` is IC_NONE. IC_OUT_OF_RANGE: `at` or `place` is not below `places`, or is 536,870,911 or more. IC_LINKED: `place`
- * is linked already, also where `at` and `place` are the same. IC_NOT_LINKED: the place `at` is not linked. IC_BROKEN: `at` is no member of
+ * is linked already, also if `at` and `place` are the same. IC_NOT_LINKED: the place `at` is not linked. IC_BROKEN: `at` is no member of
  * the list. */
 IC_NODISCARD
 uint32_t ic_list32_replace(struct ic_link2_32 *table, ic_length places, struct ic_list *list, uint32_t at, uint32_t place);
@@ -659,7 +660,7 @@ IC_NODISCARD
 uint32_t ic_list32_append(struct ic_link2_32 *table, ic_length places, struct ic_list *list, struct ic_list *given);
 
 /* Removes all members, in O(n).
- * IC_BROKEN: the links do not lead from the first member to the last, each to the next one and back. */
+ * IC_BROKEN: the links do not lead from the first member to the last, or the links of two neighbors do not name each other. */
 IC_NODISCARD
 uint32_t ic_list32_clear(struct ic_link2_32 *table, ic_length places, struct ic_list *list);
 
@@ -676,16 +677,16 @@ IC_NODISCARD
 uint32_t ic_list32_split_before(struct ic_link2_32 *table, ic_length places, struct ic_list *list, uint32_t at, struct ic_list *rest);
 
 /* Counts the members, and sets *members to how many there are, in O(n). Call it if the words come from a file, or from memory that others
- * write. If the status is IC_OK, each call does what it says of a list that the table holds.
- * IC_BROKEN: the links do not lead from the first member to the last, each to the next one and back. */
+ * write. If the status is IC_OK, every other call on this list does what the comment of that call says.
+ * IC_BROKEN: the links do not lead from the first member to the last, or the links of two neighbors do not name each other. */
 IC_NODISCARD
 uint32_t ic_list32_check(const struct ic_link2_32 *table, ic_length places, const struct ic_list *list, uint64_t *members);
 
 /* Moves the member `place` of `given` after the member `at`, or to the front if `at` is IC_NONE, in O(1). The place stays linked during the
  * call.
  * IC_NULL: `place` is IC_NONE. IC_OUT_OF_RANGE: `at` or `place` is not below `places`, or is 536,870,911 or more. IC_NOT_LINKED: `at` or
- * `place` is not linked. IC_BROKEN: `at` is no member of the list, or `place` is none of `given`, or both lists begin with the same member,
- * as a list and its copy do. */
+ * `place` is not linked. IC_BROKEN: `at` is no member of the list, or `place` is no member of `given`, or both lists begin with the same
+ * member, as a list and its copy do. */
 IC_NODISCARD
 uint32_t ic_list32_transfer_after(struct ic_link2_32 *table, ic_length places, struct ic_list *list, uint32_t at, struct ic_list *given,
                                   uint32_t place);
@@ -693,8 +694,8 @@ uint32_t ic_list32_transfer_after(struct ic_link2_32 *table, ic_length places, s
 /* Moves the member `place` of `given` before the member `at`, or to the back if `at` is IC_NONE, in O(1). The place stays linked during the
  * call.
  * IC_NULL: `place` is IC_NONE. IC_OUT_OF_RANGE: `at` or `place` is not below `places`, or is 536,870,911 or more. IC_NOT_LINKED: `at` or
- * `place` is not linked. IC_BROKEN: `at` is no member of the list, or `place` is none of `given`, or both lists begin with the same member,
- * as a list and its copy do. */
+ * `place` is not linked. IC_BROKEN: `at` is no member of the list, or `place` is no member of `given`, or both lists begin with the same
+ * member, as a list and its copy do. */
 IC_NODISCARD
 uint32_t ic_list32_transfer_before(struct ic_link2_32 *table, ic_length places, struct ic_list *list, uint32_t at, struct ic_list *given,
                                    uint32_t place);
@@ -758,8 +759,8 @@ static inline int ic_list32_is_singular(const struct ic_link2_32 *table, ic_leng
     return ic_list32_is_first(table, places, list, ic_list32_last(list));
 }
 
-/* These loops go from the first member to the last, and back. `next` is the member after `place`, and `prev` is the member before it. Beyond an
- * end they are IC_NONE.
+/* These loops go from the first member to the last, and back. `next` is the member after `place`, and `prev` is the member before it. Beyond an end
+ * of the list, `next` and `prev` are IC_NONE.
  *
  *     IC_LIST32_FOREACH_SAFE(place, next, links, 100, &list)
  *         if (is_done(place))
@@ -802,27 +803,27 @@ static inline int ic_list32_is_singular(const struct ic_link2_32 *table, ic_leng
 
 /* ---- Rings: 16 bytes a place, calls O(1) except to check and sort -----------------------------------------------------------------------
  *
- * A ring is a doubly linked list whose head is a place of the table. Its head and its members form a circle. A call removes a member, or
- * inserts a place beside one, without the name of a ring. That is good if the code that removes an object does not know its queue. These are
- * the lists of Linux (list.h). Rings and lists may be in one table. Take places for heads that are no objects.
+ * A ring is a doubly linked list whose head is a place of the table. Its head and its members form a circle. To remove a member, or to insert a place
+ * beside a member, you do not name the ring. So rings are good if the code that removes an object does not know the object's queue. Rings are like
+ * the lists of Linux (list.h). Rings and lists may be in one table. Take as heads places that have no object.
  *
  *     struct ic_link2 links[65] = {0};               // 64 objects, and a head at 64
  *     status = ic_ring_init(links, 65, 64);          // a ring with no members
  *     status = ic_ring_push_back(links, 65, 64, 7);
  *     status = ic_ring_remove(links, 65, 7);         // from whichever ring it is in
  *
- * Each call tests the places that it writes, and those beside them. A member in the middle of a doubly linked list passes these tests, too,
- * and the call treats it as one of a ring, which does no harm. No call can tell whether two places are in one ring or in two.
+ * Each call tests the places that it writes, and the places beside them. A member in the middle of a doubly linked list passes these tests, too, and
+ * the call treats it as a member of a ring, which does no harm. No call can tell whether two places are in one ring or in two.
  */
 
-/* ---- Rings: what both widths have ---- */
+/* ---- Rings: functions for links of 8-byte and of 4-byte words ---- */
 
 /* Returns whether a place is in a ring or a list of the table. */
 static inline int ic_ring_is_linked(const struct ic_link2 *table, ic_length places, uint32_t place) {
     return place < ic_bound(places) && (table[place].next & 1);
 }
 
-/* Returns the place after the place `at` of a ring, or IC_NONE. After a head comes the first member, and after the last member the head. */
+/* Returns the place after the place `at` of a ring, or IC_NONE. After a head comes the first member, and after the last member comes the head. */
 static inline uint32_t ic_ring_next(const struct ic_link2 *table, ic_length places, uint32_t at) {
     return ic_ring_is_linked(table, places, at) ? ic_place_within(places, table[at].next) : IC_NONE;
 }
@@ -832,39 +833,39 @@ static inline uint32_t ic_ring_prev(const struct ic_link2 *table, ic_length plac
     return ic_ring_is_linked(table, places, at) ? ic_place_within(places, table[at].prev) : IC_NONE;
 }
 
-/* Returns whether a head is that of a ring with no members. */
+/* Returns whether `head` is the head of a ring with no members. */
 static inline int ic_ring_is_empty(const struct ic_link2 *table, ic_length places, uint32_t head) {
     return ic_ring_is_linked(table, places, head) && ic_ring_next(table, places, head) == head;
 }
 
-/* Returns the first member of a head, or IC_NONE if there is none or if it is no linked place of the table. */
+/* Returns the first member of the ring with the head `head`, or IC_NONE if there is none or if it is no linked place of the table. */
 static inline uint32_t ic_ring_front(const struct ic_link2 *table, ic_length places, uint32_t head) {
     uint32_t place = ic_ring_next(table, places, head);
     return place != head && ic_ring_is_linked(table, places, place) ? place : IC_NONE;
 }
 
-/* Returns the last member of a head, or IC_NONE if there is none or if it is no linked place of the table. */
+/* Returns the last member of the ring with the head `head`, or IC_NONE if there is none or if it is no linked place of the table. */
 static inline uint32_t ic_ring_back(const struct ic_link2 *table, ic_length places, uint32_t head) {
     uint32_t place = ic_ring_prev(table, places, head);
     return place != head && ic_ring_is_linked(table, places, place) ? place : IC_NONE;
 }
 
-/* Returns whether the place `at` is the first member of a head. */
+/* Returns whether the place `at` is the first member of the ring with the head `head`. */
 static inline int ic_ring_is_first(const struct ic_link2 *table, ic_length places, uint32_t head, uint32_t at) {
     return at != IC_NONE && ic_ring_front(table, places, head) == at;
 }
 
-/* Returns whether the place `at` is the last member of a head. */
+/* Returns whether the place `at` is the last member of the ring with the head `head`. */
 static inline int ic_ring_is_last(const struct ic_link2 *table, ic_length places, uint32_t head, uint32_t at) {
     return at != IC_NONE && ic_ring_back(table, places, head) == at;
 }
 
-/* Returns whether a head has one member and no other. */
+/* Returns whether the ring with the head `head` has one member and no other. */
 static inline int ic_ring_is_singular(const struct ic_link2 *table, ic_length places, uint32_t head) {
     return ic_ring_is_first(table, places, head, ic_ring_back(table, places, head));
 }
 
-/* These loops go from the first member of a head to the last, and back. */
+/* These loops go from the first member of a ring to the last, and back. You name the ring by its head. */
 #define IC_RING_FOREACH(place, table, places, head)                                                                                   \
     IC_LOOP(place, ic_ring_next(table, places, head), places, place != (head) && ic_ring_is_linked(table, places, place),             \
             ic_ring_next(table, places, place))
@@ -910,48 +911,49 @@ IC_NODISCARD
 uint32_t ic_ring_init(struct ic_link2 *table, ic_length places, uint32_t head);
 
 /* Inserts `place` after the place `at` of a ring, as list_add of Linux does, in O(1). If `at` is a head, `place` becomes the first member.
- * IC_NULL: the place `at` is IC_NONE. IC_OUT_OF_RANGE: `at` or `place` is not below `places`. IC_LINKED: `place` is linked already, also
- * where `at` and `place` are the same. IC_NOT_LINKED: the place `at` is not linked. IC_BROKEN: `at` is in no ring. */
+ * IC_NULL: the place `at` is IC_NONE. IC_OUT_OF_RANGE: `at` or `place` is not below `places`. IC_LINKED: `place` is linked already, also if
+ * `at` and `place` are the same. IC_NOT_LINKED: the place `at` is not linked. IC_BROKEN: `at` is in no ring. */
 IC_NODISCARD
 uint32_t ic_ring_insert_after(struct ic_link2 *table, ic_length places, uint32_t at, uint32_t place);
 
 /* Inserts `place` before the place `at` of a ring, as list_add_tail of Linux does, in O(1). If `at` is a head, `place` becomes the last
  * member.
- * IC_NULL: the place `at` is IC_NONE. IC_OUT_OF_RANGE: `at` or `place` is not below `places`. IC_LINKED: `place` is linked already, also
- * where `at` and `place` are the same. IC_NOT_LINKED: the place `at` is not linked. IC_BROKEN: `at` is in no ring. */
+ * IC_NULL: the place `at` is IC_NONE. IC_OUT_OF_RANGE: `at` or `place` is not below `places`. IC_LINKED: `place` is linked already, also if
+ * `at` and `place` are the same. IC_NOT_LINKED: the place `at` is not linked. IC_BROKEN: `at` is in no ring. */
 IC_NODISCARD
 uint32_t ic_ring_insert_before(struct ic_link2 *table, ic_length places, uint32_t at, uint32_t place);
 
-/* Removes `place` from its ring, whichever that is, as list_del of Linux does, in O(1). If `place` is a head without members, its ring is
- * gone then.
+/* Removes `place` from its ring, whichever ring that is, as list_del of Linux does, in O(1). If `place` is a head without members, its ring
+ * no longer exists.
  * IC_NULL: `place` is IC_NONE. IC_OUT_OF_RANGE: `place` is not below `places`. IC_NOT_LINKED: `place` is not linked. IC_BROKEN: `place` is
  * in no ring. */
 IC_NODISCARD
 uint32_t ic_ring_remove(struct ic_link2 *table, ic_length places, uint32_t place);
 
-/* Exchanges the places after `one` and after `other`, which are in rings, in O(1). If `one` and `other` are in two rings, the call joins
- * the rings. If they are different places of one ring, it splits that ring into two. If you repeat the call, you undo it. If `one` is the
- * last member of a ring and `other` the head of another one, all members of the second ring, and then its head, come after `one`.
+/* Exchanges the place that follows `one` and the place that follows `other`, in O(1). Both `one` and `other` are in rings. If `one` and
+ * `other` are in two rings, the call joins the rings. If they are different places of one ring, it splits that ring into two. If you repeat
+ * the call, you undo it. If `one` is the last member of a ring and `other` the head of another one, all members of the second ring, and
+ * then its head, come after `one`.
  * IC_NULL: `one` or `other` is IC_NONE. IC_OUT_OF_RANGE: `one` or `other` is not below `places`. IC_NOT_LINKED: `one` or `other` is not
  * linked. IC_BROKEN: `one` or `other` is in no ring. */
 IC_NODISCARD
 uint32_t ic_ring_exchange(struct ic_link2 *table, ic_length places, uint32_t one, uint32_t other);
 
-/* Removes the first member of the head `head`, and sets *popped to it, in O(1).
+/* Removes the first member of the ring with the head `head`, and sets *popped to it, in O(1).
  * IC_NULL: `head` is IC_NONE, or `head` has no members. IC_OUT_OF_RANGE: `head` is not below `places`. IC_NOT_LINKED: `head` is not linked.
  * IC_BROKEN: `head` or its first member is in no ring. */
 IC_NODISCARD
 uint32_t ic_ring_pop_front(struct ic_link2 *table, ic_length places, uint32_t head, uint32_t *popped);
 
-/* Removes the last member of the head `head`, and sets *popped to it, in O(1).
+/* Removes the last member of the ring with the head `head`, and sets *popped to it, in O(1).
  * IC_NULL: `head` is IC_NONE, or `head` has no members. IC_OUT_OF_RANGE: `head` is not below `places`. IC_NOT_LINKED: `head` is not linked.
  * IC_BROKEN: `head` or its last member is in no ring. */
 IC_NODISCARD
 uint32_t ic_ring_pop_back(struct ic_link2 *table, ic_length places, uint32_t head, uint32_t *popped);
 
 /* Removes the place `at` from its ring, and inserts `place` where it was, as list_replace of Linux does, in O(1).
- * IC_NULL: the place `at` is IC_NONE. IC_OUT_OF_RANGE: `at` or `place` is not below `places`. IC_LINKED: `place` is linked already, also
- * where `at` and `place` are the same. IC_NOT_LINKED: the place `at` is not linked. IC_BROKEN: `at` is in no ring. */
+ * IC_NULL: the place `at` is IC_NONE. IC_OUT_OF_RANGE: `at` or `place` is not below `places`. IC_LINKED: `place` is linked already, also if
+ * `at` and `place` are the same. IC_NOT_LINKED: the place `at` is not linked. IC_BROKEN: `at` is in no ring. */
 IC_NODISCARD
 uint32_t ic_ring_replace(struct ic_link2 *table, ic_length places, uint32_t at, uint32_t place);
 
@@ -969,51 +971,52 @@ uint32_t ic_ring_move_after(struct ic_link2 *table, ic_length places, uint32_t a
 IC_NODISCARD
 uint32_t ic_ring_move_before(struct ic_link2 *table, ic_length places, uint32_t at, uint32_t place);
 
-/* Moves all members of the head `head`, in their order, after the place `at` of another ring, as list_splice_init of Linux does, in O(1).
- * Afterwards `head` is the head of a ring with no members.
+/* Moves all members of the ring with the head `head`, in their order, after the place `at` of another ring, as list_splice_init of Linux
+ * does, in O(1). Afterwards `head` is the head of a ring with no members.
  * IC_NULL: `at` or `head` is IC_NONE. IC_OUT_OF_RANGE: `at` or `head` is not below `places`. IC_NOT_LINKED: `at` or `head` is not linked.
- * IC_BROKEN: `at` or `head` is in no ring, or `at` is that head itself or its last member. */
+ * IC_BROKEN: `at` or `head` is in no ring, or `at` is `head` itself or its last member. */
 IC_NODISCARD
 uint32_t ic_ring_splice_after(struct ic_link2 *table, ic_length places, uint32_t at, uint32_t head);
 
-/* Moves all members of the head `head`, in their order, before the place `at` of another ring, as list_splice_tail_init of Linux does, in
- * O(1). Afterwards `head` is the head of a ring with no members.
+/* Moves all members of the ring with the head `head`, in their order, before the place `at` of another ring, as list_splice_tail_init of
+ * Linux does, in O(1). Afterwards `head` is the head of a ring with no members.
  * IC_NULL: `at` or `head` is IC_NONE. IC_OUT_OF_RANGE: `at` or `head` is not below `places`. IC_NOT_LINKED: `at` or `head` is not linked.
- * IC_BROKEN: `at` or `head` is in no ring, or `at` is that head itself or its first member. */
+ * IC_BROKEN: `at` or `head` is in no ring, or `at` is `head` itself or its first member. */
 IC_NODISCARD
 uint32_t ic_ring_splice_before(struct ic_link2 *table, ic_length places, uint32_t at, uint32_t head);
 
-/* Counts the members of the head `head`, and sets *members to how many there are, in O(n). Call it if the words come from a file, or from
- * memory that others write. If the status is IC_OK, each call does what it says of a ring that the table holds.
+/* Counts the members of the ring with the head `head`, and sets *members to how many there are, in O(n). Call it if the words come from a
+ * file, or from memory that others write. If the status is IC_OK, every other call on this ring does what the comment of that call says.
  * IC_NULL: `head` is IC_NONE. IC_OUT_OF_RANGE: `head` is not below `places`. IC_NOT_LINKED: `head` is not linked. IC_BROKEN: the links do
- * not lead from `head` around a ring and back to it, each to the next place and back. */
+ * not lead from `head` around a ring and back to `head`, or the links of two neighbors do not name each other. */
 IC_NODISCARD
 uint32_t ic_ring_check(const struct ic_link2 *table, ic_length places, uint32_t head, uint64_t *members);
 
 /* to here */
 
-/* These are two more names for calls of a head, as lists have them. */
+/* These two functions have the names that lists have for an insertion at an end. */
 
-/* Inserts `place` as the first member of a head, and returns what ic_ring_insert_after returns. */
+/* Inserts `place` as the first member of the ring with the head `head`, and returns what ic_ring_insert_after returns. */
 IC_NODISCARD
 static inline uint32_t ic_ring_push_front(struct ic_link2 *table, ic_length places, uint32_t head, uint32_t place) {
     return ic_ring_insert_after(table, places, head, place);
 }
 
-/* Inserts `place` as the last member of a head, and returns what ic_ring_insert_before returns. */
+/* Inserts `place` as the last member of the ring with the head `head`, and returns what ic_ring_insert_before returns. */
 IC_NODISCARD
 static inline uint32_t ic_ring_push_back(struct ic_link2 *table, ic_length places, uint32_t head, uint32_t place) {
     return ic_ring_insert_before(table, places, head, place);
 }
 
-/* These are edits of two calls. Each first tests the links that its second call tests, so if it is refused, it has changed nothing. */
+/* Each of these edits makes two calls. It first tests the links that its second call tests, so if it is refused, it has changed nothing. */
 
-/* Returns whether `after` is the place after `before` in a ring, and leads back to it. */
+/* Returns whether `after` is the place after `before` in a ring, and its link leads back to `before`. */
 static inline int ic_ring_is_gap(const struct ic_link2 *table, ic_length places, uint32_t before, uint32_t after) {
     return before != IC_NONE && ic_ring_next(table, places, before) == after && ic_ring_prev(table, places, after) == before;
 }
 
-/* Lets two places, of one ring or of two, change their places, as list_swap of Linux does, in O(1). Nothing changes if they are the same.
+/* Exchanges the positions of the places `one` and `other`, of one ring or of two, as list_swap of Linux does, in O(1). Nothing changes if both are
+ * the same place.
  * IC_NULL: `one` or `other` is IC_NONE. IC_OUT_OF_RANGE: `one` or `other` is not below `places`. IC_NOT_LINKED: `one` or `other` is not
  * linked. IC_BROKEN: `one` or `other` is in no ring. */
 IC_NODISCARD
@@ -1028,9 +1031,10 @@ static inline uint32_t ic_ring_swap(struct ic_link2 *table, ic_length places, ui
     return status == IC_OK ? ic_ring_exchange(table, places, one, other) : status;
 }
 
-/* Moves the places from `first` to `last` of a ring, in their order, after the place `at` of any ring, in O(1). So a head's first members up
- * to `entry` move after the head `list` as by list_cut_position(list, head, entry) of Linux. Nothing changes if they are there already. The
- * call can't tell if `at` is between `first` and `last`, or if `last` comes before `first`. Then it leaves places in circles without a head.
+/* Moves the places from `first` to `last` of a ring, in their order, after the place `at` of any ring, in O(1). With this call you can move the first
+ * members of the ring with the head `head`, up to `entry`, to the ring with the head `list`, as list_cut_position(list, head, entry) of Linux does.
+ * Nothing changes if the places are there already. The call can't detect if `at` is between `first` and `last`, or if `last` comes before `first`. In
+ * both cases it leaves places in circles without a head.
  * IC_NULL: `at`, `first` or `last` is IC_NONE. IC_OUT_OF_RANGE: one of them is not below `places`. IC_NOT_LINKED: one of them is not
  * linked. IC_BROKEN: one of them is in no ring, or `at` is `first`, and `last` is another place. */
 IC_NODISCARD
@@ -1049,9 +1053,9 @@ static inline uint32_t ic_ring_move_range_after(struct ic_link2 *table, ic_lengt
     return status == IC_OK ? ic_ring_exchange(table, places, at, last) : status;
 }
 
-/* Moves the places from `first` to `last` of a ring, in their order, before the place `at` of any ring, in O(1). If `at` is a head, they become its
- * last members, as by list_bulk_move_tail of Linux. Nothing changes if they are there already. It can't tell what ic_ring_move_range_after can't
- * tell.
+/* Moves the places from `first` to `last` of a ring, in their order, before the place `at` of any ring, in O(1). If `at` is a head, the places become
+ * its last members, as with list_bulk_move_tail of Linux. Nothing changes if they are there already. The call can't detect the wrong ranges that
+ * ic_ring_move_range_after can't detect.
  * IC_NULL: `at`, `first` or `last` is IC_NONE. IC_OUT_OF_RANGE: one of them is not below `places`. IC_NOT_LINKED: one of them is not
  * linked. IC_BROKEN: one of them is in no ring, or `at` is `last`, and `first` is another place. */
 IC_NODISCARD
@@ -1068,23 +1072,26 @@ static inline uint32_t ic_ring_move_range_before(struct ic_link2 *table, ic_leng
 
 /* ---- Rings by keys ----
  *
- * The keys are as for lists: numbers, of which the least comes first, and one for each place. Both calls check their rings first, so they are
- * never half done. A sort is recursive, to a depth of at most 33 calls.
+ * The keys are as for lists: numbers, of which the least comes first, and one for each place. Both calls check their rings before they change
+ * anything, so no call is refused when it is half done. A sort is recursive, to a depth of at most 33 calls.
  */
 
 /* tools/c-calls --write writes from here: ring-keys */
 
-/* Sorts the members of the head `head` by their keys, as list_sort of Linux does, in O(n log n). Members with equal keys keep their order.
+/* Sorts the members of the ring with the head `head` by their keys, as list_sort of Linux does, in O(n log n). Members with equal keys keep
+ * their order.
  * IC_NULL: `head` is IC_NONE. IC_OUT_OF_RANGE: there are fewer keys than places, or `head` is not below `places`. IC_NOT_LINKED: `head` is
- * not linked. IC_BROKEN: the links do not lead from `head` around a ring and back to it, each to the next place and back. */
+ * not linked. IC_BROKEN: the links do not lead from `head` around a ring and back to `head`, or the links of two neighbors do not name each
+ * other. */
 IC_NODISCARD
 uint32_t ic_ring_sort(struct ic_link2 *table, ic_length places, const uint64_t *keys, ic_length key_count, uint32_t head);
 
-/* Moves all members of the head `given` to where their keys belong among those of the head `head`, if both rings are in the order of their
- * keys, in O(n). Of members with equal keys, those of `head` come first. Afterwards `given` is the head of a ring with no members.
+/* Moves all members of the ring with the head `given` to where their keys belong among those of the ring with the head `head`, if both
+ * rings are in the order of their keys, in O(n). Of members with equal keys, those of `head` come first. Afterwards `given` is the head of
+ * a ring with no members.
  * IC_NULL: `head` or `given` is IC_NONE. IC_OUT_OF_RANGE: there are fewer keys than places, or `head` or `given` is not below `places`.
  * IC_NOT_LINKED: `head` or `given` is not linked. IC_BROKEN: the links do not lead from `head` or from `given` around a ring and back to
- * it, each to the next place and back, or both are in one ring. */
+ * the same place, or the links of two neighbors do not name each other, or `head` and `given` are in one ring. */
 IC_NODISCARD
 uint32_t ic_ring_merge(struct ic_link2 *table, ic_length places, const uint64_t *keys, ic_length key_count, uint32_t head, uint32_t given);
 
@@ -1092,8 +1099,8 @@ uint32_t ic_ring_merge(struct ic_link2 *table, ic_length places, const uint64_t 
 
 /* ---- Rings with words of 4 bytes: 8 bytes a place, calls O(1) ----------------------------------------------------------------------------
  *
- * These are rings with half the memory, over the links of lists with words of 4 bytes. Rings and these lists may be in one table. Each call, read and
- * loop does what the one without the 32 in its name does.
+ * These rings take half the memory for their links, which are the same as in lists with words of 4 bytes. Such rings and lists may be in one table.
+ * Each call, read and loop does what the one without the 32 in its name does.
  *
  *     struct ic_link2_32 links[65] = {0};             // 64 objects, and a head at 64
  *     status = ic_ring32_init(links, 65, 64);         // a ring with no members
@@ -1110,39 +1117,40 @@ uint32_t ic_ring32_init(struct ic_link2_32 *table, ic_length places, uint32_t he
 
 /* Inserts `place` after the place `at` of a ring, as list_add of Linux does, in O(1). If `at` is a head, `place` becomes the first member.
  * IC_NULL: the place `at` is IC_NONE. IC_OUT_OF_RANGE: `at` or `place` is not below `places`, or is 536,870,911 or more. IC_LINKED: `place`
- * is linked already, also where `at` and `place` are the same. IC_NOT_LINKED: the place `at` is not linked. IC_BROKEN: `at` is in no ring. */
+ * is linked already, also if `at` and `place` are the same. IC_NOT_LINKED: the place `at` is not linked. IC_BROKEN: `at` is in no ring. */
 IC_NODISCARD
 uint32_t ic_ring32_insert_after(struct ic_link2_32 *table, ic_length places, uint32_t at, uint32_t place);
 
 /* Inserts `place` before the place `at` of a ring, as list_add_tail of Linux does, in O(1). If `at` is a head, `place` becomes the last
  * member.
  * IC_NULL: the place `at` is IC_NONE. IC_OUT_OF_RANGE: `at` or `place` is not below `places`, or is 536,870,911 or more. IC_LINKED: `place`
- * is linked already, also where `at` and `place` are the same. IC_NOT_LINKED: the place `at` is not linked. IC_BROKEN: `at` is in no ring. */
+ * is linked already, also if `at` and `place` are the same. IC_NOT_LINKED: the place `at` is not linked. IC_BROKEN: `at` is in no ring. */
 IC_NODISCARD
 uint32_t ic_ring32_insert_before(struct ic_link2_32 *table, ic_length places, uint32_t at, uint32_t place);
 
-/* Removes `place` from its ring, whichever that is, as list_del of Linux does, in O(1). If `place` is a head without members, its ring is
- * gone then.
+/* Removes `place` from its ring, whichever ring that is, as list_del of Linux does, in O(1). If `place` is a head without members, its ring
+ * no longer exists.
  * IC_NULL: `place` is IC_NONE. IC_OUT_OF_RANGE: `place` is not below `places`, or is 536,870,911 or more. IC_NOT_LINKED: `place` is not
  * linked. IC_BROKEN: `place` is in no ring. */
 IC_NODISCARD
 uint32_t ic_ring32_remove(struct ic_link2_32 *table, ic_length places, uint32_t place);
 
-/* Exchanges the places after `one` and after `other`, which are in rings, in O(1). If `one` and `other` are in two rings, the call joins
- * the rings. If they are different places of one ring, it splits that ring into two. If you repeat the call, you undo it. If `one` is the
- * last member of a ring and `other` the head of another one, all members of the second ring, and then its head, come after `one`.
+/* Exchanges the place that follows `one` and the place that follows `other`, in O(1). Both `one` and `other` are in rings. If `one` and
+ * `other` are in two rings, the call joins the rings. If they are different places of one ring, it splits that ring into two. If you repeat
+ * the call, you undo it. If `one` is the last member of a ring and `other` the head of another one, all members of the second ring, and
+ * then its head, come after `one`.
  * IC_NULL: `one` or `other` is IC_NONE. IC_OUT_OF_RANGE: `one` or `other` is not below `places`, or is 536,870,911 or more. IC_NOT_LINKED:
  * `one` or `other` is not linked. IC_BROKEN: `one` or `other` is in no ring. */
 IC_NODISCARD
 uint32_t ic_ring32_exchange(struct ic_link2_32 *table, ic_length places, uint32_t one, uint32_t other);
 
-/* Removes the first member of the head `head`, and sets *popped to it, in O(1).
+/* Removes the first member of the ring with the head `head`, and sets *popped to it, in O(1).
  * IC_NULL: `head` is IC_NONE, or `head` has no members. IC_OUT_OF_RANGE: `head` is not below `places`, or is 536,870,911 or more.
  * IC_NOT_LINKED: `head` is not linked. IC_BROKEN: `head` or its first member is in no ring. */
 IC_NODISCARD
 uint32_t ic_ring32_pop_front(struct ic_link2_32 *table, ic_length places, uint32_t head, uint32_t *popped);
 
-/* Removes the last member of the head `head`, and sets *popped to it, in O(1).
+/* Removes the last member of the ring with the head `head`, and sets *popped to it, in O(1).
  * IC_NULL: `head` is IC_NONE, or `head` has no members. IC_OUT_OF_RANGE: `head` is not below `places`, or is 536,870,911 or more.
  * IC_NOT_LINKED: `head` is not linked. IC_BROKEN: `head` or its last member is in no ring. */
 IC_NODISCARD
@@ -1150,7 +1158,7 @@ uint32_t ic_ring32_pop_back(struct ic_link2_32 *table, ic_length places, uint32_
 
 /* Removes the place `at` from its ring, and inserts `place` where it was, as list_replace of Linux does, in O(1).
  * IC_NULL: the place `at` is IC_NONE. IC_OUT_OF_RANGE: `at` or `place` is not below `places`, or is 536,870,911 or more. IC_LINKED: `place`
- * is linked already, also where `at` and `place` are the same. IC_NOT_LINKED: the place `at` is not linked. IC_BROKEN: `at` is in no ring. */
+ * is linked already, also if `at` and `place` are the same. IC_NOT_LINKED: the place `at` is not linked. IC_BROKEN: `at` is in no ring. */
 IC_NODISCARD
 uint32_t ic_ring32_replace(struct ic_link2_32 *table, ic_length places, uint32_t at, uint32_t place);
 
@@ -1168,17 +1176,17 @@ uint32_t ic_ring32_move_after(struct ic_link2_32 *table, ic_length places, uint3
 IC_NODISCARD
 uint32_t ic_ring32_move_before(struct ic_link2_32 *table, ic_length places, uint32_t at, uint32_t place);
 
-/* Moves all members of the head `head`, in their order, after the place `at` of another ring, as list_splice_init of Linux does, in O(1).
- * Afterwards `head` is the head of a ring with no members.
+/* Moves all members of the ring with the head `head`, in their order, after the place `at` of another ring, as list_splice_init of Linux
+ * does, in O(1). Afterwards `head` is the head of a ring with no members.
  * IC_NULL: `at` or `head` is IC_NONE. IC_OUT_OF_RANGE: `at` or `head` is not below `places`, or is 536,870,911 or more. IC_NOT_LINKED: `at`
- * or `head` is not linked. IC_BROKEN: `at` or `head` is in no ring, or `at` is that head itself or its last member. */
+ * or `head` is not linked. IC_BROKEN: `at` or `head` is in no ring, or `at` is `head` itself or its last member. */
 IC_NODISCARD
 uint32_t ic_ring32_splice_after(struct ic_link2_32 *table, ic_length places, uint32_t at, uint32_t head);
 
-/* Moves all members of the head `head`, in their order, before the place `at` of another ring, as list_splice_tail_init of Linux does, in
- * O(1). Afterwards `head` is the head of a ring with no members.
+/* Moves all members of the ring with the head `head`, in their order, before the place `at` of another ring, as list_splice_tail_init of
+ * Linux does, in O(1). Afterwards `head` is the head of a ring with no members.
  * IC_NULL: `at` or `head` is IC_NONE. IC_OUT_OF_RANGE: `at` or `head` is not below `places`, or is 536,870,911 or more. IC_NOT_LINKED: `at`
- * or `head` is not linked. IC_BROKEN: `at` or `head` is in no ring, or `at` is that head itself or its first member. */
+ * or `head` is not linked. IC_BROKEN: `at` or `head` is in no ring, or `at` is `head` itself or its first member. */
 IC_NODISCARD
 uint32_t ic_ring32_splice_before(struct ic_link2_32 *table, ic_length places, uint32_t at, uint32_t head);
 
@@ -1191,7 +1199,7 @@ static inline int ic_ring32_is_linked(const struct ic_link2_32 *table, ic_length
     return place < ic_bound(ic_places_32(places)) && (table[place].next & 1);
 }
 
-/* Returns the place after the place `at` of a ring, or IC_NONE. After a head comes the first member, and after the last member the head. */
+/* Returns the place after the place `at` of a ring, or IC_NONE. After a head comes the first member, and after the last member comes the head. */
 static inline uint32_t ic_ring32_next(const struct ic_link2_32 *table, ic_length places, uint32_t at) {
     return ic_ring32_is_linked(table, places, at) ? ic_place_within(places, table[at].next) : IC_NONE;
 }
@@ -1201,39 +1209,39 @@ static inline uint32_t ic_ring32_prev(const struct ic_link2_32 *table, ic_length
     return ic_ring32_is_linked(table, places, at) ? ic_place_within(places, table[at].prev) : IC_NONE;
 }
 
-/* Returns whether a head is that of a ring with no members. */
+/* Returns whether `head` is the head of a ring with no members. */
 static inline int ic_ring32_is_empty(const struct ic_link2_32 *table, ic_length places, uint32_t head) {
     return ic_ring32_is_linked(table, places, head) && ic_ring32_next(table, places, head) == head;
 }
 
-/* Returns the first member of a head, or IC_NONE if there is none or if it is no linked place of the table. */
+/* Returns the first member of the ring with the head `head`, or IC_NONE if there is none or if it is no linked place of the table. */
 static inline uint32_t ic_ring32_front(const struct ic_link2_32 *table, ic_length places, uint32_t head) {
     uint32_t place = ic_ring32_next(table, places, head);
     return place != head && ic_ring32_is_linked(table, places, place) ? place : IC_NONE;
 }
 
-/* Returns the last member of a head, or IC_NONE if there is none or if it is no linked place of the table. */
+/* Returns the last member of the ring with the head `head`, or IC_NONE if there is none or if it is no linked place of the table. */
 static inline uint32_t ic_ring32_back(const struct ic_link2_32 *table, ic_length places, uint32_t head) {
     uint32_t place = ic_ring32_prev(table, places, head);
     return place != head && ic_ring32_is_linked(table, places, place) ? place : IC_NONE;
 }
 
-/* Returns whether the place `at` is the first member of a head. */
+/* Returns whether the place `at` is the first member of the ring with the head `head`. */
 static inline int ic_ring32_is_first(const struct ic_link2_32 *table, ic_length places, uint32_t head, uint32_t at) {
     return at != IC_NONE && ic_ring32_front(table, places, head) == at;
 }
 
-/* Returns whether the place `at` is the last member of a head. */
+/* Returns whether the place `at` is the last member of the ring with the head `head`. */
 static inline int ic_ring32_is_last(const struct ic_link2_32 *table, ic_length places, uint32_t head, uint32_t at) {
     return at != IC_NONE && ic_ring32_back(table, places, head) == at;
 }
 
-/* Returns whether a head has one member and no other. */
+/* Returns whether the ring with the head `head` has one member and no other. */
 static inline int ic_ring32_is_singular(const struct ic_link2_32 *table, ic_length places, uint32_t head) {
     return ic_ring32_is_first(table, places, head, ic_ring32_back(table, places, head));
 }
 
-/* These loops go from the first member of a head to the last, and back. */
+/* These loops go from the first member of a ring to the last, and back. You name the ring by its head. */
 #define IC_RING32_FOREACH(place, table, places, head)                                                                         \
     IC_LOOP(place, ic_ring32_next(table, places, head), places, place != (head) && ic_ring32_is_linked(table, places, place), \
             ic_ring32_next(table, places, place))
@@ -1271,28 +1279,29 @@ static inline int ic_ring32_is_singular(const struct ic_link2_32 *table, ic_leng
     IC_LOOP_ENTRY_SAFE(object, objects, ic_at_##object, ic_next_##object, at, places, \
                        ic_at_##object != (head) && ic_ring32_is_linked(table, places, ic_at_##object), ic_ring32_next(table, places, ic_at_##object))
 
-/* These are two more names for calls of a head, as lists have them. */
+/* These two functions have the names that lists have for an insertion at an end. */
 
-/* Inserts `place` as the first member of a head, and returns what ic_ring32_insert_after returns. */
+/* Inserts `place` as the first member of the ring with the head `head`, and returns what ic_ring32_insert_after returns. */
 IC_NODISCARD
 static inline uint32_t ic_ring32_push_front(struct ic_link2_32 *table, ic_length places, uint32_t head, uint32_t place) {
     return ic_ring32_insert_after(table, places, head, place);
 }
 
-/* Inserts `place` as the last member of a head, and returns what ic_ring32_insert_before returns. */
+/* Inserts `place` as the last member of the ring with the head `head`, and returns what ic_ring32_insert_before returns. */
 IC_NODISCARD
 static inline uint32_t ic_ring32_push_back(struct ic_link2_32 *table, ic_length places, uint32_t head, uint32_t place) {
     return ic_ring32_insert_before(table, places, head, place);
 }
 
-/* These are edits of two calls. Each first tests the links that its second call tests, so if it is refused, it has changed nothing. */
+/* Each of these edits makes two calls. It first tests the links that its second call tests, so if it is refused, it has changed nothing. */
 
-/* Returns whether `after` is the place after `before` in a ring, and leads back to it. */
+/* Returns whether `after` is the place after `before` in a ring, and its link leads back to `before`. */
 static inline int ic_ring32_is_gap(const struct ic_link2_32 *table, ic_length places, uint32_t before, uint32_t after) {
     return before != IC_NONE && ic_ring32_next(table, places, before) == after && ic_ring32_prev(table, places, after) == before;
 }
 
-/* Lets two places, of one ring or of two, change their places, as list_swap of Linux does, in O(1). Nothing changes if they are the same.
+/* Exchanges the positions of the places `one` and `other`, of one ring or of two, as list_swap of Linux does, in O(1). Nothing changes if both are
+ * the same place.
  * IC_NULL: `one` or `other` is IC_NONE. IC_OUT_OF_RANGE: `one` or `other` is not below `places`. IC_NOT_LINKED: `one` or `other` is not
  * linked. IC_BROKEN: `one` or `other` is in no ring. */
 IC_NODISCARD
@@ -1307,9 +1316,10 @@ static inline uint32_t ic_ring32_swap(struct ic_link2_32 *table, ic_length place
     return status == IC_OK ? ic_ring32_exchange(table, places, one, other) : status;
 }
 
-/* Moves the places from `first` to `last` of a ring, in their order, after the place `at` of any ring, in O(1). So a head's first members up
- * to `entry` move after the head `list` as by list_cut_position(list, head, entry) of Linux. Nothing changes if they are there already. The
- * call can't tell if `at` is between `first` and `last`, or if `last` comes before `first`. Then it leaves places in circles without a head.
+/* Moves the places from `first` to `last` of a ring, in their order, after the place `at` of any ring, in O(1). With this call you can move the first
+ * members of the ring with the head `head`, up to `entry`, to the ring with the head `list`, as list_cut_position(list, head, entry) of Linux does.
+ * Nothing changes if the places are there already. The call can't detect if `at` is between `first` and `last`, or if `last` comes before `first`. In
+ * both cases it leaves places in circles without a head.
  * IC_NULL: `at`, `first` or `last` is IC_NONE. IC_OUT_OF_RANGE: one of them is not below `places`. IC_NOT_LINKED: one of them is not
  * linked. IC_BROKEN: one of them is in no ring, or `at` is `first`, and `last` is another place. */
 IC_NODISCARD
@@ -1328,9 +1338,9 @@ static inline uint32_t ic_ring32_move_range_after(struct ic_link2_32 *table, ic_
     return status == IC_OK ? ic_ring32_exchange(table, places, at, last) : status;
 }
 
-/* Moves the places from `first` to `last` of a ring, in their order, before the place `at` of any ring, in O(1). If `at` is a head, they become its
- * last members, as by list_bulk_move_tail of Linux. Nothing changes if they are there already. It can't tell what ic_ring32_move_range_after can't
- * tell.
+/* Moves the places from `first` to `last` of a ring, in their order, before the place `at` of any ring, in O(1). If `at` is a head, the places become
+ * its last members, as with list_bulk_move_tail of Linux. Nothing changes if they are there already. The call can't detect the wrong ranges that
+ * ic_ring32_move_range_after can't detect.
  * IC_NULL: `at`, `first` or `last` is IC_NONE. IC_OUT_OF_RANGE: one of them is not below `places`. IC_NOT_LINKED: one of them is not
  * linked. IC_BROKEN: one of them is in no ring, or `at` is `last`, and `first` is another place. */
 IC_NODISCARD
@@ -1347,8 +1357,8 @@ static inline uint32_t ic_ring32_move_range_before(struct ic_link2_32 *table, ic
 
 /* ---- Singly linked lists: 8 bytes a place, calls O(1) except ic_stack_splice_after, and to fill, clear, check, sort and merge -----------
  *
- * Take them for stacks and free lists. Calls edit the list after the member `at`, or at the front if `at` is IC_NONE. If you keep the last member
- * beside it, a list is a queue, in which you insert after that member and pop at the front.
+ * Take singly linked lists for stacks and free lists. Calls edit the list after the member `at`, or at the front if `at` is IC_NONE. If you also keep
+ * the last member yourself, a list can serve as a queue: insert after the last member, and pop at the front.
  */
 
 /* Returns whether a place is in a list of the table. */
@@ -1392,7 +1402,7 @@ static inline int ic_stack_is_singular(const struct ic_link1 *table, ic_length p
 }
 
 /* Returns the member to go on to from `place`, which was the member after *before, or the first member if *before is IC_NONE. If `place` is still
- * there, *before becomes `place`. If it has been removed, the loop goes on to the member that is there now. */
+ * there, *before becomes `place`. If `place` has been removed, the loop goes on to the member that is at its position now. */
 static inline uint32_t ic_stack_go_on(const struct ic_link1 *table, ic_length places, const struct ic_stack *list, uint32_t *before,
                                       uint32_t place) {
     uint32_t after = *before == IC_NONE ? ic_stack_first(list) : ic_stack_next(table, places, *before);
@@ -1402,8 +1412,7 @@ static inline uint32_t ic_stack_go_on(const struct ic_link1 *table, ic_length pl
     return ic_stack_next(table, places, place);
 }
 
-/* These loops go from the first member to the last. `before` is the member before `place`, or IC_NONE. Hand `before` to the calls
- * that edit the list:
+/* These loops go from the first member to the last. `before` is the member before `place`, or IC_NONE. Pass `before` to the calls that edit the list:
  *
  *     IC_STACK_FOREACH_SAFE(before, place, links, 100, &list)
  *         if (is_done(place))
@@ -1474,8 +1483,8 @@ uint32_t ic_stack_splice_after(struct ic_link1 *table, ic_length places, struct 
 IC_NODISCARD
 uint32_t ic_stack_split_after(struct ic_link1 *table, ic_length places, struct ic_stack *list, uint32_t at, struct ic_stack *rest);
 
-/* Inserts `count` places, `first` and those after it, at the front in the order of their numbers, so that `first` becomes the first member,
- * in O(count). The call changes nothing if `count` is 0.
+/* Inserts the `count` places `first`, `first` + 1 and so on at the front, in rising order, so that `first` becomes the first member, in
+ * O(count). The call changes nothing if `count` is 0.
  * IC_OUT_OF_RANGE: the first of these places that the call refuses is not below `places`. IC_LINKED: the first of these places that the
  * call refuses is linked already. IC_BROKEN: the first member is not linked. */
 IC_NODISCARD
@@ -1487,7 +1496,7 @@ IC_NODISCARD
 uint32_t ic_stack_clear(struct ic_link1 *table, ic_length places, struct ic_stack *list);
 
 /* Counts the members, and sets *members to how many there are, in O(n). Call it if the words come from a file, or from memory that others
- * write. If the status is IC_OK, each call does what it says of a list that the table holds.
+ * write. If the status is IC_OK, every other call on this list does what the comment of that call says.
  * IC_BROKEN: the links lead from the first member to no end within the table. */
 IC_NODISCARD
 uint32_t ic_stack_check(const struct ic_link1 *table, ic_length places, const struct ic_stack *list, uint64_t *members);
@@ -1496,8 +1505,8 @@ uint32_t ic_stack_check(const struct ic_link1 *table, ic_length places, const st
 
 /* ---- Singly linked lists by keys ----
  *
- * The keys are as for doubly linked lists. Both calls check the lists first, so they are never half done. A sort is recursive, to a depth of at most
- * 33 calls.
+ * The keys are as for doubly linked lists. Both calls check the lists before they change anything, so no call is refused when it is half done. A sort
+ * is recursive, to a depth of at most 33 calls.
  */
 
 /* tools/c-calls --write writes from here: stack-keys */
@@ -1519,9 +1528,9 @@ uint32_t ic_stack_merge(struct ic_link1 *table, ic_length places, const uint64_t
 
 /* ---- Hash tables: 8 bytes a place and 8 a bucket ---------------------------------------------------------------------------------------
  *
- * Take them to find objects by a key, in no order. A hash table is an array of buckets, of which {0} is empty. A bucket is the head of a
- * singly linked list, whose members are its chain. Your hash function makes a number of each key, and a member is in the bucket whose index
- * is hash % bucket_count. So hand the same hash to each call for one object. With about as many buckets as members, chains are short.
+ * Take hash tables to find objects by a key, if you need no order. A hash table is an array of buckets, and a bucket {0} is empty. A bucket is the
+ * head of a singly linked list, whose members are its chain. Your hash function makes a number of each key, and a member is in the bucket whose index
+ * is hash % bucket_count. So pass the same hash in each call for one object. With about as many buckets as members, chains are short.
  *
  *     struct ic_link1 links[100] = {0};
  *     struct ic_stack buckets[64] = {0};
@@ -1529,18 +1538,18 @@ uint32_t ic_stack_merge(struct ic_link1 *table, ic_length places, const uint64_t
  *     status = ic_hash_find(links, 100, keys, 100, buckets, 64, hash_of(30), 30, &found);
  *     status = ic_hash_remove(links, 100, buckets, 64, hash_of(keys[7]), 7);
  *
- * ic_hash_find compares numbers in an array of your own, which has that of `place` at keys[place]. You make any other comparison in a loop over
- * the chain:
+ * ic_hash_find compares keys that are numbers in an array of your own, where the key of `place` is keys[place]. You make any other comparison in a
+ * loop over the chain:
  *
  *     IC_HASH_FOREACH(place, links, 100, buckets, 64, hash_of(name))
  *         if (strcmp(names[place], name) == 0)
  *             break;
  *
- * IC_HASH_FOREACH_ALL goes over all members. Each call for singly linked lists takes a bucket, too, so ic_stack_clear empties one. A place
- * is in one chain or list of a table, so the free places may be in a list of the same table.
+ * IC_HASH_FOREACH_ALL goes over all members. You can pass a bucket to each call for singly linked lists, too: ic_stack_clear empties a bucket. A
+ * place is in one chain or list of a table, so the free places may be in a list of the same table.
  *
- * A hash table grows or shrinks when you make another array of buckets, and call ic_hash_move_chain for each bucket of the old one, at once
- * or over time. With `more` for the 128 new buckets, and a hash for each place in `hashes`:
+ * A hash table grows or shrinks when you make another array of buckets, and call ic_hash_move_chain for each bucket of the old array, at once or over
+ * time. Here `more` has the 128 new buckets, and `hashes` has a hash for each place:
  *
  *     for (uint32_t i = 0; i < 64; i++)
  *         status = ic_hash_move_chain(links, 100, hashes, 100, &buckets[i], more, 128);
@@ -1559,8 +1568,8 @@ static inline uint32_t ic_hash_first(const struct ic_stack *buckets, ic_length b
     IC_LOOP_ENTRY(object, objects, ic_at_##object, ic_hash_first(buckets, bucket_count, hash), places,         \
                   ic_stack_is_linked(table, places, ic_at_##object), ic_stack_next(table, places, ic_at_##object))
 
-/* Returns `place` if it is linked, or else the first member of the chains after *bucket, or IC_NONE, and sets *bucket to the index of its
- * chain. After (ic_length)-1 comes the first chain. */
+/* Returns `place` if it is linked. Otherwise it returns the first member of the chains after *bucket, or IC_NONE, and sets *bucket to the index of
+ * that member's chain. After (ic_length)-1 comes the first chain. */
 static inline uint32_t ic_hash_go_on(const struct ic_link1 *table, ic_length places, const struct ic_stack *buckets, ic_length bucket_count,
                                      ic_length *bucket, uint32_t place) {
     while (!ic_stack_is_linked(table, places, place) && ++*bucket < bucket_count)
@@ -1568,7 +1577,7 @@ static inline uint32_t ic_hash_go_on(const struct ic_link1 *table, ic_length pla
     return *bucket < bucket_count ? place : IC_NONE;
 }
 
-/* Returns the member to go on to from `place`, as ic_stack_go_on does in a chain, and goes on to the next chain after its end. */
+/* Returns the member to go on to from `place`, as ic_stack_go_on does in a chain. At the end of a chain it goes on to the next chain. */
 static inline uint32_t ic_hash_safe_go_on(const struct ic_link1 *table, ic_length places, const struct ic_stack *buckets,
                                           ic_length bucket_count, ic_length *bucket, uint32_t *before, uint32_t place) {
     const ic_length was = *bucket;
@@ -1579,9 +1588,9 @@ static inline uint32_t ic_hash_safe_go_on(const struct ic_link1 *table, ic_lengt
     return found;
 }
 
-/* These loops go over all members, chain by chain, in O(buckets + n). Whatever the words say, they make at most `places` rounds in all, and
- * `break` leaves the whole loop. In a ..._SAFE loop `bucket` is the index of the chain, and `before` is the member before `place` in it, or
- * IC_NONE. Its body may remove `place`, and may then insert it into another array of buckets:
+/* These loops go over all members, chain by chain, in O(buckets + n). Whatever the words say, they make at most `places` rounds in all, and `break`
+ * leaves the whole loop. In a ..._SAFE loop `bucket` is the index of the chain, and `before` is the member before `place` in it, or IC_NONE. The body
+ * of such a loop may remove `place`, and may then insert it into another array of buckets:
  *
  *     IC_HASH_FOREACH_ALL_SAFE(bucket, before, place, links, 100, buckets, 64)
  *         if (is_done(place))
@@ -1619,7 +1628,7 @@ IC_NODISCARD
 uint32_t ic_hash_insert(struct ic_link1 *table, ic_length places, struct ic_stack *buckets, ic_length bucket_count, uint64_t hash,
                         uint32_t place);
 
-/* Removes `place` from the chain of `hash`, wherever it is in it, in O(members of the chain).
+/* Removes `place` from the chain of `hash`, wherever it is in that chain, in O(members of the chain).
  * IC_NULL: `place` is IC_NONE. IC_OUT_OF_RANGE: there is no bucket, or `place` is not below `places`. IC_NOT_LINKED: `place` is not linked.
  * IC_BROKEN: `place` is no member of this chain, but perhaps of the chain of another hash, or the chain does not belong to this table. */
 IC_NODISCARD
@@ -1644,7 +1653,7 @@ uint32_t ic_hash_next_equal(const struct ic_link1 *table, ic_length places, cons
 
 /* Counts the members of all chains, and sets *members to how many there are, in O(buckets + n). Call it if the words come from a file, or
  * from memory that others write. `hashes` has the hash of each place. If the status is IC_OK, each member is in the chain of its hash and
- * in no other one, and each call does what it says of a hash table that the table holds.
+ * in no other chain, and every other call on this hash table does what the comment of that call says.
  * IC_OUT_OF_RANGE: there are fewer hashes than places, or there is no bucket. IC_BROKEN: the links lead from a bucket to no end within the
  * table, or to a member that belongs in another bucket by its hash. */
 IC_NODISCARD
@@ -1652,9 +1661,10 @@ uint32_t ic_hash_check(const struct ic_link1 *table, ic_length places, const uin
                        const struct ic_stack *buckets, ic_length bucket_count, uint64_t *members);
 
 /* Moves all members of `chain`, a bucket of another array, each to the front of the chain of its hash, and leaves `chain` empty, in
- * O(members of the chain). `hashes` has the hash of each place. Members that come into one bucket keep their order, and come before those
- * that are there. So of moved members with one key a search still finds the one that was inserted last. Each place stays linked during the
- * call. To grow or to shrink a hash table, make another array of buckets, and call this for each bucket of the old one.
+ * O(members of the chain). `hashes` has the hash of each place. Members that move to the same bucket keep their order, and come before the
+ * members that the bucket had. So of moved members with one key a search still finds the one that was inserted last. Each place stays
+ * linked during the call. To grow or to shrink a hash table, make another array of buckets, and make this call for each bucket of the old
+ * array.
  * IC_OUT_OF_RANGE: there are fewer hashes than places, or there is no bucket. IC_BROKEN: the links lead from the first member of `chain` to
  * no end within the table, or a bucket to which a member moves begins with a place that does not belong to this table. */
 IC_NODISCARD
@@ -1663,10 +1673,10 @@ uint32_t ic_hash_move_chain(struct ic_link1 *table, ic_length places, const uint
 
 /* to here */
 
-/* Removes `place` from a singly linked list, wherever in the list it is, in O(n). It calls ic_hash_remove, to which the list is a hash table with one
- * bucket.
- * IC_NULL: `place` is IC_NONE. IC_OUT_OF_RANGE: `place` is not below `places`. IC_NOT_LINKED: `place` is not linked. IC_BROKEN: `place` is
- * no member of this list, but perhaps of another one, or the list does not belong to this table. */
+/* Removes `place` from a singly linked list, wherever in the list it is, in O(n). The function calls ic_hash_remove with the list as a hash table of
+ * one bucket.
+ * IC_NULL: `place` is IC_NONE. IC_OUT_OF_RANGE: `place` is not below `places`. IC_NOT_LINKED: `place` is not linked. IC_BROKEN: `place` is no member
+ * of this list, but perhaps of another list, or the list does not belong to this table. */
 IC_NODISCARD
 static inline uint32_t ic_stack_remove(struct ic_link1 *table, ic_length places, struct ic_stack *list, uint32_t place) {
     return ic_hash_remove(table, places, list, 1, 0, place);
@@ -1674,15 +1684,15 @@ static inline uint32_t ic_stack_remove(struct ic_link1 *table, ic_length places,
 
 /* ---- XOR lists: 8 bytes a place, calls O(1) except ic_xor_fill and ic_xor_clear -----------------------------------------------------
  *
- * Take them for lists that you use at both ends and walk both ways, if memory is scarce. The link of a member does not name its neighbors one by one,
- * so you name a gap by both members beside it. Here `before` is the member before the gap, or IC_NONE at the front, and `after` is the member after
- * the gap, or IC_NONE at the back. Both are IC_NONE in an empty list.
+ * Take XOR lists if you use a list at both ends and walk both ways, and memory is scarce. The link of a member does not name its neighbors one by
+ * one, so you name a gap by both members beside it. In the calls `before` is the member before the gap, or IC_NONE at the front, and `after` is the
+ * member after the gap, or IC_NONE at the back. Both are IC_NONE in an empty list.
  *
- * A call at a gap tests that both members are linked, and that their words with each other name linked places beyond them, or none at an
- * end of the list. So it refuses IC_NONE beside a member that is not that end, and most pairs that are no gap if few places are linked. Two
- * neighbors in the wrong order pass. In a table that is nearly full most pairs that are no gap pass: 26 of 36 in the list of the places
- * 0 to 6, in their order, and 8,871 of 9,801 in that of the places 0 to 99. Then the call mixes the list up, within the table. So name
- * members that you know to be neighbors.
+ * A call at a gap tests that both members are linked. It also tests that each member's word, combined with the other member, names a linked place
+ * beyond it, or no place at an end of the list. So the call refuses IC_NONE beside a member that is not at that end. If few places are linked, it
+ * also refuses most pairs of members that are not neighbors. Two neighbors in the wrong order pass. In a table that is nearly full most pairs that
+ * are not neighbors pass: 26 of 36 in the list of the places 0 to 6, in their order, and 8,871 of 9,801 in the list of the places 0 to 99. If a wrong
+ * pair passes, the call mixes the list up, within the table. So name members that you know to be neighbors.
  */
 
 /* Returns whether a place is in a list of the table. */
@@ -1705,9 +1715,9 @@ static inline uint32_t ic_xor_last(const struct ic_xor_list *list) {
     return ic_place(list->tail);
 }
 
-/* Returns the neighbor of the member `at` on the other side than its neighbor `from`, or IC_NONE. At an end of the list `from` is
- * IC_NONE. From the first member with IC_NONE the step leads to the back, and from the last one to the front. If `from` is no neighbor, the step leads to
- * some place of the table or to IC_NONE. */
+/* Returns the neighbor of the member `at` on the other side than its neighbor `from`, or IC_NONE. At an end of the list `from` is IC_NONE. With
+ * IC_NONE as `from`, the step from the first member leads towards the back, and the step from the last member towards the front. If `from` is no
+ * neighbor, the step leads to some place of the table or to IC_NONE. */
 static inline uint32_t ic_xor_step(const struct ic_link1 *table, ic_length places, uint32_t from, uint32_t at) {
     return ic_xor_is_linked(table, places, at) ? ic_place_within(places, table[at].next ^ ic_word(from)) : IC_NONE;
 }
@@ -1745,7 +1755,7 @@ static inline uint32_t ic_xor_go_on(const struct ic_link1 *table, ic_length plac
 }
 
 /* These loops go from the first member to the last, and back. In both directions `before` is the member before `place`, and `after` is the member
- * after it. They are IC_NONE beyond an end.
+ * after `place`. Beyond an end of the list they are IC_NONE.
  *
  *     IC_XOR_FOREACH_SAFE(before, place, after, links, 100, &list)
  *         if (is_done(place))
@@ -1768,8 +1778,8 @@ static inline uint32_t ic_xor_go_on(const struct ic_link1 *table, ic_length plac
 #define IC_XOR_FOREACH_ENTRY_REVERSE_SAFE(before, object, objects, after, table, places, list) \
     IC_XOR_LOOP_ENTRY_SAFE(object, objects, after, ic_at_##object, before, ic_xor_last(list), table, places)
 
-/* These loops go in both directions, while `is_member` is true. The safe one reads the member beyond `next` before its body runs. From there it
- * finds the member beside `next` after the body has run, which is `place`, or `from` if the body has removed `place`. */
+/* These loops go in both directions, while `is_member` is true. The safe loop reads the member beyond `next` before its body runs. After the body has
+ * run, it finds the member beside `next` from there: this is `place`, or `from` if the body has removed `place`. */
 #define IC_XOR_WALK(place, first, table, places, is_member)                                                  \
     for (uint32_t place = (first), ic_from_##place = IC_NONE, ic_rounds_##place = ic_bound(places); is_member; \
          place = ic_xor_go_on(table, places, &ic_from_##place, place))
@@ -1820,17 +1830,17 @@ IC_NODISCARD
 uint32_t ic_xor_insert_between(struct ic_link1 *table, ic_length places, struct ic_xor_list *list, uint32_t before, uint32_t place,
                                uint32_t after);
 
-/* Removes the member `at`, in O(1). You name the member before it, too: `before`, which is IC_NONE if `at` is the first member.
+/* Removes the member `at`, in O(1). You also name the member before `at` as `before`, which is IC_NONE if `at` is the first member.
  * IC_NULL: the place `at` is IC_NONE. IC_OUT_OF_RANGE: `before` or `at` is not below `places`. IC_NOT_LINKED: `before` or `at` is not
- * linked. IC_BROKEN: `at` is no member of the list, or `before` is not the member before it. */
+ * linked. IC_BROKEN: `at` is no member of the list, or `before` is not the member before `at`. */
 IC_NODISCARD
 uint32_t ic_xor_remove(struct ic_link1 *table, ic_length places, struct ic_xor_list *list, uint32_t before, uint32_t at);
 
-/* Removes the member `at`, and inserts `place` where it was, in O(1). You name the member before `at`, too: `before`, which is IC_NONE if
+/* Removes the member `at`, and inserts `place` where it was, in O(1). You also name the member before `at` as `before`, which is IC_NONE if
  * `at` is the first member.
  * IC_NULL: the place `at` is IC_NONE. IC_OUT_OF_RANGE: `before`, `at` or `place` is not below `places`. IC_LINKED: `place` is linked
- * already, also where `at` and `place` are the same. IC_NOT_LINKED: `before` or `at` is not linked. IC_BROKEN: `at` is no member of the
- * list, or `before` is not the member before it. */
+ * already, also if `at` and `place` are the same. IC_NOT_LINKED: `before` or `at` is not linked. IC_BROKEN: `at` is no member of the list,
+ * or `before` is not the member before `at`. */
 IC_NODISCARD
 uint32_t ic_xor_replace(struct ic_link1 *table, ic_length places, struct ic_xor_list *list, uint32_t before, uint32_t at, uint32_t place);
 
@@ -1860,8 +1870,8 @@ uint32_t ic_xor_fill(struct ic_link1 *table, ic_length places, struct ic_xor_lis
 IC_NODISCARD
 uint32_t ic_xor_clear(struct ic_link1 *table, ic_length places, struct ic_xor_list *list);
 
-/* Moves the members from `after` on to `rest`, which has to be empty, so that `before` becomes the last member, in O(1). All members move
- * if `before` is IC_NONE, and none if `after` is IC_NONE.
+/* Moves the member `after` and all members that follow it to `rest`, which has to be empty, so that `before` becomes the last member, in
+ * O(1). All members move if `before` is IC_NONE, and no member moves if `after` is IC_NONE.
  * IC_OUT_OF_RANGE: `before` or `after` is not below `places`. IC_NOT_LINKED: `before` or `after` is not linked. IC_BROKEN: there is no such
  * gap, or `rest` has members. */
 IC_NODISCARD
@@ -1875,18 +1885,19 @@ uint32_t ic_xor_reverse(struct ic_xor_list *list);
 
 /* ---- Red-black trees: 24 bytes a place, calls O(log n) except those that clear, check, append, join and split -----------------------
  *
- * Take them for timers, priorities and indices, which are objects in order that you insert and remove anywhere, and search for. You order them
- * in one of two ways:
+ * Take trees for timers, priorities and indices: for objects in an order, which you insert and remove anywhere, and for which you search. You order
+ * the members in one of two ways:
  *
- *   - You give each place a number, in an array of your own, and keys[place] is that of `place`. ic_tree_insert inserts a place where its key belongs, and ic_tree_find and
- *     both bounds search by it. To change a member's key, remove the member, and insert it again after that.
+ *   - You give each place a number as its key, in an array of your own, where the key of `place` is keys[place]. ic_tree_insert inserts a place where
+ *     its key belongs, and ic_tree_find and both bounds search by keys. To change a member's key, remove the member, change the key, and insert the
+ *     member again.
  *   - You make any comparison of yours, as with sys/tree.h or the rb_link_node of Linux, in which `at` is a member to compare with:
  *
  *         IC_TREE_INSERT_BY(status, at, links, 100, &tree, place, strcmp(names[place], names[at]));
  *         IC_TREE_FIND_BY(at, links, 100, &tree, strcmp("oak", names[at]));
  *
- * The calls that remove a member, and those that step to the next member and back, compare nothing. Those that make one tree of two, and two
- * of one, compare nothing either, and check first whether the links form the trees, which takes O(n).
+ * The calls that remove a member, and those that step to the next or the previous member, compare no keys. The calls that make one tree of two, or
+ * two of one, compare no keys either. They first check whether the links form the trees, which takes O(n).
  */
 
 /* Returns whether a place is in a tree of the table. */
@@ -1904,12 +1915,12 @@ static inline uint32_t ic_tree_root(const struct ic_tree *tree) {
     return ic_place(tree->root);
 }
 
-/* Returns the left child of the member `at`, or IC_NONE. The members under it come before `at`. */
+/* Returns the left child of the member `at`, or IC_NONE. This child and the members under it come before `at`. */
 static inline uint32_t ic_tree_left(const struct ic_link3 *table, ic_length places, uint32_t at) {
     return ic_tree_is_linked(table, places, at) ? ic_place_within(places, table[at].left) : IC_NONE;
 }
 
-/* Returns the right child of the member `at`, or IC_NONE. The members under it come after `at`. */
+/* Returns the right child of the member `at`, or IC_NONE. This child and the members under it come after `at`. */
 static inline uint32_t ic_tree_right(const struct ic_link3 *table, ic_length places, uint32_t at) {
     return ic_tree_is_linked(table, places, at) ? ic_place_within(places, table[at].right) : IC_NONE;
 }
@@ -1921,15 +1932,15 @@ static inline uint32_t ic_tree_parent(const struct ic_link3 *table, ic_length pl
 
 /* tools/c-calls --write writes from here: tree */
 
-/* Inserts `place` as the left child of the member `at`, which has none, and balances the tree, in O(log n). No member comes between the
- * place and `at`, which is after it. If `at` is IC_NONE, the tree has to be empty, and `place` becomes its root.
+/* Inserts `place` as the left child of the member `at`, which must have no left child, and balances the tree, in O(log n). So `place` comes
+ * directly before `at` in the order of the members. If `at` is IC_NONE, the tree has to be empty, and `place` becomes its root.
  * IC_OUT_OF_RANGE: `at` or `place` is not below `places`. IC_LINKED: `place` is linked already. IC_NOT_LINKED: the place `at` is not
  * linked. IC_BROKEN: `at` has a left child, or `at` is IC_NONE and the tree has members, or the root does not belong to this table. */
 IC_NODISCARD
 uint32_t ic_tree_insert_left(struct ic_link3 *table, ic_length places, struct ic_tree *tree, uint32_t at, uint32_t place);
 
-/* Inserts `place` as the right child of the member `at`, which has none, and balances the tree, in O(log n). No member comes between `at`
- * and the place, which is after it. If `at` is IC_NONE, the tree has to be empty, and `place` becomes its root.
+/* Inserts `place` as the right child of the member `at`, which must have no right child, and balances the tree, in O(log n). So `place`
+ * comes directly after `at` in the order of the members. If `at` is IC_NONE, the tree has to be empty, and `place` becomes its root.
  * IC_OUT_OF_RANGE: `at` or `place` is not below `places`. IC_LINKED: `place` is linked already. IC_NOT_LINKED: the place `at` is not
  * linked. IC_BROKEN: `at` has a right child, or `at` is IC_NONE and the tree has members, or the root does not belong to this table. */
 IC_NODISCARD
@@ -1941,42 +1952,43 @@ uint32_t ic_tree_insert_right(struct ic_link3 *table, ic_length places, struct i
 IC_NODISCARD
 uint32_t ic_tree_remove(struct ic_link3 *table, ic_length places, struct ic_tree *tree, uint32_t at);
 
-/* Removes the member `at`, and inserts `place` where it was, in O(1). The call compares nothing, so hand in a place that belongs there.
- * IC_NULL: the place `at` is IC_NONE. IC_OUT_OF_RANGE: `at` or `place` is not below `places`. IC_LINKED: `place` is linked already, also
- * where `at` and `place` are the same. IC_NOT_LINKED: the place `at` is not linked. IC_BROKEN: the root does not belong to this table. */
+/* Removes the member `at`, and inserts `place` where it was, in O(1). The call compares no keys, so pass a place that belongs at this
+ * position.
+ * IC_NULL: the place `at` is IC_NONE. IC_OUT_OF_RANGE: `at` or `place` is not below `places`. IC_LINKED: `place` is linked already, also if
+ * `at` and `place` are the same. IC_NOT_LINKED: the place `at` is not linked. IC_BROKEN: the root does not belong to this table. */
 IC_NODISCARD
 uint32_t ic_tree_replace(struct ic_link3 *table, ic_length places, struct ic_tree *tree, uint32_t at, uint32_t place);
 
-/* Moves all members of `given`, in their order, after those of this tree, and leaves `given` empty, in O(n). The call compares nothing, so
- * hand in trees of which all keys of the one come before those of the other. It checks both trees first. In Rattle, where types vouch for
- * the links, it takes O(log n).
+/* Moves all members of `given`, in their order, after those of this tree, and leaves `given` empty, in O(n). The call compares no keys, so
+ * pass as `given` a tree whose keys all come after the keys of this tree. It checks both trees first. In Rattle, where types vouch for the
+ * links, this takes O(log n).
  * IC_BROKEN: the links form no red-black tree from one of the two roots on, or both trees have the same root. */
 IC_NODISCARD
 uint32_t ic_tree_append(struct ic_link3 *table, ic_length places, struct ic_tree *tree, struct ic_tree *given);
 
 /* Inserts `place` after all members of this tree, moves all members of `given`, in their order, after the place, and leaves `given` empty,
- * in O(n). The call compares nothing, and checks both trees first. In Rattle, where types vouch for the links, it takes O(log n).
+ * in O(n). The call compares no keys, and checks both trees first. In Rattle, where types vouch for the links, this takes O(log n).
  * IC_OUT_OF_RANGE: `place` is not below `places`. IC_LINKED: `place` is linked already. IC_BROKEN: the links form no red-black tree from
  * one of the two roots on, or both trees have the same root. */
 IC_NODISCARD
 uint32_t ic_tree_join(struct ic_link3 *table, ic_length places, struct ic_tree *tree, uint32_t place, struct ic_tree *given);
 
 /* Removes all members, in O(n).
- * IC_BROKEN: the root does not belong to this table, or the steps from the first member on come to a place that is not linked, or to no end
+ * IC_BROKEN: the root does not belong to this table, or a walk from the first member on comes to a place that is not linked, or to no end
  * within as many steps as the table has places. */
 IC_NODISCARD
 uint32_t ic_tree_clear(struct ic_link3 *table, ic_length places, struct ic_tree *tree);
 
 /* Moves the member `at` and all members after it to `rest`, which has to be empty, in O(n). The call checks the tree first. In Rattle,
- * where types vouch for the links, it takes O(log n).
+ * where types vouch for the links, this takes O(log n).
  * IC_NULL: the place `at` is IC_NONE. IC_OUT_OF_RANGE: the place `at` is not below `places`. IC_NOT_LINKED: the place `at` is not linked.
- * IC_BROKEN: the links form no red-black tree from the root on, or `at` is no member of it, or `rest` has members. */
+ * IC_BROKEN: the links form no red-black tree from the root on, or `at` is no member of the tree, or `rest` has members. */
 IC_NODISCARD
 uint32_t ic_tree_split(struct ic_link3 *table, ic_length places, struct ic_tree *tree, uint32_t at, struct ic_tree *rest);
 
 /* Counts the members, and sets *members to how many there are, in O(n). Call it if the words come from a file, or from memory that others
- * write. If the status is IC_OK, each call does what it says of a tree that the table holds. The check reads no keys, and calls itself, at
- * most 67 times within one another.
+ * write. If the status is IC_OK, every other call on this tree does what the comment of that call says. The check reads no keys. It is
+ * recursive, to a depth of at most 67 calls.
  * IC_BROKEN: the links form no red-black tree from the root on, because a parent, a color or a child is wrong. */
 IC_NODISCARD
 uint32_t ic_tree_check(const struct ic_link3 *table, ic_length places, const struct ic_tree *tree, uint64_t *members);
@@ -1985,8 +1997,8 @@ uint32_t ic_tree_check(const struct ic_link3 *table, ic_length places, const str
 
 /* ---- Trees by keys ----
  *
- * The keys are numbers, of which the least comes first. There has to be one for each place, and the calls read only those of members and of the place
- * to insert. The searches are for trees whose members are in order by their keys. In others they find some member or none.
+ * The keys are numbers, of which the least comes first. There has to be a key for each place, and the calls read only the keys of members and of the
+ * place to insert. The searches are for trees whose members are in the order of their keys. In other trees they find some member or none.
  */
 
 /* tools/c-calls --write writes from here: tree-keys */
@@ -2010,9 +2022,9 @@ IC_NODISCARD
 uint32_t ic_tree_lower_bound(const struct ic_link3 *table, ic_length places, const uint64_t *keys, ic_length key_count,
                              const struct ic_tree *tree, uint64_t key, uint32_t *found);
 
-/* Finds the LAST member whose key is NOT GREATER than `key`, and sets *found to it, in O(log n). The upper_bound of C++ finds another one,
- * the first member whose key is greater. Both bounds have their names from the Rust crate intrusive-collections. If there are members with
- * keys from `low` to `high`, the lower bound of `low` is the first of them, and the upper bound of `high` is the last.
+/* Finds the LAST member whose key is NOT GREATER than `key`, and sets *found to it, in O(log n). The upper_bound of C++ finds another
+ * member, the first one whose key is greater. Both bounds have their names from the Rust crate intrusive-collections. If there are members
+ * with keys from `low` to `high`, the lower bound of `low` is the first of them, and the upper bound of `high` is the last.
  * IC_NULL: there is no such member. IC_OUT_OF_RANGE: there are fewer keys than places. IC_BROKEN: the root does not belong to this table. */
 IC_NODISCARD
 uint32_t ic_tree_upper_bound(const struct ic_link3 *table, ic_length places, const uint64_t *keys, ic_length key_count,
@@ -2020,8 +2032,8 @@ uint32_t ic_tree_upper_bound(const struct ic_link3 *table, ic_length places, con
 
 /* to here */
 
-/* Inserts `place` by its key if no member has that key, in O(log n). Sets *found to the first member that has the key, which is `place` if
- * the call has inserted it.
+/* Inserts `place` by its key if no member has that key, in O(log n). Sets *found to the first member that has the key, which is `place` if the call
+ * has inserted `place`.
  * IC_OUT_OF_RANGE: there are fewer keys than places, or `place` is not below `places`. IC_LINKED: `place` is linked already. IC_BROKEN: the
  * root does not belong to this table. */
 IC_NODISCARD
@@ -2040,9 +2052,9 @@ static inline uint32_t ic_tree_insert_unique(struct ic_link3 *table, ic_length p
 
 /* ---- Trees by a comparison ----
  *
- * These macros go down from the root, in O(log n), for keys that are no numbers. Each is a statement. `at` is the name of a uint32_t variable of
- * yours, and `comparison` is an expression in which `at` is the member to compare with. Its value is negative if what you look for comes before `at`,
- * 0 if both are equal, and positive otherwise, as that of strcmp.
+ * These macros search a tree whose keys are no numbers, from the root down, in O(log n). Each macro is a statement. `at` is the name of a uint32_t
+ * variable of yours, and `comparison` is an expression in which `at` is the member to compare with. The value of `comparison` is negative if what you
+ * look for comes before `at`, 0 if both are equal, and positive otherwise, as the value of strcmp.
  *
  *     const char *names[100];
  *     uint32_t at, status;
@@ -2050,8 +2062,8 @@ static inline uint32_t ic_tree_insert_unique(struct ic_link3 *table, ic_length p
  *     if (at == IC_NONE)
  *         IC_TREE_INSERT_BY(status, at, links, 100, &tree, place, strcmp(names[place], names[at]));
  *
- * Whatever the words say, a macro makes at most `places` comparisons, each with a linked place of the table. It evaluates `table`, `places`,
- * `tree` and `place` several times.
+ * Whatever the words say, a macro makes at most `places` comparisons, each with a linked place of the table. It evaluates `table`, `places`, `tree`
+ * and `place` several times.
  */
 
 /* Returns the left child of the member `at`, or the right one, or IC_NONE. */
@@ -2061,8 +2073,8 @@ static inline uint32_t ic_tree_child(const struct ic_link3 *table, ic_length pla
     return ic_place_within(places, is_left ? table[at].left : table[at].right);
 }
 
-/* The three macros below that search by a comparison expand to this one. It goes to the left of each member of which `comparison goes_left 0` is
- * true, and `at` becomes the last one of which `comparison is_found 0` is true. */
+/* The three macros below that search by a comparison expand to this one. It goes to the left of each member for which `comparison goes_left 0` is
+ * true, and `at` becomes the last member for which `comparison is_found 0` is true. */
 #define IC_SEARCH_BY(at, table, places, tree, comparison, is_found, goes_left)                  \
     do {                                                                                        \
         uint32_t ic_found_##at = IC_NONE, ic_rounds_##at = ic_bound(places);                    \
@@ -2076,7 +2088,7 @@ static inline uint32_t ic_tree_child(const struct ic_link3 *table, ic_length pla
         at = ic_found_##at;                                                                     \
     } while (0)
 
-/* Sets `at` to the first member of which the comparison is 0, or to IC_NONE if there is none. */
+/* Sets `at` to the first member for which the comparison is 0, or to IC_NONE if there is none. */
 #define IC_TREE_FIND_BY(at, table, places, tree, comparison) IC_SEARCH_BY(at, table, places, tree, comparison, ==, <=)
 
 /* Sets `at` to the first member that does not come before what you look for, or to IC_NONE if there is none. */
@@ -2085,7 +2097,7 @@ static inline uint32_t ic_tree_child(const struct ic_link3 *table, ic_length pla
 /* Sets `at` to the last member that does not come after what you look for, or to IC_NONE if there is none. */
 #define IC_TREE_UPPER_BOUND_BY(at, table, places, tree, comparison) IC_SEARCH_BY(at, table, places, tree, comparison, >=, <)
 
-/* The two macros below that insert expand to this one. If `place` cannot be inserted, it compares nothing, and the status says why. */
+/* The two macros below that insert expand to this one. If `place` cannot be inserted, the macro compares nothing, and the status says why. */
 #define IC_DESCEND_AND_INSERT(status, at, table, places, tree, place, comparison, is_unique)                                    \
     do {                                                                                                                        \
         uint32_t ic_under_##at = IC_NONE, ic_same_##at = IC_NONE, ic_rounds_##at = ic_bound(places);                            \
@@ -2107,15 +2119,15 @@ static inline uint32_t ic_tree_child(const struct ic_link3 *table, ic_length pla
         at = status != IC_OK ? IC_NONE : ic_same_##at != IC_NONE ? ic_same_##at : (place);                                      \
     } while (0)
 
-/* Inserts `place` after all members that do not come after it. Sets `status` to what the call returns, and `at` to `place`, or to IC_NONE if
- * the call was refused.
+/* Inserts `place` after all members that, by the comparison, do not come after `place`. Sets `status` to what the call returns, and `at` to `place`,
+ * or to IC_NONE if the call was refused.
  * IC_OUT_OF_RANGE: `place` is not below `places`. IC_LINKED: `place` is linked already. IC_BROKEN: the root does not belong to this table, or
  * the way down from it does not end. */
 #define IC_TREE_INSERT_BY(status, at, table, places, tree, place, comparison) \
     IC_DESCEND_AND_INSERT(status, at, table, places, tree, place, comparison, 0)
 
-/* Inserts `place` if there is no member of which the comparison is 0. Sets `at` to such a member, or to `place` if it was inserted, or to
- * IC_NONE if the call was refused. Sets `status` to IC_OK, or to what IC_TREE_INSERT_BY does if it is refused. */
+/* Inserts `place` if there is no member for which the comparison is 0. Sets `at` to such a member, or to `place` if it was inserted, or to IC_NONE if
+ * the call was refused. Sets `status` to IC_OK, or to the status with which IC_TREE_INSERT_BY would be refused. */
 #define IC_TREE_INSERT_UNIQUE_BY(status, at, table, places, tree, place, comparison) \
     IC_DESCEND_AND_INSERT(status, at, table, places, tree, place, comparison, 1)
 
@@ -2123,8 +2135,8 @@ static inline uint32_t ic_tree_child(const struct ic_link3 *table, ic_length pla
  *
  * A walk over all n members takes O(n) steps. If you remove members during the walk, step on from a member before you remove it.
  *
- * To take a whole tree down, walk over its members, free or reuse what each object has, and then call ic_tree_clear, which takes O(n), too.
- * The links are in the table, so the walk goes on after an object is freed, and no order of the members matters.
+ * To dispose of a whole tree, walk over its members, free or reuse what each object owns, and then call ic_tree_clear, which takes O(n), too. The
+ * links are in the table, so the walk goes on after an object is freed, and you may free the objects in any order.
  */
 
 /* tools/c-calls --write writes from here: tree-steps */
@@ -2205,10 +2217,11 @@ static inline uint32_t ic_tree_before(const struct ic_link3 *table, ic_length pl
 
 /* ---- Trees that keep their first and last member ----
  *
- * These calls keep both in two more words, so that the first one, such as the next timer, is found at once. {0} is right for an empty tree. Edit such
- * a tree only by these calls, since the others leave the ends as they are. A loop that removes calls ic_tree_ends_remove. After ic_tree_clear set the
- * ends to zero. After ic_tree_append, ic_tree_join or ic_tree_split write those of each tree that keeps them: ends.first = ic_word(what ic_tree_next
- * finds from IC_NONE), and ends.last that of ic_tree_prev, which are 0 if the tree is empty.
+ * These calls keep the first and the last member in two more words, a struct ic_tree_ends, so that the first member, such as the next timer, is found
+ * at once. For an empty tree the ends are {0}. Edit such a tree only by these calls, since the others leave the ends as they are. In a loop, remove a
+ * member by ic_tree_ends_remove. After ic_tree_clear set the ends to zero. After ic_tree_append, ic_tree_join or ic_tree_split write the ends of each
+ * tree that keeps its ends: set ends.first to ic_word of the place that ic_tree_next finds from IC_NONE, and ends.last to ic_word of the place that
+ * ic_tree_prev finds. Both are 0 if the tree is empty.
  *
  *     struct ic_tree_ends ends = {0};
  *     status = ic_tree_ends_insert(links, 100, keys, 100, &tree, &ends, 7);
@@ -2251,25 +2264,25 @@ IC_NODISCARD
 uint32_t ic_tree_ends_insert_right(struct ic_link3 *table, ic_length places, struct ic_tree *tree, struct ic_tree_ends *ends, uint32_t at,
                                    uint32_t place);
 
-/* Removes the member `at`, in O(log n). If it is an end, the member next to it becomes that end.
+/* Removes the member `at`, in O(log n). If `at` is the first or the last member of the tree, the member next to it takes over as that end.
  * IC_NULL: the place `at` is IC_NONE. IC_OUT_OF_RANGE: the place `at` is not below `places`. IC_NOT_LINKED: the place `at` is not linked.
  * IC_BROKEN: the root does not belong to this table, or `at` is an end, and the links lead from it to a place that is not linked, or to
  * `at` itself. */
 IC_NODISCARD
 uint32_t ic_tree_ends_remove(struct ic_link3 *table, ic_length places, struct ic_tree *tree, struct ic_tree_ends *ends, uint32_t at);
 
-/* Removes the member `at`, and inserts `place` where it was, also as an end, in O(1). The call compares nothing, so hand in a place that
- * belongs there.
- * IC_NULL: the place `at` is IC_NONE. IC_OUT_OF_RANGE: `at` or `place` is not below `places`. IC_LINKED: `place` is linked already, also
- * where `at` and `place` are the same. IC_NOT_LINKED: the place `at` is not linked. IC_BROKEN: the root does not belong to this table. */
+/* Removes the member `at`, and inserts `place` where it was, in O(1). If `at` was the first or the last member of the tree, `place` takes
+ * over as that end. The call compares no keys, so pass a place that belongs at this position.
+ * IC_NULL: the place `at` is IC_NONE. IC_OUT_OF_RANGE: `at` or `place` is not below `places`. IC_LINKED: `place` is linked already, also if
+ * `at` and `place` are the same. IC_NOT_LINKED: the place `at` is not linked. IC_BROKEN: the root does not belong to this table. */
 IC_NODISCARD
 uint32_t ic_tree_ends_replace(struct ic_link3 *table, ic_length places, struct ic_tree *tree, struct ic_tree_ends *ends, uint32_t at,
                               uint32_t place);
 
-/* Removes the first member, and sets *popped to it, in O(log n). The call finds it in `ends`, and the next one in constant time on average,
- * so it serves timers and schedulers.
+/* Removes the first member, and sets *popped to it, in O(log n). The call finds this member in `ends`, and the next member in constant time
+ * on average, so it serves timers and schedulers.
  * IC_NULL: `ends` says that the tree is empty. IC_BROKEN: the root or the first member does not belong to this table, or the links lead
- * from it to a place that is not linked, or to it itself. */
+ * from the first member to a place that is not linked, or back to the first member. */
 IC_NODISCARD
 uint32_t ic_tree_ends_pop_first(struct ic_link3 *table, ic_length places, struct ic_tree *tree, struct ic_tree_ends *ends, uint32_t *popped);
 
@@ -2277,9 +2290,9 @@ uint32_t ic_tree_ends_pop_first(struct ic_link3 *table, ic_length places, struct
 
 /* ---- Trees with sums ----
  *
- * An array of your own has a value and a sum for each place. You write the values. With IC_SUM the sum of a member is that of its value and the
- * values of all members below it, and at most UINT64_MAX. With IC_GREATEST it is the greatest of these values. If each value is 1, IC_SUM counts
- * these members.
+ * An array of your own has a value and a sum for each place. You write the values. With IC_SUM the sum at a member is the total of its value and the
+ * values of all members below it, and at most UINT64_MAX. With IC_GREATEST it is the greatest of these values. If each value is 1, the sum with
+ * IC_SUM is the number of these members.
  *
  *     struct ic_sum counts[100];                                             // with the value 1 at each place
  *     status = ic_tree_sums_renew(links, 100, counts, 100, IC_SUM, IC_NONE); // makes all sums right
@@ -2287,19 +2300,21 @@ uint32_t ic_tree_ends_pop_first(struct ic_link3 *table, ic_length places, struct
  *     status = ic_tree_sums_find(links, 100, counts, 100, IC_SUM, &tree, IC_NONE, 3, &found); // the member at position 3, from 0 on
  *     status = ic_tree_sums_before(links, 100, counts, 100, IC_SUM, found, &position);        // which is 3
  *
- * ic_tree_sums_insert and ic_tree_sums_remove edit the tree as ic_tree_insert and ic_tree_remove do, and keep the sums right, in O(log n). Other edits
- * leave the sums as they are. After those call ic_tree_sums_renew with IC_NONE, which makes all of them right, and after you have changed the value of
- * one member, with that member. An empty tree needs no such call.
+ * ic_tree_sums_insert and ic_tree_sums_remove edit the tree as ic_tree_insert and ic_tree_remove do, and keep the sums right, in O(log n). Other
+ * edits leave the sums as they are. After such edits call ic_tree_sums_renew with IC_NONE, which makes all sums right. After you have changed the
+ * value of one member, call ic_tree_sums_renew with that member. An empty tree needs no such call.
  *
- * If the values are the lengths of lines, ic_tree_sums_find finds the line at an offset, and ic_tree_sums_before tells where a line begins. With
- * IC_GREATEST, ic_tree_sums_find finds the first member whose value is greater than a bound, say the first region that is long enough. If the keys are
- * the starts of intervals, and the values their ends, ic_tree_sums_overlap finds each interval that overlaps another one, from the last one found on.
+ * If the values are the lengths of lines, ic_tree_sums_find finds the line at an offset, and ic_tree_sums_before returns where a line begins. With
+ * IC_GREATEST, ic_tree_sums_find finds the first member whose value is greater than a bound, for example the first region that is long enough. If the
+ * keys are the starts of intervals, and the values their ends, ic_tree_sums_overlap finds, one after the other, all intervals that overlap a given
+ * one.
  */
 
-/* What a sum is made of. A call takes any other number as IC_GREATEST. */
+/* These numbers say what a sum is made of. A call takes any other number as IC_GREATEST. */
 enum { IC_SUM = 0, IC_GREATEST = 1 };
 
-/* Returns the sum of the values of all members of a tree, or the greatest of them, in O(1), if its sums are right. Returns 0 if the tree is empty. */
+/* If the sums of a tree are right, returns the sum of the values of all its members, or the greatest of these values, in O(1). Returns 0 if the tree
+ * is empty. */
 static inline uint64_t ic_tree_sums_total(const struct ic_sum *sums, ic_length sum_count, const struct ic_tree *tree) {
     uint32_t root = ic_tree_root(tree);
     return root < ic_bound(sum_count) ? sums[root].sum : 0;
@@ -2307,15 +2322,15 @@ static inline uint64_t ic_tree_sums_total(const struct ic_sum *sums, ic_length s
 
 /* tools/c-calls --write writes from here: tree-sums */
 
-/* Inserts `place` by its key as ic_tree_insert does, and makes the sums right again that change with it, in O(log n). If those of the tree
- * were right before the call, they are right after it, whatever the sum of `place` was.
+/* Inserts `place` by its key as ic_tree_insert does, and updates the sums that this changes, in O(log n). If the sums of the tree were
+ * right before the call, they are right after it, whatever the sum of `place` was.
  * IC_OUT_OF_RANGE: there are fewer keys than places, or there are fewer sums than places, or `place` is not below `places`. IC_LINKED:
  * `place` is linked already. IC_BROKEN: the root does not belong to this table. */
 IC_NODISCARD
 uint32_t ic_tree_sums_insert(struct ic_link3 *table, ic_length places, const uint64_t *keys, ic_length key_count, struct ic_sum *sums,
                              ic_length sum_count, uint32_t kind, struct ic_tree *tree, uint32_t place);
 
-/* Inserts `place` as ic_tree_insert_left does, and makes the sums right again that change with it, in O(log n).
+/* Inserts `place` as ic_tree_insert_left does, and updates the sums that this changes, in O(log n).
  * IC_OUT_OF_RANGE: there are fewer sums than places, or `at` or `place` is not below `places`. IC_LINKED: `place` is linked already.
  * IC_NOT_LINKED: the place `at` is not linked. IC_BROKEN: `at` has a left child, or `at` is IC_NONE and the tree has members, or the root
  * does not belong to this table. */
@@ -2323,7 +2338,7 @@ IC_NODISCARD
 uint32_t ic_tree_sums_insert_left(struct ic_link3 *table, ic_length places, struct ic_sum *sums, ic_length sum_count, uint32_t kind,
                                   struct ic_tree *tree, uint32_t at, uint32_t place);
 
-/* Inserts `place` as ic_tree_insert_right does, and makes the sums right again that change with it, in O(log n).
+/* Inserts `place` as ic_tree_insert_right does, and updates the sums that this changes, in O(log n).
  * IC_OUT_OF_RANGE: there are fewer sums than places, or `at` or `place` is not below `places`. IC_LINKED: `place` is linked already.
  * IC_NOT_LINKED: the place `at` is not linked. IC_BROKEN: `at` has a right child, or `at` is IC_NONE and the tree has members, or the root
  * does not belong to this table. */
@@ -2331,43 +2346,43 @@ IC_NODISCARD
 uint32_t ic_tree_sums_insert_right(struct ic_link3 *table, ic_length places, struct ic_sum *sums, ic_length sum_count, uint32_t kind,
                                    struct ic_tree *tree, uint32_t at, uint32_t place);
 
-/* Removes the member `at`, and makes the sums right again that change with it, in O(log n). If those of the tree were right before the
- * call, they are right after it.
+/* Removes the member `at`, and updates the sums that this changes, in O(log n). If the sums of the tree were right before the call, they
+ * are right after it.
  * IC_NULL: the place `at` is IC_NONE. IC_OUT_OF_RANGE: there are fewer sums than places, or the place `at` is not below `places`.
  * IC_NOT_LINKED: the place `at` is not linked. IC_BROKEN: the root does not belong to this table. */
 IC_NODISCARD
 uint32_t ic_tree_sums_remove(struct ic_link3 *table, ic_length places, struct ic_sum *sums, ic_length sum_count, uint32_t kind,
                              struct ic_tree *tree, uint32_t at);
 
-/* Makes the sums right again after the value of `at` has changed: its own sum, and those above it as far as they change, in O(log n). If
- * `at` is IC_NONE, it makes all sums of the table right, of whichever trees it has, in O(p log p) for p places. It writes nothing else.
+/* Updates the sums after the caller has changed the value of `at`: the sum at `at`, and the sums above it as far as they change, in O(log
+ * n). If `at` is IC_NONE, it computes all sums of the table, for all trees in it, in O(p log p) for p places. The call writes nothing else.
  * IC_OUT_OF_RANGE: there are fewer sums than places, or the place `at` is not below `places`. IC_NOT_LINKED: the place `at` is not linked. */
 IC_NODISCARD
 uint32_t ic_tree_sums_renew(const struct ic_link3 *table, ic_length places, struct ic_sum *sums, ic_length sum_count, uint32_t kind,
                             uint32_t at);
 
-/* Finds the first member after the member `at`, or the first of all if `at` is IC_NONE, at which what the values of the members after `at`
- * up to it make together is greater than `bound`, and sets *found to it, in O(log n). It writes nothing else.
- * IC_NULL: what the values of all members after `at` make together is not greater than `bound`. IC_OUT_OF_RANGE: there are fewer sums than
- * places, or the place `at` is not below `places`. IC_NOT_LINKED: the place `at` is not linked. IC_BROKEN: the sums of the tree are not
- * right, or the root does not belong to this table. */
+/* Combines the values of the members after the member `at`, or of all members if `at` is IC_NONE, one after the other, finds the first
+ * member at which the combined value exceeds `bound`, and sets *found to it, in O(log n). The call writes nothing else.
+ * IC_NULL: the combined value of all members after `at` does not exceed `bound`. IC_OUT_OF_RANGE: there are fewer sums than places, or the
+ * place `at` is not below `places`. IC_NOT_LINKED: the place `at` is not linked. IC_BROKEN: the sums of the tree are not right, or the root
+ * does not belong to this table. */
 IC_NODISCARD
 uint32_t ic_tree_sums_find(const struct ic_link3 *table, ic_length places, const struct ic_sum *sums, ic_length sum_count, uint32_t kind,
                            const struct ic_tree *tree, uint32_t at, uint64_t bound, uint32_t *found);
 
-/* Finds what the values of the members before the member `at` make together, and sets *sum to it, in O(log n). It writes nothing else.
+/* Finds the combined value of the members before the member `at`, and sets *sum to it, in O(log n). The call writes nothing else.
  * IC_NULL: the place `at` is IC_NONE. IC_OUT_OF_RANGE: there are fewer sums than places, or the place `at` is not below `places`.
  * IC_NOT_LINKED: the place `at` is not linked. IC_BROKEN: the links lead from `at` to no root. */
 IC_NODISCARD
 uint32_t ic_tree_sums_before(const struct ic_link3 *table, ic_length places, const struct ic_sum *sums, ic_length sum_count, uint32_t kind,
                              uint32_t at, uint64_t *sum);
 
-/* Finds the first member after the member `at`, or the first of all if `at` is IC_NONE, whose interval overlaps the one from `from` on
- * before `to`, and sets *found to it, in O(log n). The interval of a member is from its key on before its value. The sums are those of
- * IC_GREATEST, and from one member to the next the keys must not fall. It writes nothing else.
- * IC_NULL: no such interval overlaps it. IC_OUT_OF_RANGE: there are fewer keys than places, or there are fewer sums than places, or the
- * place `at` is not below `places`. IC_NOT_LINKED: the place `at` is not linked. IC_BROKEN: the sums of the tree are not right, or the root
- * does not belong to this table. */
+/* Finds the first member after the member `at`, or the first of all members if `at` is IC_NONE, whose interval overlaps the interval that
+ * begins at `from` and ends before `to`, and sets *found to it, in O(log n). The interval of a member begins at its key and ends before its
+ * value. The sums must be those of IC_GREATEST, and the keys must not decrease from one member to the next. The call writes nothing else.
+ * IC_NULL: no member after `at` has such an interval. IC_OUT_OF_RANGE: there are fewer keys than places, or there are fewer sums than
+ * places, or the place `at` is not below `places`. IC_NOT_LINKED: the place `at` is not linked. IC_BROKEN: the sums of the tree are not
+ * right, or the root does not belong to this table. */
 IC_NODISCARD
 uint32_t ic_tree_sums_overlap(const struct ic_link3 *table, ic_length places, const uint64_t *keys, ic_length key_count,
                               const struct ic_sum *sums, ic_length sum_count, const struct ic_tree *tree, uint32_t at, uint64_t from,

@@ -44,7 +44,7 @@ namespace ic {
 /// This number names no place.
 inline constexpr std::uint32_t none = IC_NONE;
 
-/// An edit returns one of these, and any but `ok` is a refusal, which has changed nothing.
+/// An edit returns one of these. Every status except `ok` is a refusal, and a refused edit has changed nothing.
 enum class [[nodiscard]] status : std::uint32_t {
     ok = IC_OK,
     out_of_range = IC_OUT_OF_RANGE,
@@ -76,8 +76,8 @@ inline constexpr bool is_borrowed<array_view<Element>> = true;
 
 } // namespace detail
 
-/// This is a pointer and a length, and you make it of these, or of a vector, an array, or whatever else has both. It takes an rvalue only if that
-/// does not own its elements, as a std::span.
+/// This is a pointer and a length. You make it from a pointer and a length, from a vector, from an array, or from anything else that has both. A
+/// temporary is accepted only if it does not own its elements, as a std::span.
 template <class Element>
 class array_view {
     template <class Container>
@@ -102,12 +102,12 @@ private:
 
 namespace detail {
 
-/// This is a member, and the one from which a walk came to it. At an end either is `none`.
+/// This is a member, and the member from which a walk came to it. At an end of the list or tree either is `none`.
 struct position {
     std::uint32_t from = none, at = none;
 };
 
-/// These are a table, and a list or tree in it, that somebody reads.
+/// These are a table, and a list or tree in this table, for reading.
 template <class Link, class Head>
 struct words {
     const Link *table = nullptr;
@@ -128,7 +128,8 @@ struct headed {
     static handle handle_of(argument list) noexcept { return &list; }
 };
 
-/// The calls of doubly linked lists, by the width of the words of their links. Those of 4 bytes have no fills, sorts and merges.
+/// These are the calls of doubly linked lists, once for links with words of 8 bytes and once for words of 4 bytes. Lists with words of 4 bytes have
+/// no fill, sort or merge.
 struct wide_list {
     using link = ic_link2;
     static constexpr auto clear = ic_list_clear;
@@ -269,7 +270,8 @@ struct red_black : headed<ic_link3, ic_tree> {
     }
 };
 
-/// The calls of rings, by the width of the words of their links. Those of 4 bytes have no checks, sorts and merges.
+/// These are the calls of rings, once for links with words of 8 bytes and once for words of 4 bytes. Rings with words of 4 bytes have no check, sort
+/// or merge.
 struct wide_ring {
     using link = ic_link2;
     static constexpr auto init = ic_ring_init;
@@ -359,12 +361,12 @@ struct trail {
 };
 struct no_trail {};
 
-/// Goes from member to member, and gives the place of each. It stays valid until its member is removed. In a singly linked or an XOR list
-/// it also needs the member that it came from, so make it anew if you have removed that. An iterator that has gone on by `it++` does not,
-/// so that `erase(it++)` is right for each kind.
+/// Goes from member to member, and gives the place of each. It stays valid until its member is removed. In a singly linked or an XOR list the
+/// iterator also needs the member that it came from, so make it anew if you have removed that member. An iterator that has gone on by `it++` does not
+/// need that member, so `erase(it++)` is right for each kind.
 ///
-/// `Back` says whether it goes from the last member to the first. It counts its steps. After as many forwards as the table has places it is
-/// at the end, and after as many backwards at the beginning.
+/// `Back` says whether the iterator goes from the last member to the first. The iterator counts its steps. After as many steps forwards as the table
+/// has places it is at the end, and after as many steps backwards it is at the beginning.
 template <class Kind, bool Back>
 class iterator : std::conditional_t<Kind::needs_from, trail, no_trail> {
 public:
@@ -428,14 +430,14 @@ public:
     [[nodiscard]] friend bool operator==(const iterator &one, const iterator &other) noexcept { return one.it_.at == other.it_.at; }
     [[nodiscard]] friend bool operator!=(const iterator &one, const iterator &other) noexcept { return !(one == other); }
 
-    /// Returns the member, and the one before it, from which the iterator came unless that has been removed.
+    /// Returns the member, and the member before it. The iterator came from the member before, unless that one has been removed.
     [[nodiscard]] position where() const noexcept {
         iterator settled = *this;
         settled.settle();
         return settled.it_;
     }
 
-    /// Returns the iterator after this one, as it is once this one's member has been removed.
+    /// Returns the iterator after this one, in the state in which it is once the member of this one has been removed.
     [[nodiscard]] iterator past() const noexcept {
         iterator next = *this;
         ++next;
@@ -453,8 +455,8 @@ private:
         }
     }
 
-    /// Returns the member before the position `at`: `from`, from which the iterator came to it, unless the member before that now leads to `at`. It
-    /// takes values and is no part of a loop, so that compilers keep iterators in registers.
+    /// Returns the member before the position `at`. This is `from`, from which the iterator came to `at`, unless the member before `from` now leads
+    /// to `at`. The function takes values and is no part of a loop, so that compilers keep iterators in registers.
 #ifdef __GNUC__
     [[gnu::noinline]]
 #endif
@@ -470,12 +472,12 @@ private:
 
     typename Kind::source in_;
     position it_;
-    /// These say how many steps forwards are left, and how many members before its first position it has been.
+    /// These say how many steps forwards the iterator has left, and how many members before its first position it has gone.
     std::uint32_t left_ = 0, ahead_ = 0;
 };
 
-/// This is what `erase` returns, which is the iterator after the member that it removed, and its status. If the status is not ok, the
-/// member is where it was, and the iterator is end(), so that a loop of `it = erase(it)` ends.
+/// `erase` returns this: the iterator after the removed member, and the status of the removal. If the status is not ok, the member is where it was,
+/// and the iterator is end(), so that a loop of `it = erase(it)` ends.
 template <class Iterator>
 class erased : public Iterator {
 public:
@@ -490,7 +492,7 @@ private:
 
 // ---- What all kinds have -----------------------------------------------------------------------------------------------------------
 
-/// Marks what reads members. Its copies are cheap, and its iterators outlive it.
+/// Marks the views that read members. Its copies are cheap, and its iterators outlive it.
 struct view_base {};
 
 #ifdef __cpp_lib_ranges
@@ -512,8 +514,8 @@ public:
 
     [[nodiscard]] bool empty() const noexcept { return Kind::is_empty(in_); }
 
-    /// Returns how many members there are, in O(n), for words that come from a file or that others write. It returns std::nullopt if they
-    /// form no list, ring or tree. An XOR list has no check.
+    /// Returns how many members there are, in O(n). Call it if the words come from a file, or if others write them. It returns std::nullopt if the
+    /// words form no list, ring or tree. An XOR list has no check.
     [[nodiscard]] std::optional<std::uint64_t> check() const noexcept {
         std::uint64_t count = 0;
         return Kind::check(in_.table, in_.places, in_.head, &count) == IC_OK ? std::optional<std::uint64_t>(count) : std::nullopt;
@@ -522,7 +524,7 @@ public:
     /// Returns whether a place is in this or another list or tree of the table.
     [[nodiscard]] bool is_linked(std::uint32_t place) const noexcept { return Kind::is_linked(in_, place); }
 
-    /// Returns the first member, or std::nullopt if there is none or if it is no place of this table.
+    /// Returns the first member, or std::nullopt if there is none or if the first member is no place of this table.
     [[nodiscard]] std::optional<std::uint32_t> front() const noexcept { return found(*begin()); }
 
 protected:
@@ -545,7 +547,7 @@ public:
     [[nodiscard]] reverse_iterator rbegin() const noexcept { return {this->in_, {none, Kind::outermost(this->in_, true)}}; }
     [[nodiscard]] reverse_iterator rend() const noexcept { return {this->in_, {}}; }
 
-    /// Returns the last member, or std::nullopt if there is none or if it is no place of this table.
+    /// Returns the last member, or std::nullopt if there is none or if the last member is no place of this table.
     [[nodiscard]] std::optional<std::uint32_t> back() const noexcept { return this->found(*rbegin()); }
 
 protected:
@@ -593,7 +595,7 @@ public:
         return {done, next};
     }
 
-    /// Does the same for an iterator that nobody reads again, such as `it++`. You may overlook the status here, as in the standard library.
+    /// Does the same for an iterator that nobody reads again, such as `it++`. You may ignore the status here, as in the standard library.
     erased<iterator> erase(iterator &&at) const noexcept { return erase(at); }
     [[nodiscard]] erased<iterator> erase(const iterator &at) const noexcept { return erase(iterator(at)); }
 
@@ -605,8 +607,8 @@ public:
         return {status::ok, first};
     }
 
-    /// Removes each member of which the predicate is true, and hands it to `then`, which may link it in another list or tree. Neither may
-    /// edit this one. The call stops at the first refusal, and returns it.
+    /// Removes each member of which the predicate is true, and passes it to `then`, which may link it in another list or tree. Neither the predicate
+    /// nor `then` may edit this list or tree. The call stops at the first refusal, and returns its status.
     template <class Predicate, class Then>
     status remove_if(Predicate is_unwanted, Then then) const {
         for (iterator at = this->begin(); at != this->end();) {
@@ -635,7 +637,7 @@ public:
     }
 };
 
-/// Has what edits a list, a ring or a tree.
+/// Has the calls that edit a list, a ring or a tree.
 template <class Base>
 class writes : public Base {
 public:
@@ -663,7 +665,7 @@ protected:
         return call(table_, this->in_.places, head_, arguments..., &place) == IC_OK ? this->found(place) : std::nullopt;
     }
 
-    /// Makes an edit with a second list, which has to be another one of the same table.
+    /// Makes an edit with a second list. This has to be another list than the first one, and in the same table.
     template <class Call, class... Arguments>
     status edit_both(const writes &other, Call call, Arguments... arguments) const noexcept {
         return other.table_ == table_ && other.head_ != head_ ? edit(call, arguments...) : status::broken;
@@ -682,8 +684,8 @@ public:
 
     status push_front(std::uint32_t place) const noexcept { return this->edit(kind::push_front, place); }
 
-    /// Removes the first member, and returns it. It returns std::nullopt if there is none, or, if the list is not empty(), if it is no
-    /// place of this table.
+    /// Removes the first member, and returns it. It returns std::nullopt if there is none. If the list is not empty(), std::nullopt means that the
+    /// first member is no place of this table.
     [[nodiscard]] std::optional<std::uint32_t> pop_front() const noexcept { return this->taken(kind::pop_front); }
 };
 
@@ -696,31 +698,31 @@ public:
 
     status push_back(std::uint32_t place) const noexcept { return this->edit(kind::push_back, place); }
 
-    /// Removes the last member, and returns it. It returns std::nullopt if there is none, or, if the list is not empty(), if it is no place
-    /// of this table.
+    /// Removes the last member, and returns it. It returns std::nullopt if there is none. If the list is not empty(), std::nullopt means that the
+    /// last member is no place of this table.
     [[nodiscard]] std::optional<std::uint32_t> pop_back() const noexcept { return this->taken(kind::pop_back); }
 };
 
-/// Edits a list as a whole, too.
+/// This view also edits a list as a whole.
 template <class Base>
 class list_edits : public Base {
 public:
     using kind = typename Base::kind;
     using Base::Base;
 
-    /// Removes all members. It returns ic::status::broken, and changes nothing, if they are no list of this table.
+    /// Removes all members. It returns ic::status::broken, and changes nothing, if the members form no list of this table.
     status clear() const noexcept { return this->edit(kind::clear); }
 };
 
-/// Links places one after another, too.
+/// This view also links a run of places by one call.
 template <class Base>
 class fills : public Base {
 public:
     using kind = typename Base::kind;
     using Base::Base;
 
-    /// Inserts `count` places, `first` and those after it, in the order of their numbers, at the back, or in a singly linked list at the
-    /// front. If one of them is refused, none is linked.
+    /// Inserts the `count` places `first`, `first` + 1 and so on, in rising order, at the back, or in a singly linked list at the front. If one of
+    /// these places is refused, none is linked.
     status fill(std::uint32_t first, std::uint32_t count) const noexcept { return this->edit(kind::fill, first, count); }
 };
 
@@ -746,8 +748,8 @@ public:
     using typename sorts<Base>::keys_view;
     using sorts<Base>::sorts;
 
-    /// Moves all members of `given` to where their keys belong, after members with equal keys. It returns ic::status::broken in the cases in which a
-    /// splice does.
+    /// Moves all members of `given` to where their keys belong, after members with equal keys. It returns ic::status::broken in the same cases as a
+    /// splice.
     status merge(keys_view keys, const merges &given) const noexcept {
         if (given.table_ != this->table_ || given.head_ == this->head_)
             return status::broken;
@@ -783,8 +785,8 @@ public:
     status move_to_front(std::uint32_t place) const noexcept { return this->edit(List::move_to_front, place); }
     status move_to_back(std::uint32_t place) const noexcept { return this->edit(List::move_to_back, place); }
 
-    /// Moves all members of `given` before an iterator's member, and to the back if that is end(). This and the next five return
-    /// ic::status::broken of this list itself, and of a list of another table.
+    /// Moves all members of `given` before an iterator's member, and to the back if that is end(). This and the next five calls return
+    /// ic::status::broken if you pass this list itself, or a list of another table.
     status splice(iterator at, const edits_of_list &given) const noexcept { return splice_before(*at, given); }
     status splice_after(std::uint32_t at, const edits_of_list &given) const noexcept {
         return this->edit_both(given, List::splice_after, at, given.head_);
@@ -796,8 +798,8 @@ public:
     status split_after(std::uint32_t at, const edits_of_list &rest) const noexcept { return this->edit_both(rest, List::split_after, at, rest.head_); }
     status split_before(std::uint32_t at, const edits_of_list &rest) const noexcept { return this->edit_both(rest, List::split_before, at, rest.head_); }
 
-    /// Moves the member of an iterator of `given` before an iterator's member, and to the back if that is end(). The place stays linked. This
-    /// and the next two return ic::status::broken where a splice of all members does.
+    /// Moves the member of an iterator of `given` before an iterator's member, and to the back if that is end(). The place stays linked. This and the
+    /// next two calls return ic::status::broken in the same cases as a splice of all members.
     status splice(iterator at, const edits_of_list &given, iterator member) const noexcept { return transfer_before(*at, given, *member); }
 
     /// Moves the member `place` of `given` after the member `at`, and to the front if that is `none`. The place stays linked.
@@ -821,7 +823,7 @@ public:
     using merges::merges;
 };
 
-/// The same of a list whose links have words of 4 bytes, without fills, sorts and merges.
+/// Edits a doubly linked list whose links have words of 4 bytes, which has no fill, sort or merge.
 using const_list32_view = detail::of_head<detail::placed<detail::doubly<detail::narrow_list>>>;
 using list32_view = detail::edits_of_list<detail::narrow_list>;
 
@@ -829,7 +831,7 @@ using list32_view = detail::edits_of_list<detail::narrow_list>;
 
 namespace detail {
 
-/// Reads the members of one ring, from the one after its head on.
+/// Reads the members of one ring, from the first member on, which is the place after the head.
 template <class Ring>
 class const_members_of_ring : public placed<circular<Ring>> {
     using base = placed<circular<Ring>>;
@@ -857,7 +859,7 @@ public:
     }
 };
 
-/// Reads the rings of a table, whose heads are places of it.
+/// Reads the rings of a table. Their heads are places of this table.
 template <class Ring>
 class const_rings {
     using link = typename Ring::link;
@@ -870,14 +872,14 @@ public:
     [[nodiscard]] std::uint32_t next(std::uint32_t at) const noexcept { return Ring::next(in_.data(), in_.size(), at); }
     [[nodiscard]] std::uint32_t prev(std::uint32_t at) const noexcept { return Ring::prev(in_.data(), in_.size(), at); }
 
-    /// Returns the members of a head, for a loop or an algorithm.
+    /// Returns the members of the ring with this head, for a loop or an algorithm.
     [[nodiscard]] const_members_of_ring<Ring> members(std::uint32_t head) const noexcept { return {in_, head}; }
 
 protected:
     array_view<const link> in_;
 };
 
-/// Edits the rings of a table. A member leaves, and gets neighbors, with no ring named. `Reads` reads them.
+/// Edits the rings of a table. You remove a member, or move it, without naming its ring. `Reads` is the view that reads the rings.
 template <class Ring, class Reads>
 class rings : public Reads {
     using link = typename Ring::link;
@@ -885,7 +887,7 @@ class rings : public Reads {
 public:
     rings(array_view<link> table) noexcept : Reads(array_view<const link>(table)), table_(table.data()), places_(table.size()) {}
 
-    /// Returns the members of a head, whose iterators `erase` takes, too.
+    /// Returns the members of the ring with this head. `erase` takes their iterators, too.
     [[nodiscard]] members_of_ring<Ring> members(std::uint32_t head) const noexcept { return {{table_, places_}, head}; }
 
     /// Makes a place the head of a ring with no members.
@@ -896,20 +898,21 @@ public:
     status push_front(std::uint32_t head, std::uint32_t place) const noexcept { return edit(Ring::push_front, head, place); }
     status push_back(std::uint32_t head, std::uint32_t place) const noexcept { return edit(Ring::push_back, head, place); }
 
-    /// Removes a place from its ring, whichever that is.
+    /// Removes a place from its ring, whichever ring that is.
     status remove(std::uint32_t place) const noexcept { return edit(Ring::remove, place); }
     status replace(std::uint32_t at, std::uint32_t place) const noexcept { return edit(Ring::replace, at, place); }
     status move_after(std::uint32_t at, std::uint32_t place) const noexcept { return edit(Ring::move_after, at, place); }
     status move_before(std::uint32_t at, std::uint32_t place) const noexcept { return edit(Ring::move_before, at, place); }
 
-    /// Moves all members of the head `given` after a place of another ring, or before it.
+    /// Moves all members of the ring with the head `given` after a place of another ring, or before it.
     status splice_after(std::uint32_t at, std::uint32_t given) const noexcept { return edit(Ring::splice_after, at, given); }
     status splice_before(std::uint32_t at, std::uint32_t given) const noexcept { return edit(Ring::splice_before, at, given); }
 
-    /// Lets two places change their places, in one ring or in two.
+    /// Exchanges the positions of two places, in one ring or in two.
     status swap(std::uint32_t one, std::uint32_t other) const noexcept { return edit(Ring::swap, one, other); }
 
-    /// Moves the places from `first` to `last` of a ring after a place of this or another ring, or before it, which is none of them.
+    /// Moves the places from `first` to `last` of a ring after the place `at` of this or another ring, or before it. `at` must not be one of the
+    /// places that move.
     status move_range_after(std::uint32_t at, std::uint32_t first, std::uint32_t last) const noexcept {
         return edit(Ring::move_range_after, at, first, last);
     }
@@ -917,15 +920,15 @@ public:
         return edit(Ring::move_range_before, at, first, last);
     }
 
-    /// Exchanges what comes after two places that are in rings.
+    /// Exchanges the place after `one` and the place after `other`. Both `one` and `other` are in rings.
     status exchange(std::uint32_t one, std::uint32_t other) const noexcept { return edit(Ring::exchange, one, other); }
 
-    /// Removes the first member of a head, or the last one, and returns it. It returns std::nullopt if there is none, or if the call is
+    /// Removes the first or the last member of the ring with this head, and returns it. It returns std::nullopt if there is none, or if the call is
     /// refused.
     [[nodiscard]] std::optional<std::uint32_t> pop_front(std::uint32_t head) const noexcept { return taken(Ring::pop_front, head); }
     [[nodiscard]] std::optional<std::uint32_t> pop_back(std::uint32_t head) const noexcept { return taken(Ring::pop_back, head); }
 
-    /// Calls a function with each member of a head, which may remove it.
+    /// Calls a function with each member of the ring with this head. The function may remove the member.
     template <class Function>
     void for_each(std::uint32_t head, Function then) const {
         IC_LOOP_SAFE(place, after, Ring::next(table_, places_, head), places_, place != head && this->is_linked(place), Ring::next(table_, places_, place))
@@ -963,8 +966,8 @@ class const_ring_view : public detail::const_rings<detail::wide_ring> {
 public:
     using const_rings::const_rings;
 
-    /// Returns how many members a head has, in O(n), for words that come from a file or that others write. It returns std::nullopt if they
-    /// form no ring with this head.
+    /// Returns how many members the ring with this head has, in O(n). Call it if the words come from a file, or if others write them. It returns
+    /// std::nullopt if the words form no ring with this head.
     [[nodiscard]] std::optional<std::uint64_t> check(std::uint32_t head) const noexcept { return members(head).check(); }
 };
 
@@ -973,19 +976,20 @@ class ring_view : public detail::rings<detail::wide_ring, const_ring_view> {
 public:
     using rings::rings;
 
-    /// Returns the members of a head, whose iterators `erase` takes, too.
+    /// Returns the members of the ring with this head. `erase` takes their iterators, too.
     [[nodiscard]] ring_members members(std::uint32_t head) const noexcept { return {{table_, places_}, head}; }
 
-    /// Sorts the members of a head by their keys, of which there is one for each place. Members with equal keys keep their order.
+    /// Sorts the members of the ring with this head by their keys. There has to be a key for each place. Members with equal keys keep their order.
     status sort(array_view<const std::uint64_t> keys, std::uint32_t head) const noexcept { return members(head).sort(keys); }
 
-    /// Moves all members of the head `given` to where their keys belong among those of a head, after members with equal keys.
+    /// Moves all members of the ring with the head `given` to where their keys belong in the ring with the head `head`, after members with equal
+    /// keys.
     status merge(array_view<const std::uint64_t> keys, std::uint32_t head, std::uint32_t given) const noexcept {
         return static_cast<status>(ic_ring_merge(table_, places_, keys.data(), keys.size(), head, given));
     }
 };
 
-/// The same of rings whose links have words of 4 bytes, without checks, sorts and merges.
+/// Edits the rings of a table whose links have words of 4 bytes, which have no check, sort or merge.
 using const_ring32_members = detail::const_members_of_ring<detail::narrow_ring>;
 using ring32_members = detail::members_of_ring<detail::narrow_ring>;
 using const_ring32_view = detail::const_rings<detail::narrow_ring>;
@@ -1013,7 +1017,7 @@ public:
     /// Removes a place, wherever it is in the list, in O(n).
     status remove(std::uint32_t place) const noexcept { return edit(ic_stack_remove, place); }
 
-    /// This and the next return ic::status::broken of this list itself, and of a list of another table.
+    /// This and the next call return ic::status::broken if you pass this list itself, or a list of another table.
     status splice_after(std::uint32_t at, stack_view given) const noexcept {
         return edit_both(given, ic_stack_splice_after, at, given.head_);
     }
@@ -1024,7 +1028,7 @@ public:
 
 namespace detail {
 
-/// These are a table and its buckets, that somebody reads.
+/// These are a table and its buckets, for reading.
 struct hash_words {
     const ic_link1 *table = nullptr;
     std::size_t places = 0;
@@ -1032,7 +1036,7 @@ struct hash_words {
     std::size_t bucket_count = 0;
 };
 
-/// Goes from member to member, chain by chain. It stays valid until its member is removed. After as many steps as the table has places it
+/// Goes from member to member, chain by chain. It stays valid until its member is removed. After as many steps as the table has places the iterator
 /// is at the end.
 class hash_iterator {
 public:
@@ -1078,7 +1082,7 @@ public:
     }
 
 private:
-    /// Goes to a place, or if it is no member to the first member of the later chains.
+    /// Goes to a place or, if this place is no member, to the first member of the later chains.
     void go(std::uint32_t place) noexcept {
         while (!ic_stack_is_linked(in_.table, in_.places, place) && ++bucket_ < in_.bucket_count)
             place = ic_stack_first(&in_.buckets[bucket_]);
@@ -1092,8 +1096,8 @@ private:
 
 } // namespace detail
 
-/// Reads a hash table, which is an array of buckets, each a singly linked list of the members whose hash leads there. Hand each call for
-/// one object the same hash. A loop goes over all members, chain by chain.
+/// Reads a hash table, which is an array of buckets, each a singly linked list of the members whose hash leads there. Pass the same hash in each call
+/// for one object. A loop goes over all members, chain by chain.
 class const_hash_view : public detail::view_base {
 public:
     using keys_view = array_view<const std::uint64_t>;
@@ -1111,8 +1115,8 @@ public:
     /// Returns whether `place` is a member of this hash table, or of any other list whose links are in the same table of links.
     [[nodiscard]] bool is_linked(std::uint32_t place) const noexcept { return ic_stack_is_linked(in_.table, in_.places, place) != 0; }
 
-    /// Returns the first member of the chain with this key, which of several is the one that was inserted last. It returns std::nullopt if
-    /// there is none, or if the call is refused.
+    /// Returns the first member of the chain with this key. Of several members with this key, it is the one that was inserted last. It returns
+    /// std::nullopt if there is none, or if the call is refused.
     [[nodiscard]] std::optional<std::uint32_t> find(keys_view keys, std::uint64_t hash, std::uint64_t key) const noexcept {
         std::uint32_t place = none;
         const std::uint32_t done =
@@ -1120,7 +1124,7 @@ public:
         return found(done, place);
     }
 
-    /// Returns the next member after the member `at` with the key of that one. It returns std::nullopt if there is none, or if the call is
+    /// Returns the next member after the member `at` that has the same key as `at`. It returns std::nullopt if there is none, or if the call is
     /// refused.
     [[nodiscard]] std::optional<std::uint32_t> next_equal(keys_view keys, std::uint32_t at) const noexcept {
         std::uint32_t place = none;
@@ -1128,8 +1132,8 @@ public:
         return found(done, place);
     }
 
-    /// Returns how many members there are, in O(buckets + n), for words that come from a file or that others write. `hashes` has the hash of
-    /// each place. It returns std::nullopt if the words form no hash table by these hashes, or if the call is refused.
+    /// Returns how many members there are, in O(buckets + n). Call it if the words come from a file, or if others write them. `hashes` has the hash
+    /// of each place. It returns std::nullopt if the words form no hash table by these hashes, or if the call is refused.
     [[nodiscard]] std::optional<std::uint64_t> check(keys_view hashes) const noexcept {
         std::uint64_t count = 0;
         const std::uint32_t done =
@@ -1169,7 +1173,7 @@ protected:
 
 namespace detail {
 
-/// Has what edits a hash table.
+/// Has the calls that edit a hash table.
 class hash_writes : public const_hash_view {
 public:
     hash_writes(array_view<ic_link1> table, array_view<ic_stack> buckets) noexcept
@@ -1200,9 +1204,9 @@ public:
     /// Removes a place from its chain, wherever in the chain it is.
     status remove(std::uint64_t hash, std::uint32_t place) const noexcept { return edit(ic_hash_remove, hash, place); }
 
-    /// Moves all members of `chain`, a bucket of another array, each to the front of its chain here. Those of one chain keep their order. `hashes`
-    /// has the hash of each place. It returns ic::status::broken of a bucket of this table. To grow, make a view of another array, and call this
-    /// for each bucket of the old one.
+    /// Moves all members of `chain`, a bucket of another array, each to the front of its chain here. Members that move to the same chain keep their
+    /// order. `hashes` has the hash of each place. The call returns ic::status::broken if `chain` is a bucket of this hash table. To grow, make a
+    /// view of another array, and make this call for each bucket of the old array.
     status move_chain(keys_view hashes, ic_stack &chain) const noexcept {
         for (std::size_t i = 0; i < in_.bucket_count; ++i)
             if (&chain == &buckets_[i])
@@ -1219,7 +1223,7 @@ public:
 
 using const_xor_view = detail::of_head<detail::two_way<detail::xored>>;
 
-/// Edits an XOR list. Its edits in the middle take the members on both sides, `none` beyond an end, or an iterator.
+/// Edits an XOR list. For an edit in the middle you pass the members on both sides of the gap, with `none` beyond an end, or an iterator.
 class xor_view : public detail::fills<detail::list_edits<detail::end_edits<const_xor_view>>> {
 public:
     using fills::fills;
@@ -1235,8 +1239,8 @@ public:
     }
     void reverse() const noexcept { ic_xor_reverse(head_); }
 
-    /// Moves all members of `given` before an iterator's member, and to the back if that is end(). This and the next three return
-    /// ic::status::broken of this list itself, and of a list of another table.
+    /// Moves all members of `given` before an iterator's member, and to the back if that is end(). This and the next three calls return
+    /// ic::status::broken if you pass this list itself, or a list of another table.
     status splice(iterator at, xor_view given) const noexcept { return splice_between(front_of(at), given, *at); }
     status splice_between(std::uint32_t before, xor_view given, std::uint32_t after) const noexcept {
         return edit_both(given, ic_xor_splice_between, before, given.head_, after);
@@ -1252,7 +1256,7 @@ private:
 
 // ---- Red-black trees ---------------------------------------------------------------------------------------------------------------
 
-/// Reads a tree. The keys of a search are one number for each place, in a vector, an array, or a pointer and a length.
+/// Reads a tree. You pass a search a key for each place, which is a number, in a vector, in an array, or as a pointer and a length.
 class const_tree_view : public detail::of_head<detail::placed<detail::red_black>> {
 public:
     using keys_view = array_view<const std::uint64_t>;
@@ -1264,35 +1268,37 @@ public:
         return search(ic_tree_find, keys, key);
     }
 
-    /// Returns the first member whose key is not less.
+    /// Returns the first member whose key is not less than `key`.
     [[nodiscard]] std::optional<std::uint32_t> lower_bound(keys_view keys, std::uint64_t key) const noexcept {
         return search(ic_tree_lower_bound, keys, key);
     }
 
-    /// Returns the first member whose key is greater, as in the standard library. The call ic_tree_upper_bound is at_most().
+    /// Returns the first member whose key is greater than `key`, as in the standard library. The call ic_tree_upper_bound of C is at_most() here.
     [[nodiscard]] std::optional<std::uint32_t> upper_bound(keys_view keys, std::uint64_t key) const noexcept {
         return key < UINT64_MAX ? lower_bound(keys, key + 1) : std::nullopt;
     }
 
-    /// Returns the last member whose key is not greater.
+    /// Returns the last member whose key is not greater than `key`.
     [[nodiscard]] std::optional<std::uint32_t> at_most(keys_view keys, std::uint64_t key) const noexcept {
         return search(ic_tree_upper_bound, keys, key);
     }
 
-    /// The values and the sums of the places, and the same if the sums may be written.
+    /// A sums_view has the values and the sums of the places, and a writable_sums_view has them for calls that write the sums.
     using sums_view = array_view<const ic_sum>;
     using writable_sums_view = array_view<ic_sum>;
 
-    /// Returns the sum of the values of all members, or the greatest of them, in O(1), if the sums are right, and 0 if there is no member.
+    /// If the sums are right, returns the sum of the values of all members, or the greatest of these values, in O(1). Returns 0 if there is no
+    /// member.
     [[nodiscard]] std::uint64_t sums_total(sums_view sums) const noexcept { return ic_tree_sums_total(sums.data(), sums.size(), in_.head); }
 
-    /// Makes the sums right after the value of `at` has changed, in O(log n), or after any edits if no member is named, in O(p log p) for p places.
+    /// Makes the sums right after you have changed the value of `at`, in O(log n). If you name no member, makes all sums right after any edits, in
+    /// O(p log p) for p places.
     status sums_renew(writable_sums_view sums, std::uint32_t sum_kind, std::uint32_t at = none) const noexcept {
         return static_cast<status>(ic_tree_sums_renew(in_.table, in_.places, sums.data(), sums.size(), sum_kind, at));
     }
 
-    /// Returns the first member after `at`, or the first of all if no member is named, at which the sum of the values of the members after `at` up to
-    /// it, or the greatest of them, is greater than `bound`. It returns std::nullopt if there is none, or if the call is refused.
+    /// Adds up the values of the members after `at`, or of all members if you name none, or takes the greatest of them, and returns the first member
+    /// at which the result is greater than `bound`. It returns std::nullopt if there is none, or if the call is refused.
     [[nodiscard]] std::optional<std::uint32_t> sums_find(sums_view sums, std::uint32_t sum_kind, std::uint64_t bound, std::uint32_t at = none) const noexcept {
         std::uint32_t member = none;
         const std::uint32_t done = ic_tree_sums_find(in_.table, in_.places, sums.data(), sums.size(), sum_kind, in_.head, at, bound, &member);
@@ -1306,8 +1312,9 @@ public:
         return done == IC_OK ? std::optional<std::uint64_t>(sum) : std::nullopt;
     }
 
-    /// Returns the first member after `at`, or the first of all if no member is named, whose interval overlaps the one from `from` on before `to`.
-    /// The intervals are from the keys on before the values. It returns std::nullopt if there is none, or if the call is refused.
+    /// Returns the first member after `at`, or the first of all if you name none, whose interval overlaps the interval that begins at `from` and ends
+    /// before `to`. The interval of a member begins at its key and ends before its value. It returns std::nullopt if there is none, or if the call is
+    /// refused.
     [[nodiscard]] std::optional<std::uint32_t> sums_overlap(keys_view keys, sums_view sums, std::uint64_t from, std::uint64_t to,
                                                             std::uint32_t at = none) const noexcept {
         std::uint32_t member = none;
@@ -1316,13 +1323,13 @@ public:
         return done == IC_OK ? found(member) : std::nullopt;
     }
 
-    /// Returns the members with this key, from the first to the one after the last.
+    /// Returns the iterators at the first member with this key, and after the last member with it.
     [[nodiscard]] std::pair<iterator, iterator> equal_range(keys_view keys, std::uint64_t key) const noexcept {
         return {iterator_to(lower_bound(keys, key).value_or(none)), iterator_to(upper_bound(keys, key).value_or(none))};
     }
 
-    /// Returns the first member that is equal to what `order` compares with a member: `order(at)` is negative if that comes before `at`, 0
-    /// if both are equal, and positive otherwise, as strcmp and `<=>` say it.
+    /// Returns the first member `at` for which `order(at)` is 0. `order(at)` compares what you look for with the member `at`: it is negative if what
+    /// you look for comes before `at`, 0 if both are equal, and positive otherwise, as with strcmp and `<=>`.
     template <class Order>
     [[nodiscard]] std::optional<std::uint32_t> find_by(Order order) const {
         std::uint32_t first = none;
@@ -1334,7 +1341,7 @@ public:
         return found(first);
     }
 
-    /// Returns the first member of which the predicate is false. It has to be false of all members after that one, too.
+    /// Returns the first member for which the predicate is false. The predicate has to be false for all members after that one, too.
     template <class Predicate>
     [[nodiscard]] std::optional<std::uint32_t> partition_point(Predicate is_before) const {
         std::uint32_t first = none;
@@ -1347,7 +1354,7 @@ public:
     }
 
 protected:
-    /// A way down from the root ends here, under a member, on one of its sides.
+    /// This is where a way down from the root ends: under a member, on one of its sides.
     struct hole {
         std::uint32_t under = none;
         bool is_left = true;
@@ -1378,12 +1385,12 @@ class tree_view : public detail::erases<detail::writes<const_tree_view>> {
 public:
     using erases::erases;
 
-    /// Inserts a place by its key, after all members whose keys are not greater.
+    /// Inserts a place by its key, after all members whose keys are not greater than the key of the place.
     status insert(keys_view keys, std::uint32_t place) const noexcept {
         return static_cast<status>(ic_tree_insert(table_, in_.places, keys.data(), keys.size(), head_, place));
     }
 
-    /// Inserts a place by a comparison of two places, after all members that are not greater.
+    /// Inserts a place by a comparison of two places, after all members that are not greater than the place.
     template <class Less>
     status insert_by(std::uint32_t place, Less is_less) const {
         if (place >= ic_bound(in_.places))
@@ -1411,7 +1418,7 @@ public:
             ic_tree_sums_insert(table_, in_.places, keys.data(), keys.size(), sums.data(), sums.size(), sum_kind, head_, place));
     }
 
-    /// Inserts a place as insert_left() does, and updates each sum that the insertion changes. The next two do the same for insert_right() and
+    /// Inserts a place as insert_left() does, and updates each sum that the insertion changes. The next two calls do the same for insert_right() and
     /// remove().
     status sums_insert_left(writable_sums_view sums, std::uint32_t sum_kind, std::uint32_t at, std::uint32_t place) const noexcept {
         return edit_summed(ic_tree_sums_insert_left, sums, sum_kind, at, place);
@@ -1423,15 +1430,15 @@ public:
         return edit_summed(ic_tree_sums_remove, sums, sum_kind, at);
     }
 
-    /// Removes the first member, and returns it. It returns std::nullopt if there is none, or, if the tree is not empty(), if its root is
-    /// no place of this table.
+    /// Removes the first member, and returns it. It returns std::nullopt if there is none. If the tree is not empty(), std::nullopt means that its
+    /// root is no place of this table.
     [[nodiscard]] std::optional<std::uint32_t> pop_front() const noexcept { return popped(*begin()); }
 
-    /// Removes the last member, and returns it. It returns std::nullopt where pop_front() does.
+    /// Removes the last member, and returns it. It returns std::nullopt in the same cases as pop_front().
     [[nodiscard]] std::optional<std::uint32_t> pop_back() const noexcept { return popped(*rbegin()); }
 
-    /// Moves all members of `given` after those of this tree, and leaves `given` empty, in O(n). This and the next two compare nothing, and check the
-    /// trees first: they return ic::status::broken, and change nothing, if these are no trees of this table, or are the same one.
+    /// Moves all members of `given` after those of this tree, and leaves `given` empty, in O(n). This and the next two calls compare no keys, and
+    /// check the trees first. If these are no trees of this table, or are the same tree, the calls return ic::status::broken and change nothing.
     status append(tree_view given) const noexcept { return edit_both(given, ic_tree_append, given.head_); }
 
     /// Inserts a place after all members, and moves all members of `given` after it, in O(n).
@@ -1440,7 +1447,7 @@ public:
     /// Moves the member and all members after it to `rest`, which has to be empty, in O(n).
     status split(std::uint32_t at, tree_view rest) const noexcept { return edit_both(rest, ic_tree_split, at, rest.head_); }
 
-    /// Removes all members. It returns ic::status::broken, and changes nothing, if they are no tree of this table.
+    /// Removes all members. It returns ic::status::broken, and changes nothing, if the members form no tree of this table.
     status clear() const noexcept { return edit(ic_tree_clear); }
 
 private:
@@ -1456,7 +1463,7 @@ private:
 
 namespace detail {
 
-/// Has what edits a tree and its ends.
+/// Has the calls that edit a tree and its ends.
 class ends_writes : public writes<const_tree_view> {
 public:
     ends_writes(array_view<ic_link3> table, ic_tree &tree, ic_tree_ends &ends) noexcept : writes(table, tree), ends_(&ends) {}
@@ -1480,7 +1487,7 @@ public:
     /// Returns the last member, in O(1), or std::nullopt if there is none or if it is no linked place of this table.
     [[nodiscard]] std::optional<std::uint32_t> back() const noexcept { return found(ic_tree_ends_last(table_, in_.places, ends_)); }
 
-    /// Inserts a place by its key, after all members whose keys are not greater.
+    /// Inserts a place by its key, after all members whose keys are not greater than the key of the place.
     status insert(keys_view keys, std::uint32_t place) const noexcept {
         return static_cast<status>(ic_tree_ends_insert(table_, in_.places, keys.data(), keys.size(), head_, ends_, place));
     }
@@ -1492,7 +1499,7 @@ public:
     /// Removes the first member, and returns it. It returns std::nullopt if the ends say that there is none, or if the call is refused.
     [[nodiscard]] std::optional<std::uint32_t> pop_front() const noexcept { return taken(ic_tree_ends_pop_first, ends_); }
 
-    /// Removes all members. It returns ic::status::broken, and changes nothing, if they are no tree of this table.
+    /// Removes all members. It returns ic::status::broken, and changes nothing, if the members form no tree of this table.
     status clear() const noexcept {
         const status done = edit(ic_tree_clear);
         if (done == status::ok)

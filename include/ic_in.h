@@ -2,8 +2,8 @@
  *
  * A call of ic.h takes a table and its length, and then places, which are numbers, too. If you swap a length and a place, the compiler does not tell
  * you. A call of this header has `in_` in its name, and takes a handle in place of the table, its length and the list, so that you name the length
- * once. A handle has pointers to what is yours, and you copy it as you copy a pointer. The functions are inline, and take as many instructions as those
- * of ic.h do.
+ * once. A handle has pointers to what is yours, and you copy it as you copy a pointer. The functions are inline, and take as many instructions as the
+ * calls of ic.h.
  *
  *     static struct ic_link2 links[100];
  *     static struct ic_list list;
@@ -16,7 +16,7 @@
  *     status = ic_list_in_pop_front(jobs, &oldest);
  *
  * The comments of ic.h say what each call does, at the name without `in_`. A call with a second list takes a second handle. It returns IC_BROKEN, and
- * changes nothing, if that is one of another table, or of the same list.
+ * changes nothing, if the second handle is for another table, or for the same list.
  */
 #ifndef IC_IN_H
 #define IC_IN_H
@@ -27,7 +27,7 @@
 extern "C" {
 #endif
 
-/* Gives the table and the length of a handle, of an array of links. Compilers warn if you hand it a pointer. */
+/* Gives the table and the length for a handle, from an array of links. Compilers warn if you hand it a pointer. */
 #define IC_TABLE(links) (links), sizeof(links) / sizeof *(links)
 
 /* These are keys, of which there is one for each place, and how many there are. */
@@ -1086,7 +1086,7 @@ static inline uint32_t ic_xor_in_reverse(struct ic_xor_in in) {
 
 /* ---- Red-black trees ---- */
 
-/* This is a tree of a table, with the keys of all places. If you order the tree by a comparison of yours, leave them out. */
+/* This is a tree of a table, with the keys of all places. If you order the tree by a comparison of yours, leave the keys out. */
 struct ic_tree_in {
     struct ic_link3 *table;
     ic_length places;

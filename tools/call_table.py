@@ -202,7 +202,7 @@ def refusals(call, none, length):
         when["LINKED"].append("the first of these places that the call refuses is linked already")
     if names(call, "new"):
         same = [f"`{at}` and `{new}` are the same" for at in names(call, "member", "ring") for new in names(call, "new")]
-        when["LINKED"].append(f"{some('new')} is linked already" + f", also where {' or '.join(same)}" * bool(same))
+        when["LINKED"].append(f"{some('new')} is linked already" + f", also if {' or '.join(same)}" * bool(same))
     if names(call, "member", "ring", "gap"):
         when["NOT_LINKED"].append(f"{some('member', 'ring', 'gap')} is not linked")
     when["BROKEN"] += [call.broken] * bool(call.broken)

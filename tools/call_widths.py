@@ -39,7 +39,7 @@ def part(text, begin, end):
 
 def c_part(text, wide, family):
     """The reads, loops and inline calls of a family in the header."""
-    found = part(text, f"/* ---- {wide.capitalize()}s: what both widths have ---- */\n", f"/* ---- {wide.capitalize()}s: to here ---- */\n")
+    found = part(text, f"/* ---- {wide.capitalize()}s: functions for links of 8-byte and of 4-byte words ---- */\n", f"/* ---- {wide.capitalize()}s: to here ---- */\n")
     return "\n" + re.sub(r"\n{3,}", "\n\n", aligned(narrow(found, wide, family))).strip("\n") + "\n\n"
 
 

@@ -7,6 +7,12 @@
 
 // ---- The doubly linked list ----
 
+TIMED timed_fill(doubly_list &list, const references<doubly_object> &order) {
+    for (auto object : order)
+        list.push_back(*object);
+    return 0;
+}
+
 TIMED timed_pair(doubly_list &list, uint64_t operations) {
     while (operations--) {
         auto &object = list.front();
@@ -63,9 +69,12 @@ static outcome doubly(const std::string &workload, uint64_t members, uint64_t op
     auto objects = make_objects<doubly_object>(random, members);
     auto order = refer(random, objects);
     doubly_list list;
-    for (auto object : order)
-        list.push_back(*object);
-    outcome outcome = timed([&] {
+    outcome outcome = timed([&] { return timed_fill(list, order); });
+    if (workload == "fill") {
+        outcome.checksum += hash(list);
+        return outcome;
+    }
+    outcome = timed([&] {
         return workload == "pair"     ? timed_pair(list, operations)
                : workload == "touch"  ? timed_touch(list, order, operations)
                : workload == "splice" ? timed_splice(list, order, operations)
@@ -125,6 +134,12 @@ static outcome sorted(const std::string &workload, uint64_t members, uint64_t op
 
 // ---- The hash table ----
 
+TIMED timed_hash_fill(hash_table &table, const references<hash_object> &order) {
+    for (auto object : order)
+        table.insert(*object);
+    return 0;
+}
+
 TIMED timed_hash_find(const hash_table &table, uint64_t members, uint64_t operations) {
     generator random;
     uint64_t sum = 0;
@@ -137,7 +152,7 @@ TIMED timed_hash_find(const hash_table &table, uint64_t members, uint64_t operat
 }
 
 // As many buckets as members, rounded up to a power of two.
-static outcome hashed(uint64_t members, uint64_t operations) {
+static outcome hashed(const std::string &workload, uint64_t members, uint64_t operations) {
     generator random;
     auto objects = make_objects<hash_object>(random, members);
     std::size_t count = 1;
@@ -145,11 +160,11 @@ static outcome hashed(uint64_t members, uint64_t operations) {
         count *= 2;
     std::vector<hash_table::bucket_type> buckets(count);
     hash_table table(hash_table::bucket_traits(buckets.data(), count));
-    for (auto object : refer(random, objects))
-        table.insert(*object);
-    outcome outcome = timed([&] { return timed_hash_find(table, members, operations); });
+    auto order = refer(random, objects);
+    auto filled = timed([&] { return timed_hash_fill(table, order); });
+    auto found = timed([&] { return timed_hash_find(table, members, operations); });
     table.clear();
-    return outcome;
+    return {workload == "hash_fill" ? filled.time : found.time, found.checksum};
 }
 
 // ---- The singly linked list ----
@@ -283,9 +298,9 @@ int main(int count, char **words) {
     }
     const std::string workload = words[1];
     const uint64_t members = std::strtoull(words[2], nullptr, 10), operations = std::strtoull(words[3], nullptr, 10);
-    const std::string on_doubly = " pair touch splice step iter ";
+    const std::string on_doubly = " fill pair touch splice step iter ";
     const outcome outcome = workload == "singly"      ? singly(members, operations)
-                            : workload == "hash_find" ? hashed(members, operations)
+                            : workload.rfind("hash", 0) == 0 ? hashed(workload, members, operations)
                             : workload.rfind("sort", 0) == 0 ? sorted(workload, members, operations)
                             : on_doubly.find(" " + workload + " ") != std::string::npos ? doubly(workload, members, operations)
                                                                                         : on_tree(workload, members, operations);

@@ -58,6 +58,12 @@ TIMED timed_pair(struct doubly_list *list, uint64_t operations) {
     return 0;
 }
 
+TIMED timed_fill(struct doubly_list *list, struct doubly **order, uint64_t members) {
+    for (uint64_t index = 0; index < members; index++)
+        TAILQ_INSERT_TAIL(list, order[index], link);
+    return 0;
+}
+
 TIMED timed_touch(struct doubly_list *list, struct doubly **order, uint64_t members, uint64_t operations) {
     uint64_t random = 1;
     while (operations--) {
@@ -88,14 +94,15 @@ static uint64_t doubly(const char *workload, const struct room *room, uint64_t *
     struct doubly_list list = TAILQ_HEAD_INITIALIZER(list);
     MAKE(doubly, objects, room)
     REFER(doubly, order, objects, room->members, room->order)
-    for (uint64_t index = 0; index < room->members; index++)
-        TAILQ_INSERT_TAIL(&list, order[index], link);
     uint64_t start = now();
+    timed_fill(&list, order, room->members);
+    uint64_t filled = now();
     uint64_t checksum = !strcmp(workload, "pair")    ? timed_pair(&list, room->operations)
                         : !strcmp(workload, "touch") ? timed_touch(&list, order, room->members, room->operations)
                         : !strcmp(workload, "step")  ? timed_step(&list, room->operations)
-                                                     : timed_iter(&list, room->operations / room->members);
-    *time = now() - start;
+                        : !strcmp(workload, "iter")  ? timed_iter(&list, room->operations / room->members)
+                                                     : 0;
+    *time = strcmp(workload, "fill") ? now() - filled : filled - start;
     uint64_t hash = 0;
     struct doubly *object;
     TAILQ_FOREACH (object, &list, link)
@@ -258,7 +265,7 @@ int main(int count, char **words) {
     room.values = shuffled(&random, members);
     room.order = shuffled(&random, members);
     room.other = shuffled(&random, members);
-    int is_doubly = !strcmp(workload, "pair") || !strcmp(workload, "touch") || !strcmp(workload, "step") || !strcmp(workload, "iter");
+    int is_doubly = !strcmp(workload, "fill") || !strcmp(workload, "pair") || !strcmp(workload, "touch") || !strcmp(workload, "step") || !strcmp(workload, "iter");
     uint64_t checksum = is_doubly                     ? doubly(workload, &room, &time)
                         : !strcmp(workload, "singly") ? singly(&room, &time)
                                                       : on_tree(workload, &room, &time);

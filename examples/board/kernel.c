@@ -60,7 +60,7 @@ static void on_tick(void) {
 
 /* ---- The kernel ----------------------------------------------------------------------------------------------------------------------- */
 
-/* Ends the program where the kernel's own tables refuse a call: then they are damaged. */
+/* Ends the program if a call on the kernel's own tables is refused, because then these tables are damaged. */
 static void expect(uint32_t status) {
     if (status != IC_OK) {
         print("refused: ");

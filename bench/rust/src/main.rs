@@ -98,6 +98,14 @@ fn timed_touch<'o>(list: &mut LinkedList<Doubly<'o>>, order: &[&'o Object<Linked
 }
 
 #[inline(never)]
+fn timed_fill<'o>(list: &mut LinkedList<Doubly<'o>>, order: &[&'o Object<LinkedListLink>]) -> u64 {
+    for object in order {
+        list.push_back(*object);
+    }
+    0
+}
+
+#[inline(never)]
 fn timed_splice<'o>(list: &mut LinkedList<Doubly<'o>>, order: &[&'o Object<LinkedListLink>], operations: u64) -> u64 {
     let mut random = Random(1);
     for _ in 0..operations {
@@ -128,10 +136,9 @@ fn doubly(workload: &str, members: u64, operations: u64) -> Option<(Duration, u6
     let objects = objects(&mut random, members);
     let order = references(&mut random, &objects);
     let mut list = LinkedList::new(Doubly::new());
-    for object in &order {
-        list.push_back(*object);
-    }
+    let filled = timed(|| timed_fill(&mut list, &order));
     let (time, end) = match workload {
+        "fill" => filled,
         "pair" => timed(|| timed_pair(&mut list, operations)),
         "touch" => timed(|| timed_touch(&mut list, &order, operations)),
         "splice" => timed(|| timed_splice(&mut list, &order, operations)),

@@ -1,4 +1,4 @@
-//! What parties put objects in: the four kinds of collections.
+//! The four kinds of collections into which parties insert objects.
 
 ghost use Rattle.std.specs.Prelude.{IfSome};
 ghost use Rattle.ic_link_ops.specs.LinkedList as doubly;
@@ -24,8 +24,8 @@ pub(crate) trait Collection<L: LinkOps>: Drop {
     // The table represents a sequence for it.
     ghost Represented: { Table L.Entry → Self → Type 0 };
 
-    /// Puts the object in, unless its link is refused, and says whether it did. Where there is none, it takes the first member off, and then
-    /// all others.
+    /// Inserts the object, unless its link is refused, and returns whether it did. Without an object, it removes the first member, and then all
+    /// others.
     fn put_or_empty(&mut self, links: &mut L, object: Option<UnsafeRef<u64>>) -> bool
         requires covered { IfSome object (λ o. IsCovered (L.table links.old) o) }
         requires shown { Represented (L.table links.old) self.old }
@@ -63,7 +63,7 @@ impl<L: LinkedListOps> Collection<L> for LinkedList<u64> {
 }
 
 impl<L: XorLinkedListOps> Collection<L> for XorLinkedList<u64> {
-    ghost Represented = { xor.RepresentsSome L.linked L.Joins };
+    ghost Represented = { xor.RepresentsSome L.linked L.HasNeighbors };
 
     fn put_or_empty(&mut self, links: &mut L, object: Option<UnsafeRef<u64>>) -> bool {
         match object {

@@ -8,7 +8,7 @@ use ic_atomic::{Claims, Holder};
 use ic_unsafe_ref::Place;
 use std::alloc::Global;
 
-/// What is asked of a place.
+/// What a step does with a place.
 #[derive(Clone, Copy)]
 pub(crate) enum Act {
     Claim,
@@ -18,7 +18,7 @@ pub(crate) enum Act {
 
 /// A holder with its claims.
 #[derive(Drop)]
-pub(crate) struct Hand<'c> {
+pub(crate) struct HolderWithClaims<'c> {
     claims: &'c Claims,
     holder: Holder,
     // The place that it claimed last, as long as it holds that.
@@ -27,11 +27,11 @@ pub(crate) struct Hand<'c> {
     ghost holding: { Holds (record_of holder) held },
 }
 
-impl Hand<'_> {
-    /// Makes the step on the place with that index, and returns its answer as a core does: a release is true of the place that this holder
-    /// claimed last and holds. On a place that the claims have not, no step is made.
+impl HolderWithClaims<'_> {
+    /// Makes the step on the place with this index, and returns the result that a core would return: a release returns true for the place that this
+    /// holder claimed last and holds. If the claims do not have the place, it makes no step.
     pub(crate) fn make(&mut self, act: Act, index: usize) -> bool {
-        let Hand {
+        let HolderWithClaims {
             claims,
             holder,
             held,
@@ -68,12 +68,12 @@ pub(crate) fn hands<'c>(
     alloc: Global,
     claims: &'c Claims,
     mut holders: Vec<Holder>,
-) -> Vec<Hand<'c>>
+) -> Vec<HolderWithClaims<'c>>
     requires { All (λ h. IsOf claims.now h) holders.items }
 {
     let mut hands = Vec::new(alloc);
     while let Some(holder) = holders.pop() {
-        let _ = hands.push(Hand {
+        let _ = hands.push(HolderWithClaims {
             claims,
             holder,
             held: None,

@@ -4,7 +4,7 @@ ghost use Rattle.std.specs.Prelude.{◌≡◌, [], All};
 ghost use Rattle.ic_atomic.specs.Holders.{record_of, IsOf};
 
 use crate::collections::ByValue;
-use crate::hands::{Act, Hand, hands};
+use crate::hands::{Act, HolderWithClaims, hands};
 use crate::parties::{are_linked, are_seen, is_cleared, take_off, take_turns};
 use ic_atomic::{
     AtomicLinkOps, Claims, Gate, Holder, gather, linked_list, rbtree, singly_linked_list,
@@ -21,7 +21,7 @@ use std::cell::{Cell, RefCell};
 use std::process::Abort;
 use std::thread;
 
-// Links of the last of these holders, none of which has made a step, over all places of the claims.
+// Makes links for the last of these holders, none of which has made a step, over all places of the claims.
 fn next_links<'c, W: Words>(
     rt: &impl Abort,
     alloc: Global,
@@ -37,11 +37,11 @@ fn next_links<'c, W: Words>(
     AtomicLinkOps::new(claims, holder, table)
 }
 
-// Looks at places by a hand of its own, each time that it is told: at the place before the one that has to be next, which
-// has to be held then, and at that one, which nobody may hold yet. Places are offered in order, from the first one on.
+// A gate that checks places with a hand of its own, each time that a worker reports: the place before the next one must be held, and the next one
+// must not be held yet. Places are offered in order, from the first one on.
 #[derive(Drop)]
 struct Watch<'c> {
-    hand: RefCell<Hand<'c>>,
+    hand: RefCell<HolderWithClaims<'c>>,
     // How often both were so.
     right: Cell<usize>,
 }
@@ -60,8 +60,8 @@ impl Gate for Watch<'_> {
     }
 }
 
-// Gathers the first two places, takes the first of them off the list, and gives it up by force once it is there again. Whether
-// all that was done, and the gate was told in time.
+// Gathers the first two places, takes the first of them off the list, and gives it up by force once it is there again. It returns whether all this
+// was done, and whether the reports to the gate came in time.
 // Promise: a gate between claims.
 fn gathers(links: &mut linked_list::AtomicLinkOps, watch: &Watch) -> bool {
     let mut list: LinkedList<u64> = LinkedList::new();
@@ -92,7 +92,7 @@ fn is_left_linked(mut links: linked_list::AtomicLinkOps, place: Place) -> bool {
     place.index() < links.covers() && list.push_back(&mut links, UnsafeRef::new(place)).is_ok()
 }
 
-// Whether the object at `place` is held and refused, where this party doesn't hold it.
+// Returns whether the object at `place` is held and refused, if this party does not hold it.
 fn is_held_by_another(links: &mut linked_list::AtomicLinkOps, place: Place) -> bool {
     let mut list: LinkedList<u64> = LinkedList::new();
     if place.index() >= links.covers() || links.holds(place) {

@@ -9,15 +9,15 @@ use ic_unsafe_ref::Place;
 use std::alloc::Global;
 use std::fmt::Write;
 
-// The request for memory that is refused, how many places and holders are asked for, and the number and the text of the error, empty where
+// Rows: the number of the refused request for memory, the numbers of places and holders, and the number and the text of the error, which is empty if
 // there is none.
 type Making = (u64, usize, usize, &'static str);
 
-// The request to refuse where none is.
+// The number of the request to refuse if none is refused.
 const NONE: u64 = u64::MAX;
 
-// Of one place and holder there are four requests: the words as a list, the table's own words and its empty row of slots, and the holders.
-// After a refusal the same call finds memory. A fifth is not asked for, by audit and claim neither.
+// For one place and one holder there are four requests: the words as a list, the table's own words and its empty row of slots, and the holders. After
+// a refusal the same call succeeds. There is no fifth request, neither by an audit nor by a claim.
 const MAKINGS: &[Making] = &[
     (NONE, 0, 2, ""),
     (NONE, 4_294_967_297, 1, "1 TooManyPlaces"),
@@ -34,7 +34,7 @@ const MAKINGS: &[Making] = &[
     (4, 1, 1, ""),
 ];
 
-// Whether of the holders, one after the other, the first alone can claim place 0, each after an audit of all.
+// Returns whether of the holders, one after the other, the first alone can claim place 0, each after an audit of all.
 fn is_first_alone(claims: &Claims<&Rationed>, holders: &mut Vec<Holder, &Rationed>) -> bool
     requires { All (λ h. IsOf claims.now h) holders.old.items }
 {
@@ -86,8 +86,8 @@ fn limits_and_each_request_refused_in_turn(rt: HostRuntime) {
     assert!(rt; are_made_so(rt.alloc(), &memory, MAKINGS));
 }
 
-// Whether a replay that is refused memory changes nothing: made again, it answers as the first one. A new core and a replay each make one
-// request for memory.
+// Returns whether a replay that is refused memory changes nothing, so that the same replay afterwards returns what the first would have. A new core
+// and a replay each make one request for memory.
 fn is_replayed(memory: &Rationed) -> bool {
     memory.refuse(1);
     let (Ok(mut core), Some(third)) = (Core::new(memory, 4), Place::new(3)) else {

@@ -16,13 +16,13 @@ use std::alloc::Allocator;
 // As often as a hundred places are tried, and then given up, a hundred times.
 const TURNS: usize = 10_100;
 
-/// Links that say which places are linked.
+/// Links, and which places are linked in them.
 pub(crate) trait Links: LinkOps {
-    /// How many places are covered: those with a smaller index.
+    /// Returns how many places are covered: those with a smaller index.
     fn covers(&self) -> usize
         ensures { result ≡ (Self.table self.now).extent.places };
 
-    /// Whether anybody links the place.
+    /// Returns whether anybody links the place.
     fn looks_linked(&mut self, place: Place) -> bool
         requires { IsCovered (Self.table self.old) place }
         ensures { Self.table self.new ≡ Self.table self.old };
@@ -38,8 +38,8 @@ impl<L: PlainLinkOps, A: Allocator> Links for AtomicLinkOps<'_, L, A> {
     }
 }
 
-// Puts the object at the place with that index in, unless some party holds it, and says whether it did. Where the links do not cover that
-// place, the collection is emptied.
+// Inserts the object at the place with this index, unless some party holds it, and returns whether it did. If the links do not cover that place, it
+// empties the collection.
 fn put<L: Links, C: Collection<L>>(collection: &mut C, links: &mut L, index: usize) -> bool
     requires { C.Represented (L.table links.old) collection.old }
     ensures { C.Represented (L.table links.new) collection.new }
@@ -52,7 +52,7 @@ fn put<L: Links, C: Collection<L>>(collection: &mut C, links: &mut L, index: usi
     }
 }
 
-/// Whether somebody links each of so many of the first places, and none of the others.
+/// Returns whether exactly the first `count` places are linked by somebody.
 pub(crate) fn are_linked<L: Links>(links: &mut L, count: usize) -> bool
     ensures { L.table links.new ≡ L.table links.old }
 {
@@ -102,7 +102,7 @@ pub(crate) fn is_cleared<L: Links + RBTreeOps, M: Links>(links: &mut L, other: &
     as_wanted & are_linked(other, 0)
 }
 
-/// Puts the first three objects in a list, and takes the first member off, the last one and the one that is left: the indices of their
+/// Inserts the first three objects into a list, removes the first member, the last one and the remaining one, and returns the indices of their
 /// places.
 pub(crate) fn take_off<L: Links + LinkedListOps>(links: &mut L) -> Option<[usize; 3]> {
     let mut list: LinkedList<u64> = LinkedList::new();
@@ -119,7 +119,7 @@ pub(crate) fn take_off<L: Links + LinkedListOps>(links: &mut L) -> Option<[usize
     ])
 }
 
-/// Tries to put each of a hundred objects in, and empties the collection then, a hundred times over. Whether it had one.
+/// Tries to insert each of a hundred objects, and then empties the collection, a hundred times. It returns whether it had an object.
 pub(crate) fn take_turns<L: Links + Drop, C: Collection<L>>(mut collection: C, mut links: L) -> bool
     requires { C.Represented (L.table links) collection }
 {

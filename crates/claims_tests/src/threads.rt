@@ -1,6 +1,6 @@
 //! Claims by several threads.
 
-use crate::hands::{Act, Hand, hands};
+use crate::hands::{Act, HolderWithClaims, hands};
 use ic_atomic::Claims;
 use std::alloc::Global;
 use std::process::Abort;
@@ -10,9 +10,9 @@ use std::thread::Threads;
 // As often as four places are tried a thousand times.
 const TURNS: usize = 4_000;
 
-// Claims place 0 for good, and in turn four other places, and where that is true looks at these and releases them. Whether it had place 0,
-// and whether all answers on the others were true.
-fn take_turns(mut hand: Hand) -> (bool, bool) {
+// Claims place 0 and keeps it, and claims four other places in turn. It checks and releases each of these that it gets. It returns whether it got
+// place 0, and whether all checks and releases returned true.
+fn take_turns(mut hand: HolderWithClaims) -> (bool, bool) {
     let is_had = hand.make(Act::Claim, 0);
     let mut all_true = true;
     for turn in 0..TURNS {
@@ -25,8 +25,8 @@ fn take_turns(mut hand: Hand) -> (bool, bool) {
     (is_had, all_true)
 }
 
-// Whether of all holders but one, each in a thread of its own, one alone has place 0, and at the end the last one can claim each of the four
-// other places, where there are these.
+// Lets all holders except one run in threads of their own. It returns whether exactly one of them got place 0, and whether the remaining holder can
+// claim each of the four other places at the end, if these exist.
 fn share<R: Abort + Threads + Sync>(rt: &R, alloc: Global, places: usize, holders: usize) -> bool {
     let (claims, holders) = Claims::new(alloc, places, holders).expect(rt, "claims");
     let mut hands = hands(alloc, &claims, holders);

@@ -9,7 +9,7 @@ use ic_unsafe_ref::Place;
 use std::alloc::Global;
 use std::process::Abort;
 
-// A step: how many parties are there, of two, and then the party, what it asks, of the place with which index, and the answer.
+// A step: how many of the two parties exist, the party that makes it, what it does, the index of the place, and the result.
 type Row = (usize, usize, Act, usize, bool);
 
 const A: usize = 0;
@@ -53,7 +53,7 @@ fn step(act: Act, place: Place) -> Step
     }
 }
 
-// Whether new cores answer so, one by `apply` and one by `replay`. No party leaves a core.
+// Returns whether new cores return these results, one by `apply` and one by `replay`. The test never removes a party from a core.
 fn is_right_of_cores(rt: &impl Abort, alloc: Global, places: usize, rows: &[Row]) -> bool {
     let mut applied = Core::new(alloc, places).expect(rt, "a core");
     let mut replayed = Core::new(alloc, places).expect(rt, "a core");
@@ -73,7 +73,7 @@ fn is_right_of_cores(rt: &impl Abort, alloc: Global, places: usize, rows: &[Row]
     as_wanted
 }
 
-// Whether holders of new claims do.
+// Returns whether the same holds for the holders of new claims.
 fn is_right_of_claims(rt: &impl Abort, alloc: Global, places: usize, rows: &[Row]) -> bool {
     let (claims, holders) = Claims::new(alloc, places, 2).expect(rt, "claims");
     let mut hands = hands(alloc, &claims, holders);

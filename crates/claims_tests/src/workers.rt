@@ -13,7 +13,7 @@ use std::time::{Clock, Duration};
 // The most turns that a worker waits for the other one.
 const TURNS: u64 = 10_000;
 
-// How many workers share how many places. What one worker gets alone, a session says.
+// Rows: the number of workers, and the number of places that they share out. A session tests what a single worker gets.
 const ROWS: &[(usize, usize)] = &[
     (2, 100),
     (4, 1000),
@@ -26,13 +26,13 @@ const ROWS: &[(usize, usize)] = &[
 // As many as there are.
 const MOST_PLACES: usize = 4_294_967_296;
 
-// What is noted of a worker: that it came, and that it met the other one.
+// The notes about a worker: that it has begun, and that it met the other one.
 const CAME: u64 = 1;
 
 const MET: u64 = 2;
 
-// Notes each worker's first answer, and holds the worker up until the other one's is noted, for so many turns at most. The first worker is held
-// up before its first claim too, so the first place is none of its own.
+// A gate that notes each worker's first result, and makes the worker wait until the other one's is noted, for a limited number of turns. The first
+// worker also waits before its first claim, so that it does not get the first place.
 #[derive(Drop)]
 struct Meeting<'c, C> {
     clock: &'c C,
@@ -42,7 +42,7 @@ struct Meeting<'c, C> {
 }
 
 impl<C: Clock> Meeting<'_, C> {
-    // Waits until the other one's first answer is noted, and says whether it is. A turn is one reading of its note, and a millisecond.
+    // Waits until the other worker's first result is noted, and returns whether it is. A turn is one reading of its note, and a millisecond.
     fn waits_for(&self, other: &AtomicU64) -> bool {
         for _turn in 0..self.turns {
             if other.load(Ordering::SeqCst) != 0 {
@@ -60,7 +60,7 @@ impl<C: Clock> Meeting<'_, C> {
         }
     }
 
-    // Whether each of the two met the other.
+    // Returns whether each of the two met the other.
     fn is_met(&self) -> bool {
         let (first, second) = (
             self.first.load(Ordering::SeqCst),
@@ -85,7 +85,7 @@ impl<C: Clock> Gate for Meeting<'_, C> {
     }
 }
 
-// Whether the list of the first worker begins with another place than the first one.
+// Returns whether the list of the first worker begins with another place than the first one.
 fn is_after(lists: &[Vec<Place>]) -> bool {
     let [list, ..] = lists else {
         return true;
@@ -96,9 +96,9 @@ fn is_after(lists: &[Vec<Place>]) -> bool {
     }
 }
 
-// Whether two of so many workers meet where there is a place to claim, and each of the places stands in just one of their lists, or these are
-// too many places. Where workers came one after the other, or a gate was not told of them, they would not meet. The first list is that of the
-// worker that the gate holds up as the first.
+// Returns whether two of the workers meet, if there is a place to claim, and each place is in exactly one of their lists; or whether there are too
+// many places. If workers ran one after the other, or did not report to the gate, they would not meet. The first list is that of the worker that the
+// gate treats as the first.
 fn is_shared<R: Threads + Wait + Clock + Sync>(
     rt: &R,
     alloc: Global,
@@ -125,7 +125,7 @@ fn is_shared<R: Threads + Wait + Clock + Sync>(
     is_each_once & (lists.len() == workers) & is_met
 }
 
-// Whether each row is.
+// Returns whether each row has its result.
 fn are_shared<R: Threads + Wait + Clock + Sync>(
     rt: &R,
     alloc: Global,

@@ -18,7 +18,7 @@ use Rattle.ic_rbtree.specs.Tree.{head_of}
 use Rattle.ic_rbtree.specs.declared.tree.RBTree.{RBTree}
 use Rattle.ic_rbtree.proofs.KeptHeads.{shown}
 use Rattle.ic_augmented.specs.Consistent.{IsConsistent, IsJoined}
-use Rattle.ic_augmented.specs.Sums.{Sums}
+use Rattle.ic_augmented.specs.Summaries.{Summaries}
 use Rattle.ic_augmented.specs.SummedSteps.{IsAcquired, TraceSummed}
 use Rattle.ic_augmented.specs.declared.summed.Summed.{Summed}
 use Rattle.ic_augmented.proofs.StepLemmas.{kept_right}
@@ -82,26 +82,26 @@ module _ {E : Type 0} (n : E → Node) where
   nothing_represented v (ended h) e = rw e (record { shown = represents_nothing v; front_is = refl; back_is = refl })
 
   -- what is right in two sequences is so in both together
-  pub both_right : {S : Type 0} (v : Table E) (z : Sums S) (s t : List Place) → IsConsistent n v z s → IsConsistent n v z t → IsConsistent n v z (s ++ t)
+  pub both_right : {S : Type 0} (v : Table E) (z : Summaries S) (s t : List Place) → IsConsistent n v z s → IsConsistent n v z t → IsConsistent n v z (s ++ t)
   both_right v z s t hs ht q m but x e = by (times_in q s) refl where
     by : (k : ℕ) → times_in q s ≡ k → IsJoined z q (n (v.entry q)).left (n (v.entry q)).right x
     by zero none = ht q (omega (arith, m, none, times_append q s t)) but x e
     by (suc k) some = hs q (omega (arith, some)) but x e
 
-module _ {N M E S A H : Type 0} {Trace : N → N → List LinkStep → Type 0} {n : E → Node} {table : N → Table E} {sums : M → Sums S} {Covers : M → Place → Type 0} (kept : H → Kept)
-    {old new : Summed N M} {tree : RBTree A H} (ready : IsReady kept n table sums Covers tree old) where
+module _ {N M E S A H : Type 0} {Trace : N → N → List LinkStep → Type 0} {n : E → Node} {table : N → Table E} {summaries : M → Summaries S} {Covers : M → Place → Type 0} (kept : H → Kept)
+    {old new : Summed N M} {tree : RBTree A H} (ready : IsReady kept n table summaries Covers tree old) where
   -- what was right in a sequence that is represented is so in each whose places come from it, after steps
-  pub parts_right : {steps : List LinkStep} → TraceSummed Trace n table sums Covers old new steps → (s t : List Place) → RepresentsKept kept n (table old.links) (head_of tree) s
-      → ((q : Place) → 1 ≤ times_in q t → IsAcquired q steps ⊎ (1 ≤ times_in q s)) → IsConsistent n (table new.links) (sums new.sums) t
+  pub parts_right : {steps : List LinkStep} → TraceSummed Trace n table summaries Covers old new steps → (s t : List Place) → RepresentsKept kept n (table old.links) (head_of tree) s
+      → ((q : Place) → 1 ≤ times_in q t → IsAcquired q steps ⊎ (1 ≤ times_in q s)) → IsConsistent n (table new.links) (summaries new.summaries) t
   parts_right d s t was among =
-      kept_right d s t among (subst (IsConsistent n (table old.links) (sums old.sums)) (one_sequence (shown (kept (head_of tree)) ready.shown) (shown (kept (head_of tree)) was)) ready.right)
+      kept_right d s t among (subst (IsConsistent n (table old.links) (summaries old.summaries)) (one_sequence (shown (kept (head_of tree)) ready.shown) (shown (kept (head_of tree)) was)) ready.right)
 
-module _ {N M E S A H : Type 0} {Trace : N → N → List LinkStep → Type 0} {n : E → Node} {table : N → Table E} {sums : M → Sums S} {Covers : M → Place → Type 0} (kept : H → Kept)
-    {old new : Summed N M} {tree after : RBTree A H} (ready : IsReady kept n table sums Covers tree old) where
+module _ {N M E S A H : Type 0} {Trace : N → N → List LinkStep → Type 0} {n : E → Node} {table : N → Table E} {summaries : M → Summaries S} {Covers : M → Place → Type 0} (kept : H → Kept)
+    {old new : Summed N M} {tree after : RBTree A H} (ready : IsReady kept n table summaries Covers tree old) where
   -- AFTER STEPS, where each member was one or was linked
-  pub ready_after : {steps : List LinkStep} → TraceSummed Trace n table sums Covers old new steps → (table new.links).extent ≡ (table old.links).extent
+  pub ready_after : {steps : List LinkStep} → TraceSummed Trace n table summaries Covers old new steps → (table new.links).extent ≡ (table old.links).extent
       → (s t : List Place) → RepresentsKept kept n (table old.links) (head_of tree) s → RepresentsKept kept n (table new.links) (head_of after) t
-      → ((q : Place) → 1 ≤ times_in q t → IsAcquired q steps ⊎ (1 ≤ times_in q s)) → IsReady kept n table sums Covers after new
+      → ((q : Place) → 1 ≤ times_in q t → IsAcquired q steps ⊎ (1 ≤ times_in q s)) → IsReady kept n table summaries Covers after new
   ready_after d extent s t was is among = record {
     covers = ap (λ (e : Extent). e.places) extent ∙ ready.covers;
     members = t;
@@ -111,66 +111,66 @@ module _ {N M E S A H : Type 0} {Trace : N → N → List LinkStep → Type 0} {
   }
 
   -- where there are no new ones
-  pub less_ready : {steps : List LinkStep} → TraceSummed Trace n table sums Covers old new steps → (table new.links).extent ≡ (table old.links).extent
+  pub less_ready : {steps : List LinkStep} → TraceSummed Trace n table summaries Covers old new steps → (table new.links).extent ≡ (table old.links).extent
       → (s t : List Place) → RepresentsKept kept n (table old.links) (head_of tree) s → RepresentsKept kept n (table new.links) (head_of after) t
-      → ((q : Place) → times_in q t ≤ times_in q s) → IsReady kept n table sums Covers after new
+      → ((q : Place) → times_in q t ≤ times_in q s) → IsReady kept n table summaries Covers after new
   less_ready d extent s t was is few = ready_after d extent s t was is (λ q m. inr (omega (arith, m, few q)))
 
   -- where p has come in
-  pub more_ready : {p : Place} {rest : List LinkStep} → TraceSummed Trace n table sums Covers old new (acquires p ∷ rest) → (table new.links).extent ≡ (table old.links).extent
+  pub more_ready : {p : Place} {rest : List LinkStep} → TraceSummed Trace n table summaries Covers old new (acquires p ∷ rest) → (table new.links).extent ≡ (table old.links).extent
       → (s t : List Place) → RepresentsKept kept n (table old.links) (head_of tree) s → RepresentsKept kept n (table new.links) (head_of after) t
-      → ((q : Place) → times_in q t ≤ times_in q s + one_at q p) → IsReady kept n table sums Covers after new
+      → ((q : Place) → times_in q t ≤ times_in q s + one_at q p) → IsReady kept n table summaries Covers after new
   more_ready {p} {rest} d extent s t was is few = ready_after d extent s t was is (one_more p rest s t few)
 
   -- AN INSERT at a gap
-  pub inserted_ready : {p : Place} → TraceSummed Trace n table sums Covers old new (acquires p ∷ []) → (gap : Cut) → RepresentsKept kept n (table old.links) (head_of tree) (join gap)
-      → Inserts (RepresentsKept kept n) (table old.links) (table new.links) (head_of after) gap p → IsReady kept n table sums Covers after new
+  pub inserted_ready : {p : Place} → TraceSummed Trace n table summaries Covers old new (acquires p ∷ []) → (gap : Cut) → RepresentsKept kept n (table old.links) (head_of tree) (join gap)
+      → Inserts (RepresentsKept kept n) (table old.links) (table new.links) (head_of after) gap p → IsReady kept n table summaries Covers after new
   inserted_ready {p} d gap was i =
       more_ready d i.frame.extent (join gap) (insert gap p) was i.shows (λ q. omega (arith, times_append q gap.front gap.back, times_append q gap.front (p ∷ gap.back)))
 
-  pub in_order_ready : {p : Place} {at : Place → Ordering} → TraceSummed Trace n table sums Covers old new (acquires p ∷ [])
-      → InsertsInOrder (RepresentsKept kept n) at (table old.links) (table new.links) (head_of after) ready.members p → IsReady kept n table sums Covers after new
+  pub in_order_ready : {p : Place} {at : Place → Ordering} → TraceSummed Trace n table summaries Covers old new (acquires p ∷ [])
+      → InsertsInOrder (RepresentsKept kept n) at (table old.links) (table new.links) (head_of after) ready.members p → IsReady kept n table summaries Covers after new
   in_order_ready d i = inserted_ready d i.gap (subst (RepresentsKept kept n (table old.links) (head_of tree)) (sym i.same) ready.shown) i.inserted
 
   -- ONE MEMBER in the place of another
-  pub replaced_ready : {p out : Place} → TraceSummed Trace n table sums Covers old new (acquires p ∷ releases out ∷ []) → (table new.links).extent ≡ (table old.links).extent
+  pub replaced_ready : {p out : Place} → TraceSummed Trace n table summaries Covers old new (acquires p ∷ releases out ∷ []) → (table new.links).extent ≡ (table old.links).extent
       → (front back : List Place) → RepresentsKept kept n (table old.links) (head_of tree) (front ++ out ∷ back) → RepresentsKept kept n (table new.links) (head_of after) (front ++ p ∷ back)
-      → IsReady kept n table sums Covers after new
+      → IsReady kept n table summaries Covers after new
   replaced_ready {p} {out} d extent front back was is =
       more_ready d extent (front ++ out ∷ back) (front ++ p ∷ back) was is (λ q. omega (arith, times_append q front (out ∷ back), times_append q front (p ∷ back)))
 
   -- A REMOVAL
-  pub removed_ready : {p : Place} → TraceSummed Trace n table sums Covers old new (releases p ∷ []) → (table new.links).extent ≡ (table old.links).extent
+  pub removed_ready : {p : Place} → TraceSummed Trace n table summaries Covers old new (releases p ∷ []) → (table new.links).extent ≡ (table old.links).extent
       → (front back : List Place) → RepresentsKept kept n (table old.links) (head_of tree) (front ++ p ∷ back) → RepresentsKept kept n (table new.links) (head_of after) (front ++ back)
-      → IsReady kept n table sums Covers after new
+      → IsReady kept n table summaries Covers after new
   removed_ready {p} d extent front back was is =
       less_ready d extent (front ++ p ∷ back) (front ++ back) was is (λ q. omega (arith, times_append q front back, times_append q front (p ∷ back)))
 
   -- ALL MEMBERS GONE
-  pub none_ready : {steps : List LinkStep} → TraceSummed Trace n table sums Covers old new steps → (table new.links).extent ≡ (table old.links).extent → IsEmptied (kept (head_of after))
-      → IsReady kept n table sums Covers after new
+  pub none_ready : {steps : List LinkStep} → TraceSummed Trace n table summaries Covers old new steps → (table new.links).extent ≡ (table old.links).extent → IsEmptied (kept (head_of after))
+      → IsReady kept n table summaries Covers after new
   none_ready d extent emptied = less_ready d extent ready.members [] ready.shown (nothing_represented n (table new.links) (kept (head_of after)) emptied) (λ q. omega arith)
 
-module _ {N M E S A H : Type 0} (Trace : N → N → List LinkStep → Type 0) {n : E → Node} {table : N → Table E} {sums : M → Sums S} {Covers : M → Place → Type 0} (kept : H → Kept)
-    {old new : Summed N M} {tree after : RBTree A H} (ready : IsReady kept n table sums Covers tree old) where
+module _ {N M E S A H : Type 0} (Trace : N → N → List LinkStep → Type 0) {n : E → Node} {table : N → Table E} {summaries : M → Summaries S} {Covers : M → Place → Type 0} (kept : H → Kept)
+    {old new : Summed N M} {tree after : RBTree A H} (ready : IsReady kept n table summaries Covers tree old) where
   -- A POP at either end, which may find nothing
-  pub first_popped : (r : Option Place) → IfSome r (λ p. TraceSummed Trace n table sums Covers old new (releases p ∷ [])) → IfNone r ((after ≡ tree) × (new ≡ old))
-      → (table new.links).extent ≡ (table old.links).extent → RepresentsKept kept n (table new.links) (head_of after) (remove (at_front ready.members)) → IsReady kept n table sums Covers after new
+  pub first_popped : (r : Option Place) → IfSome r (λ p. TraceSummed Trace n table summaries Covers old new (releases p ∷ [])) → IfNone r ((after ≡ tree) × (new ≡ old))
+      → (table new.links).extent ≡ (table old.links).extent → RepresentsKept kept n (table new.links) (head_of after) (remove (at_front ready.members)) → IsReady kept n table summaries Covers after new
   first_popped (Some p) d same extent is = less_ready kept ready d extent ready.members (drop 1 ready.members) ready.shown is (few_after ready.members)
   first_popped None d same extent is = rw (same.0, same.1) ready
 
-  pub last_popped : (r : Option Place) → IfSome r (λ p. TraceSummed Trace n table sums Covers old new (releases p ∷ [])) → IfNone r ((after ≡ tree) × (new ≡ old))
-      → (table new.links).extent ≡ (table old.links).extent → RepresentsKept kept n (table new.links) (head_of after) (but_last ready.members) → IsReady kept n table sums Covers after new
+  pub last_popped : (r : Option Place) → IfSome r (λ p. TraceSummed Trace n table summaries Covers old new (releases p ∷ [])) → IfNone r ((after ≡ tree) × (new ≡ old))
+      → (table new.links).extent ≡ (table old.links).extent → RepresentsKept kept n (table new.links) (head_of after) (but_last ready.members) → IsReady kept n table summaries Covers after new
   last_popped (Some p) d same extent is = less_ready kept ready d extent ready.members (but_last ready.members) ready.shown is (few_before ready.members)
   last_popped None d same extent is = rw (same.0, same.1) ready
 
 -- STEPS BEHIND OTHER EDITS, which have left as many places, as much room, and what is right
-module _ {N M E S A H : Type 0} {Trace : N → N → List LinkStep → Type 0} {n : E → Node} {table : N → Table E} {sums : M → Sums S} {Covers : M → Place → Type 0} (kept : H → Kept)
+module _ {N M E S A H : Type 0} {Trace : N → N → List LinkStep → Type 0} {n : E → Node} {table : N → Table E} {summaries : M → Summaries S} {Covers : M → Place → Type 0} (kept : H → Kept)
     {mid new : Summed N M} {after : RBTree A H} where
-  pub ready_behind : {steps : List LinkStep} → TraceSummed Trace n table sums Covers mid new steps → (table mid.links).extent.places ≡ 8 → ((q : Place) → IsCovered (table mid.links) q → Covers mid.sums q)
-      → (table new.links).extent ≡ (table mid.links).extent → (s t : List Place) → IsConsistent n (table mid.links) (sums mid.sums) s → RepresentsKept kept n (table new.links) (head_of after) t
-      → ((q : Place) → 1 ≤ times_in q t → IsAcquired q steps ⊎ (1 ≤ times_in q s)) → IsReady kept n table sums Covers after new
-  ready_behind d places room extent s t right is among = record {
+  pub ready_then : {steps : List LinkStep} → TraceSummed Trace n table summaries Covers mid new steps → (table mid.links).extent.places ≡ 8 → ((q : Place) → IsCovered (table mid.links) q → Covers mid.summaries q)
+      → (table new.links).extent ≡ (table mid.links).extent → (s t : List Place) → IsConsistent n (table mid.links) (summaries mid.summaries) s → RepresentsKept kept n (table new.links) (head_of after) t
+      → ((q : Place) → 1 ≤ times_in q t → IsAcquired q steps ⊎ (1 ≤ times_in q s)) → IsReady kept n table summaries Covers after new
+  ready_then d places room extent s t right is among = record {
     covers = ap (λ (e : Extent). e.places) extent ∙ places;
     members = t;
     shown = is;
@@ -179,12 +179,12 @@ module _ {N M E S A H : Type 0} {Trace : N → N → List LinkStep → Type 0} {
   }
 
 -- WHAT A TABLE'S LAWS SAY of a tree that is ready: there is room at each linked place, and an object at each member
-module _ {N M E S A H : Type 0} {n : E → Node} {table : N → Table E} {sums : M → Sums S} {Covers : M → Place → Type 0} (kept : H → Kept) (linked : E → Bool) (alike : (e : E) → (n e).linked ≡ linked e)
-    (law : (t : N) (p : Place) → IsLinked linked (table t) p → IsCovered (table t) p) {summed : Summed N M} {tree : RBTree A H} (ready : IsReady kept n table sums Covers tree summed) where
+module _ {N M E S A H : Type 0} {n : E → Node} {table : N → Table E} {summaries : M → Summaries S} {Covers : M → Place → Type 0} (kept : H → Kept) (linked : E → Bool) (alike : (e : E) → (n e).linked ≡ linked e)
+    (law : (t : N) (p : Place) → IsLinked linked (table t) p → IsCovered (table t) p) {summed : Summed N M} {tree : RBTree A H} (ready : IsReady kept n table summaries Covers tree summed) where
   pub linked_covered : (p : Place) → IsNode n (table summed.links) p → IsCovered (table summed.links) p
   linked_covered p is = law summed.links p (sym (alike ((table summed.links).entry p)) ∙ is)
 
-  pub linked_room : (p : Place) → IsNode n (table summed.links) p → Covers summed.sums p
+  pub linked_room : (p : Place) → IsNode n (table summed.links) p → Covers summed.summaries p
   linked_room p is = ready.room p (linked_covered p is)
 
   pub ready_placed : {T : Type 0} (objects : Objects T) → ((q : Place) → index_of q < 8 → is_placed objects q ≡ true) → RepresentsPlaced (RepresentsKept kept n (table summed.links) (head_of tree)) objects

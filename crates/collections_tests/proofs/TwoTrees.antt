@@ -11,7 +11,7 @@ use Rattle.ic_augmented.specs.Beside.{IsWrittenWithin}
 use Rattle.ic_augmented.specs.Consistent.{IsSameAt, RepresentsConsistent, RepresentsSummed}
 use Rattle.ic_augmented.specs.Fresh.{RepresentsFresh}
 use Rattle.ic_augmented.specs.SumTables.{joined_in}
-use Rattle.ic_augmented.specs.Sums.{Sums}
+use Rattle.ic_augmented.specs.Summaries.{Summaries}
 use Rattle.ic_augmented.specs.declared.sum_table.Cell.{Cell}
 use Rattle.ic_augmented.proofs.BesideLemmas.{stale_within, summed_within}
 use Rattle.ic_augmented.proofs.EditLemmas.{still_consistent, still_summed}
@@ -26,7 +26,7 @@ cut_nothing [] back p e = ap (λ (z : List Place). p ∷ z) e
 cut_nothing (x ∷ front) back p e = let none : length (x ∷ (front ++ back)) ≡ 0 = ap length e in absurd (omega (arith, none))
 
 -- a stale place was written within itself
-pub within_itself : {S : Type 0} (z : Sums S) (p : Place) → z.fresh p ≡ None → IsWrittenWithin z (p ∷ [])
+pub within_itself : {S : Type 0} (z : Summaries S) (p : Place) → z.fresh p ≡ None → IsWrittenWithin z (p ∷ [])
 within_itself z p stale = stale_within z [] p stale (λ q r member fresh up. absurd (omega (arith, member)))
 
 pub nothing_there : {E : Type 0} {n : E → Node} (v : Table E) {root : Option Place} → root ≡ None → Represents n v root []
@@ -41,15 +41,15 @@ pub named_so : {E : Type 0} {n : E → Node} {v : Table E} {root : Option Place}
 named_so {n = n} {v = v} {root = root} same shown = subst (λ x. Represents n v root (x ∷ [])) same shown
 
 module _ {E S : Type 0} {n : E → Node} where
-  pub nothing_right : (z : Sums S) (v : Table E) {root : Option Place} → root ≡ None → RepresentsConsistent n z v root []
+  pub nothing_right : (z : Summaries S) (v : Table E) {root : Option Place} → root ≡ None → RepresentsConsistent n z v root []
   nothing_right z v e = (nothing_there v e, λ q member but x fresh. absurd (omega (arith, member)))
 
   -- the first member of an empty tree
-  pub alone : {at : Place → Ordering} {y : Sums S} {old w : Table E} {root : Option Place} {p : Place} → InsertsInOrder (RepresentsFresh n y) at old w root [] p → RepresentsSummed n y w root (p ∷ [])
+  pub alone : {at : Place → Ordering} {y : Summaries S} {old w : Table E} {root : Option Place} {p : Place} → InsertsInOrder (RepresentsFresh n y) at old w root [] p → RepresentsSummed n y w root (p ∷ [])
   alone {y = y} {w = w} {root} {p} i = subst (RepresentsSummed n y w root) (cut_nothing i.gap.front i.gap.back p i.same) i.inserted.shows.summed
 
   -- THE FIRST TREE STAYS SUMMED, where the second one gets its first member
-  pub beside_stays : {v w : Table E} {z y : Sums S} {first second : Option Place} {p q : Place} → RepresentsSummed n z v first (p ∷ []) → z.fresh q ≡ None → q ≢ p → second ≡ None
+  pub beside_stays : {v w : Table E} {z y : Summaries S} {first second : Option Place} {p q : Place} → RepresentsSummed n z v first (p ∷ []) → z.fresh q ≡ None → q ≢ p → second ≡ None
       → ((s : List Place) → Represents n v second s → IsWrittenWithin z (q ∷ s) → (x : Place) → IsAbsent x (q ∷ s) → IsSameAt z y x)
       → ((s t : List Place) (other : Option Place) → Represents n v second s → IsDisjoint t s → RepresentsConsistent n z v other t → RepresentsConsistent n y w other t) → RepresentsSummed n y w first (p ∷ [])
   beside_stays {v} {w} {z} {y} {first} {second} {p} {q} one stale other none same right =
@@ -57,7 +57,7 @@ module _ {E S : Type 0} {n : E → Node} where
       (right [] (p ∷ []) first (nothing_there v none) (tt, tt) (still_consistent n v z first (p ∷ []) one))
 
   -- and where that one leaves again
-  pub leaving_stays : {v w : Table E} {z y : Sums S} {first second : Option Place} {p q : Place} → RepresentsSummed n z v first (p ∷ []) → RepresentsSummed n z v second (q ∷ []) → q ≢ p
+  pub leaving_stays : {v w : Table E} {z y : Summaries S} {first second : Option Place} {p q : Place} → RepresentsSummed n z v first (p ∷ []) → RepresentsSummed n z v second (q ∷ []) → q ≢ p
       → ((s : List Place) → Represents n v second s → IsWrittenWithin z s → (x : Place) → IsAbsent x s → IsSameAt z y x)
       → ((s t : List Place) (other : Option Place) → Represents n v second s → IsDisjoint t s → RepresentsConsistent n z v other t → RepresentsConsistent n y w other t) → RepresentsSummed n y w first (p ∷ [])
   leaving_stays {v} {w} {z} {y} {first} {second} {p} {q} one two other same right =

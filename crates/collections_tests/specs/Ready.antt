@@ -6,15 +6,15 @@ use Rattle.ic_rbtree.specs.Kept.{Kept, RepresentsKept}
 use Rattle.ic_rbtree.specs.Tree.{head_of}
 use Rattle.ic_rbtree.specs.declared.tree.RBTree.{RBTree}
 use Rattle.ic_augmented.specs.Consistent.{IsConsistent}
-use Rattle.ic_augmented.specs.Sums.{Sums}
-use Rattle.ic_augmented.specs.Summed.{links_of, sums_of}
+use Rattle.ic_augmented.specs.Summaries.{Summaries}
+use Rattle.ic_augmented.specs.Summed.{links_of, summaries_of}
 use Rattle.ic_augmented.specs.declared.summed.Summed.{Summed}
 
-module _ {H N M E S A : Type 0} (kept : H → Kept) (n : E → Node) (table : N → Table E) (sums : M → Sums S) (Covers : M → Place → Type 0) where
+module _ {H N M E S A : Type 0} (kept : H → Kept) (n : E → Node) (table : N → Table E) (summaries : M → Summaries S) (Covers : M → Place → Type 0) where
   -- THE TREE IS READY for edits, for a refresh, and for questions after that
   pub record IsReady (tree : RBTree A H) (summed : Summed N M) : Type 0 where
     pub covers : (table (links_of summed)).extent.places ≡ 8
     pub members : List Place
     pub shown : RepresentsKept kept n (table (links_of summed)) (head_of tree) members
-    pub right : IsConsistent n (table (links_of summed)) (sums (sums_of summed)) members
-    pub room : (q : Place) → IsCovered (table (links_of summed)) q → Covers (sums_of summed) q
+    pub right : IsConsistent n (table (links_of summed)) (summaries (summaries_of summed)) members
+    pub room : (q : Place) → IsCovered (table (links_of summed)) q → Covers (summaries_of summed) q

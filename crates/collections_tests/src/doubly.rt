@@ -1,4 +1,4 @@
-//! The doubly linked list: edits by a cursor that borrows the list, cursors that keep it, and a walk that takes its members off.
+//! The doubly linked list: edits by a cursor that borrows the list, cursors that own it, and a walk that removes its members.
 
 ghost use Rattle.std.specs.Prelude.{◌≡◌};
 ghost use Rattle.ic_link_ops.specs.Chains.{RepresentsChain, RepresentsSomeChain};
@@ -25,8 +25,8 @@ pub(crate) type DoublyFixture = ListFixture<DoublyLinked, TwoWords>;
 /// The same over links of 4-byte words.
 pub(crate) type NarrowDoublyFixture = ListFixture<DoublyLinked, TwoNarrowWords>;
 
-// Makes each edit by a cursor on the last of the members 0, 1 and 2, and notes what came out. Notes what is before the cursor, none, when
-// that part was put after it, and whether it is at null two steps on.
+// Makes each edit by a cursor on the last of the members 0, 1 and 2, and notes what each returned. It also notes the member before the cursor, which
+// is none after the part before it was moved after it, and whether the cursor is at null after two steps.
 fn write_edits<K: DoubleEnded + BidirectionalLinks<L>, L: LinkOps>(
     notes: &mut Text,
     cursor: &mut CursorMut<'_, Chain<K, u64>, L>,
@@ -45,8 +45,8 @@ fn write_edits<K: DoubleEnded + BidirectionalLinks<L>, L: LinkOps>(
     cursor.move_prev();
     cursor.move_prev();
     write_object(notes, cursor.remove());
-    let behind = cursor.split_after();
-    cursor.splice_before(behind);
+    let after = cursor.split_after();
+    cursor.splice_before(after);
     let in_front = cursor.split_before();
     write_places(notes, &[in_front.last()]);
     cursor.splice_after(in_front);
@@ -88,7 +88,8 @@ fn doubly_linked_list_over_narrow_links(rt: HostRuntime) {
     assert_words(&rt, &notes, "2 1 3 none no  0");
 }
 
-// Notes where a cursor is that reads the list, on the second member by its reference, and those that keep it, there and at the back.
+// Notes the position of a cursor that reads the list, made on the second member by its reference, and those of cursors that own the list, made there
+// and at the back.
 fn write_on_member<K: NamesNext + DoubleEnded + BidirectionalLinks<L>, L: LinkOps>(
     rt: &impl Abort,
     notes: &mut Text,
@@ -116,7 +117,7 @@ fn doubly_linked_list_by_value(rt: HostRuntime) {
         write_on_member(&rt, &mut notes, fixture.list.take(), &fixture.links);
     }
     {
-        // The first member and the last, which are taken off, and what is linked then, and when the walk has unlinked the rest.
+        // Notes the first and the last member, which are removed, what is then linked, and what is linked after the walk has unlinked the rest.
         let mut fixture: DoublyFixture = list_of(&rt, alloc, 4);
         let mut rest = fixture.list.take().into_iter(&mut fixture.links);
         write_object(&mut notes, rest.next());

@@ -19,7 +19,7 @@ use ic_test_support::objects::{place_at, reference};
 use ic_test_support::tables::write_linked;
 use std::process::Abort;
 
-// Puts an object at the front and takes it off again, which leaves the list as it was, and notes whether it is a member.
+// Inserts an object at the front and removes it again, which leaves the list as it was, and notes whether it is a member.
 fn write_front<K: ForwardLinks<L>, L: LinkOps>(
     notes: &mut Text,
     list: &mut Chain<K, u64>,
@@ -39,7 +39,7 @@ fn write_front<K: ForwardLinks<L>, L: LinkOps>(
     notes.add(Answer::Truth(is_member), " ");
 }
 
-// Puts an object at the back and takes it off again, which leaves the list as it was, and notes both ends.
+// Inserts an object at the back and removes it again, which leaves the list as it was, and notes both ends.
 fn write_back<K: DoubleEnded + BidirectionalLinks<L>, L: LinkOps>(
     notes: &mut Text,
     list: &mut Chain<K, u64>,
@@ -68,7 +68,7 @@ fn write_ends<K: DoubleEnded + BidirectionalLinks<L>, L: LinkOps>(
     write_places(notes, &[front, back]);
 }
 
-// Puts one object into two lists of two fields, empties the first, and notes what is linked in each field.
+// Inserts one object into two lists of two fields, empties the first, and notes what is linked in each field.
 fn write_apart(
     rt: &impl Abort,
     notes: &mut Text,

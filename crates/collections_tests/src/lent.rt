@@ -9,7 +9,7 @@ use ic_test_support::answers::write_places;
 use ic_test_support::notes::Text;
 use ic_unsafe_ref::UnsafeRef;
 
-/// Moves the first member after all others, on the list and its links lent together, and notes where a cursor at it is and the ends.
+/// Moves the first member to the back, on the list and its links lent together, and notes where a cursor on it is, and the ends.
 pub(crate) fn write_turned<K: DoubleEnded + NamesNext + ForwardLinks<L>, L: LinkOps>(
     notes: &mut Text,
     list: &mut Chain<K, u64>,
@@ -35,8 +35,8 @@ pub(crate) fn write_turned<K: DoubleEnded + NamesNext + ForwardLinks<L>, L: Link
     write_places(notes, &[turned, list.first(), list.last()]);
 }
 
-/// Takes the last member off and puts it before all others, after them, and before them again, and then it takes it off by its reference: all on
-/// the list and its links lent together. It notes the ends after each move, and after the list is given back.
+/// Removes the last member, inserts it at the front, at the back and at the front again, and then removes it by its reference, all on the list and
+/// its links lent together. It notes the ends after each move, and after the list is given back.
 pub(crate) fn write_moved<K, L: LinkOps>(notes: &mut Text, list: &mut Chain<K, u64>, links: &mut L)
 where
     K: DoubleEnded + NamesBoth<L> + BidirectionalLinks<L>,

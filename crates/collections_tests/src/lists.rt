@@ -14,7 +14,7 @@ use ic_unsafe_ref::Objects;
 use std::alloc::Global;
 use std::process::Abort;
 
-/// A list, the table of its links, which covers the places 0 to 7, and its objects: 10 to 80 stand there, in this order.
+/// A list, the table of its links, which covers the places 0 to 7, and its objects: 10 to 80, in the order of their places.
 pub(crate) struct ListFixture<K: ListKind, W: Words> {
     pub(crate) objects: Objects<u64>,
     pub(crate) links: PlainTable<W>,
@@ -32,7 +32,7 @@ impl<K: ListKind, W: Words> Drop for ListFixture<K, W> {
     }
 }
 
-/// Puts the objects at the first places into a new list, as many as that and in their order.
+/// Inserts the objects at the first places into a new list, in their order.
 pub(crate) fn filled<K: ForwardLinks<L>, L: LinkOps>(links: &mut L, members: usize) -> Chain<K, u64>
     requires covered { (L.table links.old).extent.places ≡ 8 }
     requires few { members ≤ 8 }

@@ -1,4 +1,4 @@
-//! Cursors of an XOR list that are made on a member whose neighbor is told.
+//! Cursors of an XOR list that are made on a member with one of its neighbors.
 
 ghost use Rattle.ic_link_ops.specs.Chains.{RepresentsChain, RepresentsSomeChain};
 ghost use Rattle.ic_cursors.specs.Cursor as reads;
@@ -30,7 +30,7 @@ fn second<K: Reversible + BidirectionalLinks<L>, L: LinkOps>(
     (cursor.clone_pointer().expect(rt, "a second member"), first)
 }
 
-// The last member, and what is after it: nothing, by a cursor on it.
+// Notes the last member, and what is after it by a cursor on it, which is nothing.
 fn last<K: Reversible + BidirectionalLinks<L>, L: LinkOps>(
     rt: &impl Abort,
     cursor: Cursor<'_, Chain<K, u64>, L>,
@@ -38,8 +38,8 @@ fn last<K: Reversible + BidirectionalLinks<L>, L: LinkOps>(
     requires stands { reads.IsValid (IsValidAt (RepresentsChain K.Between K.kept) L.table K.Position.member K.Position.CachesNext) cursor }
     ensures { HasMemberBefore (RepresentsChain K.Between K.kept (L.table (reads.links_of cursor.entry)) (reads.list_of cursor.entry)) result.0 result.1 }
 {
-    let behind = cursor.peek_next().clone_pointer();
-    (cursor.clone_pointer().expect(rt, "a last member"), behind)
+    let after = cursor.peek_next().clone_pointer();
+    (cursor.clone_pointer().expect(rt, "a last member"), after)
 }
 
 // Notes where a step back from the last member would lead, the last object, and where a step on from the second member leads.
@@ -66,7 +66,7 @@ fn write_borrowed<K: Reversible + BidirectionalLinks<L>, L: LinkOps>(
     write_next(notes, &mut on_second);
 }
 
-// Notes where a step on leads.
+// Notes the member to which the next step leads.
 fn write_next<K: Reversible + BidirectionalLinks<L>, L: LinkOps>(
     notes: &mut Text,
     cursor: &mut CursorMut<'_, Chain<K, u64>, L>,
@@ -77,7 +77,8 @@ fn write_next<K: Reversible + BidirectionalLinks<L>, L: LinkOps>(
     write_places(notes, &[cursor.get_ptr()]);
 }
 
-// Notes where cursors are that read the list, on the second member, and that keep it, on the second member and on the last.
+// Notes the positions of a cursor that reads the list, made on the second member, and of cursors that own it, made on the second member and on the
+// last.
 fn write_kept<K: Reversible + BidirectionalLinks<L>, L: LinkOps>(
     rt: &impl Abort,
     notes: &mut Text,

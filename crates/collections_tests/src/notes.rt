@@ -1,4 +1,4 @@
-//! What the calls of a test answered.
+//! Notes of the results of a test's calls.
 
 use ic_test_support::answers::{object, value};
 use ic_test_support::notes::Text;
@@ -12,7 +12,7 @@ pub(crate) fn write_values(notes: &mut Text, found: &[Option<&u64>]) {
     }
 }
 
-/// Notes where this object stands, which was taken off.
+/// Notes the place of this object, which was removed.
 pub(crate) fn write_object(notes: &mut Text, taken: Option<UnsafeRef<u64>>) {
     notes.add(object(taken), " ");
 }

@@ -32,8 +32,8 @@ fn write_moves<K: DoubleEnded + BidirectionalLinks<L>, L: LinkOps>(
     write_places(notes, &[null, front, second, at_back.get_ptr()]);
 }
 
-// Puts objects beside the first of the members 0, 1 and 2, and takes them out again, and notes both that came out. Then the list is split
-// after the cursor and before it, the parts change places, and it notes where the cursor is, the first member, and the cursor at null.
+// Inserts objects beside the first of the members 0, 1 and 2, removes them again, and notes both removed objects. Then the list is split after the
+// cursor and before it, the parts change places, and it notes where the cursor is, the first member, and the cursor at null.
 fn write_edits<K: DoubleEnded + BidirectionalLinks<L>, L: LinkOps>(
     notes: &mut Text,
     list: Chain<K, u64>,
@@ -49,8 +49,8 @@ fn write_edits<K: DoubleEnded + BidirectionalLinks<L>, L: LinkOps>(
     write_object(notes, cursor.replace_with(links, reference(5)).ok());
     write_object(notes, cursor.remove(links));
     cursor.move_prev(&*links);
-    let behind = cursor.split_after(links);
-    cursor.splice_before(links, behind);
+    let after = cursor.split_after(links);
+    cursor.splice_before(links, after);
     let in_front = cursor.split_before(links);
     cursor.splice_after(links, in_front);
     cursor.move_next(&*links);
@@ -59,7 +59,7 @@ fn write_edits<K: DoubleEnded + BidirectionalLinks<L>, L: LinkOps>(
     write_places(notes, &[cursor.get_ptr()]);
 }
 
-// Puts the object at 3 in the place of the member after a cursor on the first, takes it off again, and notes both that came out.
+// Replaces the member after a cursor on the first one by the object at 3, removes that object again, and notes both.
 fn write_edits_after<K: SingleEnded + ForwardLinks<L>, L: LinkOps>(
     notes: &mut Text,
     list: Chain<K, u64>,

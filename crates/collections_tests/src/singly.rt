@@ -22,7 +22,7 @@ pub(crate) type SinglyFixture = ListFixture<SinglyLinked, OneWord<Singly>>;
 /// The same over links of 4-byte words.
 pub(crate) type NarrowSinglyFixture = ListFixture<SinglyLinked, OneNarrowWord<Singly>>;
 
-// Puts the object at 3 in the place of the member after the cursor, takes it off again, and notes both that came out.
+// Replaces the member after the cursor by the object at 3, removes that object again, and notes both.
 fn write_edits<K: SingleEnded + ForwardLinks<L>, L: LinkOps>(
     notes: &mut Text,
     cursor: &mut CursorMut<'_, Chain<K, u64>, L>,
@@ -34,8 +34,8 @@ fn write_edits<K: SingleEnded + ForwardLinks<L>, L: LinkOps>(
     write_object(notes, cursor.remove_next());
 }
 
-// Splits the list after the cursor, and notes where the cursor is and the other part begins, and where a step on leads when the parts are
-// together again.
+// Splits the list after the cursor, and notes where the cursor is, where the other part begins, and where a step leads after the parts were joined
+// again.
 fn write_parts<K: SingleEnded + ForwardLinks<L>, L: LinkOps>(
     notes: &mut Text,
     cursor: &mut CursorMut<'_, Chain<K, u64>, L>,
@@ -56,7 +56,7 @@ fn singly_linked_list(rt: HostRuntime) {
     let mut notes = Text::new(alloc);
     let mut fixture: SinglyFixture = list_of(&rt, alloc, 2);
     {
-        // What a walk over two members gives, and that it ends.
+        // Notes the members that a walk over two members returns, and that it ends.
         let mut walk = fixture.list.iter(&fixture.links, &fixture.objects);
         write_values(&mut notes, &[walk.next(), walk.next(), walk.next()]);
     }

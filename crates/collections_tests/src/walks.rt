@@ -1,4 +1,4 @@
-//! Walks over lists: over the objects from both ends, and those that take members off and are dropped.
+//! Walks over lists: walks over the objects from both ends, and walks that remove members and are dropped.
 
 ghost use Rattle.std.specs.Prelude.{◌≡◌};
 ghost use Rattle.ic_link_ops.specs.Chains.{RepresentsChain, RepresentsSomeChain};
@@ -64,7 +64,7 @@ fn walks_from_both_ends(rt: HostRuntime) {
     assert_words(&rt, &notes, "10 40 30 20 none none  10 60 50 20 30 40");
 }
 
-// Takes the first member off, by a walk that is dropped then.
+// Removes the first member, by a walk that is dropped then.
 fn take_first<K: ForwardLinks<L>, L: LinkOps>(
     list: Chain<K, u64>,
     links: &mut L,
@@ -75,8 +75,8 @@ fn take_first<K: ForwardLinks<L>, L: LinkOps>(
     rest.next()
 }
 
-// Does so, and notes that member, what is linked then, and again after each of the rest is unlinked by force. Puts all in again, and notes
-// what is linked.
+// Does this, and notes the member and what is then linked, and what is linked after each of the other members was unlinked by force. Then it inserts
+// all members again, and notes what is linked.
 fn write_dropped<K: ForwardLinks<PlainTable<W>>, W: Words>(
     rt: &impl Abort,
     notes: &mut Text,
@@ -133,7 +133,7 @@ fn walks_over_narrow_links_that_are_dropped(rt: HostRuntime) {
     );
 }
 
-// Takes the first member off, and then unlinks the rest.
+// Removes the first member, and then unlinks the rest.
 fn finish_first<K: ForwardLinks<L>, L: LinkOps>(
     list: Chain<K, u64>,
     links: &mut L,
@@ -146,7 +146,7 @@ fn finish_first<K: ForwardLinks<L>, L: LinkOps>(
     first
 }
 
-// Takes the first member off and the last, and then unlinks the rest.
+// Removes the first member and the last, and then unlinks the rest.
 fn finish_both<K: DoubleEnded + BidirectionalLinks<L>, L: LinkOps>(
     list: Chain<K, u64>,
     links: &mut L,
@@ -160,7 +160,7 @@ fn finish_both<K: DoubleEnded + BidirectionalLinks<L>, L: LinkOps>(
     (first, last)
 }
 
-// A singly linked list and an XOR list, with four members each, and what is linked when the walk is finished.
+// Rows: a singly linked list and an XOR list with four members each, and the places that are linked after the walk is finished.
 // Promise: a finished walk of a singly linked list, a finished walk of an XOR list.
 #[test]
 fn walks_that_are_finished(rt: HostRuntime) {

@@ -1,5 +1,5 @@
-//! The words of the links of an XOR list: each is the exclusive or of the neighbors' numbers, which are `2 * (index + 1)` for a place and
-//! 0 for none. The word 1 says that a place is unlinked.
+//! The words of the links of an XOR list: each is the exclusive or of the neighbors' numbers, which are `2 * (index + 1)` for a place and 0 for none.
+//! The word 1 means that a place is unlinked.
 
 use crate::lists::{ListFixture, list_of};
 use crate::notes::{assert_words, write_object};
@@ -20,7 +20,7 @@ fn write_words(notes: &mut Text, links: &LinkOps) {
     }
 }
 
-// A list of the places 0, 1 and 2, and when 1 was taken off.
+// Tests the words of a list of the places 0, 1 and 2, before and after 1 is removed.
 // Promise: words of an XOR list, words after a removal.
 #[test]
 fn words_of_an_xor_list(rt: HostRuntime) {

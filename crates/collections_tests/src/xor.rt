@@ -1,4 +1,4 @@
-//! The XOR list: a cursor, which reads each entry by a neighbor.
+//! The XOR list: its cursor reads each entry together with a neighbor of the place.
 
 ghost use Rattle.ic_link_ops.specs.Chains.{RepresentsChain};
 ghost use Rattle.ic_cursors.specs.Cursor as reads;
@@ -20,7 +20,7 @@ pub(crate) type XorFixture = ListFixture<XorLinked, OneWord<Xor>>;
 /// The same over links of 4-byte words.
 pub(crate) type NarrowXorFixture = ListFixture<XorLinked, OneNarrowWord<Xor>>;
 
-// Notes where a cursor is, and where it would be a step back; where it is after that step, and what is after a copy of it.
+// Notes where a cursor is, where a step back would lead it, where it is after that step, and what is after a copy of it.
 fn write_read<K: DoubleEnded + BidirectionalLinks<L>, L: LinkOps>(
     notes: &mut Text,
     mut cursor: Cursor<'_, Chain<K, u64>, L>,

@@ -21,7 +21,7 @@ pub enum Outcome {
     Expired,
 }
 
-/// Carries out a command. The connections that expire are put after those in `gone`.
+/// Carries out a command. It appends the connections that expire to `gone`.
 pub fn apply<I: Index<Connection, A>, A: Allocator, C: Allocator>(
     table: &mut ConnectionTable<I, A>,
     command: Command,

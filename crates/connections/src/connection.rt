@@ -5,9 +5,9 @@ use ic_keyed::HasKey;
 /// A connection that is open.
 #[derive(Clone, Copy, PartialEq, Eq, Debug)]
 pub struct Connection {
-    /// By which it is found.
+    /// The id by which the connection is found.
     pub id: u64,
-    /// When it was opened, or touched last.
+    /// The time when it was opened or last touched.
     pub seen: u64,
 }
 

@@ -20,15 +20,15 @@ use std::marker::Model;
 
 /// Connections that are open, and a clock.
 ///
-/// A clause sees them from the one that was touched last to the one that has been idle for longest. No two have one id, and none was seen
-/// before one after it or after the clock's time (`IsSound`).
+/// A contract sees them from the one that was touched last to the one that has been idle for longest. No two have the same id, none was touched
+/// earlier than one that comes after it, and none later than the clock's time (`IsSound`).
 #[derive(Drop)]
 pub struct ConnectionTable<I: Index<Connection, A>, A: Allocator = Global> {
     live: Keyed<Connection, I, A>,
     clock: u64,
 }
 
-/// Connections that are found by a tree: O(log n).
+/// Connections that are found by a tree, in O(log n).
 pub type TreeConnections<A = Global> = ConnectionTable<RBTree<ByKey<Connection>>, A>;
 
 impl<I: Index<Connection, A>, A: Allocator> Model for ConnectionTable<I, A> {
@@ -42,7 +42,7 @@ impl<I: Index<Connection, A>, A: Allocator> Model for ConnectionTable<I, A> {
 }
 
 impl<A: Allocator> ConnectionTable<RBTree<ByKey<Connection>>, A> {
-    /// No connection, found by a tree. It takes no memory.
+    /// Makes a table without connections, with a tree as the index. It takes no memory.
     pub fn new(alloc: A) -> TreeConnections<A>
     where
         A: Copy,
@@ -59,7 +59,7 @@ impl<A: Allocator> ConnectionTable<RBTree<ByKey<Connection>>, A> {
 impl<I: Index<Connection, A>, A: Allocator> ConnectionTable<I, A> {
     ghost use Rattle.connections.specs.Table.{connection_with, others_than, with_live, seen_now, IsSound, IsActive, IsRefused, EndsIdle, Expires, ExpiresIdle};
 
-    /// No connection, found by this index: `ConnectionTable::with_index(rt.alloc(), HashIndex::new(buckets))`. It takes no memory.
+    /// Makes a table without connections, with this index: `ConnectionTable::with_index(rt.alloc(), HashIndex::new(buckets))`. It takes no memory.
     ///
     /// It requires that the index is new.
     pub fn with_index(alloc: A, index: I) -> ConnectionTable<I, A>
@@ -75,7 +75,7 @@ impl<I: Index<Connection, A>, A: Allocator> ConnectionTable<I, A> {
         }
     }
 
-    /// The connection with the id, if it is open. It does not touch it.
+    /// Returns the connection with the id, if it is open, without touching it.
     pub fn find(&self, id: u64) -> Option<&Connection>
         ensures found { option_copied result ≡ connection_with id self.now.live }
         ensures sound { IsSound self.now }
@@ -84,7 +84,7 @@ impl<I: Index<Connection, A>, A: Allocator> ConnectionTable<I, A> {
         self.live.peek(id)
     }
 
-    /// Opens a connection, which is the one that was touched last then.
+    /// Opens a connection, which then is the one that was touched last.
     ///
     /// It is refused if one with the id is open, or if there is no room for one more. Then nothing has changed.
     pub fn open(&mut self, id: u64) -> Result<(), OpenError>
@@ -103,8 +103,7 @@ impl<I: Index<Connection, A>, A: Allocator> ConnectionTable<I, A> {
         Ok(())
     }
 
-    /// Touches a connection: it was seen now, and all others have been idle for longer. Whether there is one with the id. It takes no
-    /// memory.
+    /// Touches the connection with the id, so that all others have been idle for longer, and returns whether there is one. It takes no memory.
     pub fn touch(&mut self, id: u64) -> bool
         ensures found { result ≡ is_some (connection_with id self.old.live) }
         ensures touched { MatchBool result (self.new ≡ with_live self.old (seen_now id self.old ∷ others_than id self.old.live)) (self.new ≡ self.old) }
@@ -119,7 +118,7 @@ impl<I: Index<Connection, A>, A: Allocator> ConnectionTable<I, A> {
         true
     }
 
-    /// Closes a connection, and returns it, if there is one with the id. It takes no memory.
+    /// Closes the connection with the id and returns it, if there is one. It takes no memory.
     pub fn close(&mut self, id: u64) -> Option<Connection>
         ensures value { result ≡ connection_with id self.old.live }
         ensures closed { self.new ≡ with_live self.old (others_than id self.old.live) }
@@ -127,7 +126,7 @@ impl<I: Index<Connection, A>, A: Allocator> ConnectionTable<I, A> {
         self.live.remove(id)
     }
 
-    /// The time of the clock.
+    /// Returns the time of the clock.
     #[inline]
     pub fn clock(&self) -> u64
         ensures { result ≡ self.now.clock }
@@ -135,7 +134,7 @@ impl<I: Index<Connection, A>, A: Allocator> ConnectionTable<I, A> {
         self.clock
     }
 
-    /// Puts the clock forward to a time. It never goes back.
+    /// Moves the clock forward to a time. It never goes back.
     pub fn advance_to(&mut self, time: u64)
         ensures clock { self.new.clock ≡ max self.old.clock time }
         ensures live { self.new.live ≡ self.old.live }
@@ -152,10 +151,10 @@ impl<I: Index<Connection, A>, A: Allocator> ConnectionTable<I, A> {
         self.live.pop_last()
     }
 
-    /// Closes so many connections, those that have been idle for longest, or all if there are fewer. It puts them after those in `gone`,
-    /// the one first that was idle for longest.
+    /// Closes the `count` connections that have been idle for longest, or all if there are fewer. It appends them to `gone`, beginning with the one
+    /// that was idle for longest.
     ///
-    /// If `gone` cannot grow, those that are closed by then are in `gone`, and all others are open.
+    /// If `gone` cannot grow, it contains the connections that were closed up to then, and all others are still open.
     pub fn expire<C: Allocator>(
         &mut self,
         count: u64,
@@ -174,7 +173,7 @@ impl<I: Index<Connection, A>, A: Allocator> ConnectionTable<I, A> {
         Ok(())
     }
 
-    /// Whether a connection has been idle for longer than this.
+    /// Returns whether a connection has been idle for longer than this.
     pub fn is_any_idle(&self, limit: u64) -> bool
         ensures { MatchBool result (EndsIdle limit self.now) (AllByRecursion (IsActive limit self.now.clock) self.now.live) }
     {
@@ -184,10 +183,9 @@ impl<I: Index<Connection, A>, A: Allocator> ConnectionTable<I, A> {
         }
     }
 
-    /// Closes all connections that have been idle for longer than this. It puts them after those in `gone`, the one first that was
-    /// idle for longest.
+    /// Closes all connections that have been idle for longer than this. It appends them to `gone`, beginning with the one that was idle for longest.
     ///
-    /// If `gone` cannot grow, those that are closed by then are in `gone`, and all others are open.
+    /// If `gone` cannot grow, it contains the connections that were closed up to then, and all others are still open.
     pub fn expire_idle<C: Allocator>(
         &mut self,
         limit: u64,

@@ -17,7 +17,7 @@ use Rattle.ic_rbtree.specs.Tree.{root_of}
 use Rattle.ic_any_collection.specs.declared.entry.Entry.{Entry}
 use Rattle.ic_any_collection.specs.declared.any_table.AnyTable.{AnyTable}
 use Rattle.ic_any_collection.specs.AnyTables.{table_in, covered_where_linked}
-use Rattle.ic_any_collection.specs.Entries.{is_linked, neighbors, successor, node, Joins, other}
+use Rattle.ic_any_collection.specs.Entries.{is_linked, neighbors, successor, node, HasNeighbors, other}
 use Rattle.ic_any_collection.specs.declared.any_collection.AnyCollection.{AnyCollection}
 use Rattle.ic_any_collection.specs.declared.any_collection.AnyCollection.TheVariants.{Singly, Doubly, Xor, Tree}
 use Rattle.ic_any_collection.specs.AnyCollection.{RepresentsIn, members_in, Keeps, Held}
@@ -36,7 +36,7 @@ singly_kind = singly_laws.singly_lists (λ e. refl)
 pub doubly_kind : IsKind (doubly.Represents neighbors) is_linked no_members
 doubly_kind = doubly_laws.doubly_lists (λ e. refl)
 
-pub xor_kind : IsKind (xor.Represents is_linked Joins) is_linked no_members
+pub xor_kind : IsKind (xor.Represents is_linked HasNeighbors) is_linked no_members
 xor_kind = xor_laws.xor_lists (λ e a b c j k. joins_one_other e.word a b c j k)
 
 pub tree_kind : IsKind (tree.Represents node) is_linked None

@@ -23,7 +23,7 @@ use Rattle.ic_link_ops.proofs.CollectionLaws.{IsKind, one_sequence_is_represente
 use Rattle.ic_link_ops.proofs.RepresentedTrees.{red_black_trees}
 use Rattle.ic_any_collection.proofs.OwnTrees.{to_field, to_own, frame_in_field, trace_in_field}
 use Rattle.ic_any_collection.specs.AnyTables.{table_in}
-use Rattle.ic_any_collection.specs.Entries.{is_linked, neighbors, successor, Joins}
+use Rattle.ic_any_collection.specs.Entries.{is_linked, neighbors, successor, HasNeighbors}
 use Rattle.ic_any_collection.specs.declared.unkeyed.Unkeyed.{Unkeyed}
 use Rattle.ic_any_collection.specs.declared.any_collection.AnyCollection.{AnyCollection}
 use Rattle.ic_any_collection.specs.declared.any_collection.AnyCollection.TheVariants.{Singly, Doubly, Xor, Tree}
@@ -81,8 +81,8 @@ module _ {V M : Type 0} where
     valid = λ links l at s shown stands. stands_plainly s shown stands;
   }
 
-  pub xor_made : IsMade {V = V} {M = M} {H = Ends} {C = Ends} (λ l at. Xor l at) table_in (Steps (λ links. links)) (xor.Represents is_linked Joins) (λ links. links)
-      (IsValidAt (xor.Represents is_linked Joins) table_in member_of CachesNext) (λ l. l) member_of
+  pub xor_made : IsMade {V = V} {M = M} {H = Ends} {C = Ends} (λ l at. Xor l at) table_in (Steps (λ links. links)) (xor.Represents is_linked HasNeighbors) (λ links. links)
+      (IsValidAt (xor.Represents is_linked HasNeighbors) table_in member_of CachesNext) (λ l. l) member_of
   xor_made = record {
     alike = λ l l' at at'. refl;
     position = λ l at. refl;

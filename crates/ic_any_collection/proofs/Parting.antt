@@ -8,7 +8,7 @@ use Rattle.ic_link_ops.specs.EditsAt.{SplicesBeside, SplitsBeside}
 use Rattle.ic_link_ops.proofs.SequenceLemmas.{gap_after}
 use Rattle.ic_xor_linked_list.specs.Position.{PlaceAndNext}
 use Rattle.ic_any_collection.specs.declared.entry.Entry.{Entry}
-use Rattle.ic_any_collection.specs.Entries.{is_linked, neighbors, successor, Joins}
+use Rattle.ic_any_collection.specs.Entries.{is_linked, neighbors, successor, HasNeighbors}
 use Rattle.ic_any_collection.specs.declared.any_collection.AnyCollection.{AnyCollection}
 use Rattle.ic_any_collection.specs.declared.any_collection.AnyCollection.TheVariants.{Singly, Doubly, Xor}
 use Rattle.ic_any_collection.specs.AnyCollection.{IsAt, IsXorAt, RepresentsIn, IsCursorIn, cursor_in, Keeps, Alike}
@@ -54,7 +54,7 @@ module _ {V : Type 0} where
   pub doubly_list : IsListKind {V = V} (λ l at. Doubly l at) (doubly.Represents neighbors)
   doubly_list = record { alike = λ l l' at at'. refl; shows = λ t l at s h. h; shown = λ t l at s h. h }
 
-  pub xor_list : IsListKind {V = V} (λ l at. Xor l at) (xor.Represents is_linked Joins)
+  pub xor_list : IsListKind {V = V} (λ l at. Xor l at) (xor.Represents is_linked HasNeighbors)
   xor_list = record { alike = λ l l' at at'. refl; shows = λ t l at s h. h; shown = λ t l at s h. h }
 
 module _ {V H P : Type 0} {made : H → P → AnyCollection V} {Represents : Table Entry → H → List Place → Type 0} (kind : IsListKind made Represents) where

@@ -80,10 +80,10 @@ pub walks_fewer : {s done : List Place} {prev current : Option Place} {p : Place
     → Walks s (done ++ p ∷ []) (Some p) current → length (from current s) < length (from (Some p) s)
 walks_fewer {s} {done} {current = current} {p = p} distinct w next =
     let before : length s ≡ length done + length w.left = ap length (sym w.whole) ∙ length-append done w.left in
-    let behind : length s ≡ length (done ++ p ∷ []) + length next.left = ap length (sym next.whole) ∙ length-append (done ++ p ∷ []) next.left in
+    let after : length s ≡ length (done ++ p ∷ []) + length next.left = ap length (sym next.whole) ∙ length-append (done ++ p ∷ []) next.left in
     let here : length (from (Some p) s) ≡ length w.left = ap length (walks_from distinct w) in
     let there : length (from current s) ≡ length next.left = ap length (walks_from distinct next) in
-    omega (arith, before, behind, here, there, length-append done (p ∷ []))
+    omega (arith, before, after, here, there, length-append done (p ∷ []))
 
 -- A TREE SEEN THROUGH ANOTHER TABLE, whose entries say the same of the places
 module _ {E F : Type 0} (node : E → Node) (other : F → Node) {entry : Place → E} {entries : Place → F} (same : (p : Place) → other (entries p) ≡ node (entry p)) where

@@ -9,7 +9,7 @@ use Rattle.ic_link_ops.proofs.SequenceLemmas.{gap_before, none_not, first_is, la
 use Rattle.ic_chain.specs.Standing.{IsValidAt}
 use Rattle.ic_xor_linked_list.specs.Position.{PlaceAndNext, member_of, CachesNext}
 use Rattle.ic_any_collection.specs.declared.entry.Entry.{Entry}
-use Rattle.ic_any_collection.specs.Entries.{is_linked, Joins}
+use Rattle.ic_any_collection.specs.Entries.{is_linked, HasNeighbors}
 use Rattle.ic_any_collection.specs.declared.any_collection.AnyCollection.{AnyCollection}
 use Rattle.ic_any_collection.specs.declared.any_collection.AnyCollection.TheVariants.{Singly, Doubly, Xor, Tree}
 use Rattle.ic_any_collection.specs.AnyCollection.{IsAt, IsXorAt, IsCursorIn, cursor_in, members_in, Held}
@@ -46,13 +46,13 @@ stands_plainly {Represents = Represents} {table} {links} {list} s shown at = rec
 
 -- and where it keeps the place after it too, as an XOR list's does,
 abbrev pub XorStands : {L : Type 0} → (L → Table Entry) → L → Ends → Option PlaceAndNext → Type 0
-XorStands table links l at = IsValidAt (xor.Represents is_linked Joins) table member_of CachesNext links l at
+XorStands table links l at = IsValidAt (xor.Represents is_linked HasNeighbors) table member_of CachesNext links l at
 
 pub knows : {L : Type 0} {table : L → Table Entry} {links : L} {l : Ends} {at : Option PlaceAndNext} (s : List Place)
-    → xor.Represents is_linked Joins (table links) l s → IsXorAt s at → XorStands table links l at
+    → xor.Represents is_linked HasNeighbors (table links) l s → IsXorAt s at → XorStands table links l at
 knows {table = table} {links = links} {l = l'} s shown at = record {
   gap = at.0;
-  shown = subst (xor.Represents is_linked Joins (table links) l') (sym at.1) shown;
+  shown = subst (xor.Represents is_linked HasNeighbors (table links) l') (sym at.1) shown;
   after = at.2;
   caches = λ q on. at.3;
 }
@@ -63,12 +63,12 @@ caches_next None next caches = tt
 caches_next (Some at) next caches = caches at.place refl
 
 pub known : {L : Type 0} {table : L → Table Entry} {links : L} {l : Ends} {at : Option PlaceAndNext} (s : List Place)
-    → xor.Represents is_linked Joins (table links) l s → XorStands table links l at → IsXorAt s at
+    → xor.Represents is_linked HasNeighbors (table links) l s → XorStands table links l at → IsXorAt s at
 known {at = at'} s shown k = (k.gap, one_sequence_is_represented xor_kind k.shown shown, k.after, caches_next at' _ k.caches)
 
 -- the place that it keeps is the one after its member
 pub next_known : {L : Type 0} {table : L → Table Entry} {links : L} {l : Ends} {at : Option PlaceAndNext} {p : Place} {next : Option Place} {s : List Place}
-    → xor.Represents is_linked Joins (table links) l s → XorStands table links l at → member_of at ≡ Some p → IfSome at (λ a. next ≡ a.next)
+    → xor.Represents is_linked HasNeighbors (table links) l s → XorStands table links l at → member_of at ≡ Some p → IfSome at (λ a. next ≡ a.next)
     → (gap : Cut) → join gap ≡ s → IsBefore gap (Some p) → next ≡ first (drop 1 gap.back)
 next_known {at = None} {p = p} shown k on is gap cut before = absurd (none_not p on)
 next_known {table = table} {links = links} {l = l'} {at = Some a} {p = p} {s = s} shown k on is gap cut before =

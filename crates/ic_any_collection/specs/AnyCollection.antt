@@ -1,4 +1,4 @@
--- The collections of all kinds: which sequence a table represents for one, and where its cursor stands.
+-- The collections of all kinds: the sequence that a table represents for a collection, and the position of its cursor.
 use Rattle.std.specs.Prelude.{◌≡◌, true, Option, List}
 use Rattle.ic_link_ops.specs.Prelude.{Place, Cut, join, first, IsAfter, Table}
 use Rattle.ic_link_ops.specs.LinkedList as doubly
@@ -13,22 +13,21 @@ use Rattle.ic_any_collection.specs.declared.kind.Kind.{Kind}
 use Rattle.ic_any_collection.specs.declared.kind.Kind.TheVariants as kind
 use Rattle.ic_any_collection.specs.Kinds.{carries}
 pub use Rattle.ic_any_collection.specs.Kinds.{has_before, is_list, is_two_way_list, is_singly, is_xor, has_pointer, is_tree}
-use Rattle.ic_any_collection.specs.Entries.{is_linked, neighbors, successor, node, Joins, other, kind_of}
+use Rattle.ic_any_collection.specs.Entries.{is_linked, neighbors, successor, node, HasNeighbors, other, kind_of}
 use Rattle.ic_any_collection.specs.declared.any_collection.AnyCollection.{AnyCollection}
 use Rattle.ic_any_collection.specs.declared.any_collection.AnyCollection.TheVariants.{Singly, Doubly, Xor, Tree}
 
--- the position is one of s: there is a gap after it
+-- the position is one of s: null, or a member, so that there is a gap after it
 abbrev pub IsAt : List Place → Option Place → Type 0
 IsAt s position = (gap : Cut) × (join gap ≡ s) × IsAfter gap position
 
--- so it is for a position of an XOR list, and the place that it keeps is the one after that gap
+-- the same for a position of an XOR list, which also keeps the place after that gap
 abbrev pub IsXorAt : List Place → Option PlaceAndNext → Type 0
 IsXorAt s at = (gap : Cut) × (join gap ≡ s) × IsAfter gap (member_of at) × CachesNext at (first gap.back)
 
 module _ {V : Type 0} where
-  -- FOR EACH KIND, of which `l` is the list and `at` the position of its cursor: its name, the member that the cursor is on, which
-  -- sequence a table represents, the walk that finds it, and where the cursor stands in it: in an XOR list with the place after it, which
-  -- it keeps
+  -- FOR EACH KIND, with the list `l` and the position `at` of its cursor: its name, the member that the cursor is on, the sequence that a table
+  -- represents, the walk that finds this sequence, and the position of the cursor in it. The cursor of an XOR list also keeps the place after it
   abbrev pub kind_in : AnyCollection V → Kind
   kind_in (Singly l at) = kind.Singly
   kind_in (Doubly l at) = kind.Doubly
@@ -44,7 +43,7 @@ module _ {V : Type 0} where
   abbrev pub RepresentsIn : Table Entry → AnyCollection V → List Place → Type 0
   RepresentsIn t (Singly l at) s = singly.Represents successor t l s
   RepresentsIn t (Doubly l at) s = doubly.Represents neighbors t l s
-  RepresentsIn t (Xor l at) s = xor.Represents is_linked Joins t l s
+  RepresentsIn t (Xor l at) s = xor.Represents is_linked HasNeighbors t l s
   RepresentsIn t (Tree l at) s = tree.Represents node t (root_of l) s
 
   abbrev pub members_in : Table Entry → AnyCollection V → List Place
@@ -59,13 +58,13 @@ module _ {V : Type 0} where
   IsCursorIn s (Xor l at) = IsXorAt s at
   IsCursorIn s (Tree l at) = IsAt s at
 
-  -- THE TABLE KEEPS s for the collection: it carries its kind, represents s, and the cursor stands in s
+  -- THE TABLE KEEPS s for the collection: the table can serve its kind and represents s, and the cursor is at a position of s
   pub record Keeps (t : Table Entry) (m : AnyCollection V) (s : List Place) : Type 0 where
     pub carried : carries (kind_of t) (kind_in m) ≡ true
     pub shown : RepresentsIn t m s
     pub stands : IsCursorIn s m
 
-  -- it keeps what the walk finds: what every call asks
+  -- the table keeps the sequence that the walk finds, as every call requires
   abbrev pub Held : Table Entry → AnyCollection V → Type 0
   Held t m = Keeps t m (members_in t m)
 

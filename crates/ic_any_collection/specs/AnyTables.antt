@@ -1,4 +1,4 @@
--- What clauses see of a field's table, of whatever kind.
+-- What contracts see of a field's table of any kind.
 use Rattle.std.specs.Prelude.{refl}
 use Rattle.ic_link_ops.specs.Prelude.{Place, index_of, Table, IsLinked, IsCovered}
 use Rattle.ic_link_ops.specs.Links.{link_of}
@@ -14,13 +14,13 @@ use Rattle.ic_any_collection.specs.Entries.{of_one, read, is_linked}
 use Rattle.ic_any_collection.specs.TablesWithPrev as with_prev
 
 module _ {M : Type 0} where
-  -- covers and entries
+  -- how many places the table covers, and its entries
   abbrev pub table_in : AnyTable M → Table Entry
   table_in (Singly t) = read kind.Singly of_one (table wide one.no_word t)
   table_in (Xor t) = read kind.Xor of_one (table wide one.no_word t)
   table_in (WithPrev t) = with_prev.table_in t
 
-  -- a linked place is covered
+  -- the table covers every linked place
   pub covered_where_linked : (t : AnyTable M) (p : Place) → IsLinked is_linked (table_in t) p → IsCovered (table_in t) p
   covered_where_linked (Singly t) p h = linked_in_range (linked_by one.has_word) (link_of one.no_word) refl (entries t) (index_of p) h
   covered_where_linked (Xor t) p h = linked_in_range (linked_by one.has_word) (link_of one.no_word) refl (entries t) (index_of p) h

@@ -1,4 +1,4 @@
--- What the calls of a collection leave, in the same words for every kind.
+-- What the calls of a collection leave. The definitions are the same for every kind.
 use Rattle.std.specs.Prelude.{◌≡◌, Bool, true, false, Option, Some, None, List, [], ◌∷◌, ◌++◌}
 use Rattle.ic_link_ops.specs.Prelude.{Place, Cut, join, insert, remove, replace, splice, first, Table, ChangesOnlyIn, IsLinked, KeepsLinked, LinksAlso, Unlinks, TraceIs, acquires, releases, releases_each}
 use Rattle.ic_any_collection.specs.declared.entry.Entry.{Entry}
@@ -8,13 +8,13 @@ use Rattle.ic_any_collection.specs.AnyTables.{table_in}
 use Rattle.ic_any_collection.specs.declared.any_collection.AnyCollection.{AnyCollection}
 use Rattle.ic_any_collection.specs.AnyCollection.{cursor_in, members_in, Keeps, Alike}
 
--- the members are cut at a gap, of which the rest holds
+-- there is a gap at which the members are cut, and the rest of the statement holds of it
 abbrev pub AtGap : List Place → (Cut → Type 0) → Type 0
 AtGap s Rest = (gap : Cut) × (join gap ≡ s) × Rest gap
 
--- `t`, `t'`: the table before a call and after it. `m`, `m'`: the collection
+-- `t`, `t'`: the table before a call and after it. `m`, `m'`: the collection before and after
 module _ {V : Type 0} where
-  -- THE COLLECTION HAS MOVED ITS CURSOR, if anything: its kind and members stay
+  -- ONLY THE CURSOR OF THE COLLECTION MAY HAVE MOVED: its kind and members are as before
   pub record Moves (t : Table Entry) (m m' : AnyCollection V) (cursor : Option Place) : Type 0 where
     pub kept : Keeps t m' (members_in t m)
     pub alike : Alike m m'
@@ -25,41 +25,41 @@ module _ {V : Type 0} where
   IsUnchanged links links' m m' = (links' ≡ links) × Moves (table_in links) m m' (cursor_in m)
 
   module _ (t t' : Table Entry) (m m' : AnyCollection V) where
-    -- THE COLLECTION HAS s AS ITS MEMBERS NOW, its cursor is there, and nothing but entries of `touched` is changed
+    -- THE COLLECTION NOW HAS THE MEMBERS s and its cursor at this position, and only entries of `touched` have changed
     pub record Leaves (s : List Place) (cursor : Option Place) (touched : List Place) : Type 0 where
       pub kept : Keeps t' m' s
       pub alike : Alike m m'
       pub cursor_is : cursor_in m' ≡ cursor
       pub frame : ChangesOnlyIn t t' touched
 
-    -- p, which was unlinked, is put into the gap
+    -- p, which was unlinked, is inserted into the gap
     pub record Puts (gap : Cut) (p : Place) (cursor : Option Place) : Type 0 where
       pub leaves : Leaves (insert gap p) cursor (p ∷ members_in t m)
       pub links : LinksAlso is_linked t t' p
 
-    -- the member p after the gap is taken out, and unlinked
+    -- the member p after the gap is removed and unlinked
     pub record Takes (gap : Cut) (p : Place) (cursor : Option Place) : Type 0 where
       pub there : first gap.back ≡ Some p
       pub leaves : Leaves (remove gap) cursor (members_in t m)
       pub links : Unlinks is_linked t t' p
 
-    -- p, which was unlinked, stands where the member `out` stood, after the gap, which is unlinked
+    -- p, which was unlinked, replaces the member `out` after the gap, which is unlinked
     pub record Swaps (gap : Cut) (p out : Place) (cursor : Option Place) : Type 0 where
       pub there : first gap.back ≡ Some out
       pub leaves : Leaves (replace gap p) cursor (p ∷ members_in t m)
       pub links : TraceIs is_linked t t' (acquires p ∷ releases out ∷ [])
 
-    -- all members are taken out, and unlinked
+    -- all members are removed and unlinked
     pub record Empties : Type 0 where
       pub leaves : Leaves [] None (members_in t m)
       pub links : TraceIs is_linked t t' (releases_each (members_in t m))
 
-    -- all of r is put into the gap, and stays linked
+    -- all members of r are inserted into the gap, and stay linked
     pub record PutsAll (gap : Cut) (r : List Place) : Type 0 where
       pub leaves : Leaves (splice gap r) (cursor_in m) (splice gap r)
       pub links : KeepsLinked is_linked t t'
 
-    -- one part stays and the other, in a collection of its own, is handed out; both stay linked
+    -- the collection keeps one part, and the other becomes a new collection that is returned. All members stay linked
     pub record Parts (kept handed : List Place) (part : AnyCollection V) : Type 0 where
       pub leaves : Leaves kept (cursor_in m) (kept ++ handed)
       pub hands_out : Keeps t' part handed
@@ -67,12 +67,12 @@ module _ {V : Type 0} where
       pub null : cursor_in part ≡ None
       pub links : KeepsLinked is_linked t t'
 
-  -- THE MEMBER AFTER THE GAP, if there is one, is taken out. Where there is none, the cursor alone is there
+  -- THE MEMBER AFTER THE GAP is removed, if there is one. If there is none, only the cursor moves to its new position
   abbrev pub TakesIfAny : {M : Type 0} → (links links' : AnyTable M) → (m m' : AnyCollection V) → Cut → Option Place → Option Place → Type 0
   TakesIfAny links links' m m' gap cursor None = (links' ≡ links) × Moves (table_in links) m m' cursor
   TakesIfAny links links' m m' gap cursor (Some p) = Takes (table_in links) (table_in links') m m' gap p cursor
 
-  -- it is swapped for p, if p's link is acquired. Otherwise nothing has changed
+  -- THE MEMBER AFTER THE GAP is replaced by p, if the link of p can be acquired. Otherwise nothing has changed
   abbrev pub SwapsIfAny : {M : Type 0} → (links links' : AnyTable M) → (m m' : AnyCollection V) → Cut → Place → Option Place → Option Place → Bool → Type 0
   SwapsIfAny links links' m m' gap p cursor None acquired = IsUnchanged links links' m m'
   SwapsIfAny links links' m m' gap p cursor (Some out) false = IsLinked is_linked (table_in links) p × IsUnchanged links links' m m'

@@ -1,10 +1,10 @@
--- The kinds of tables and of collections, and which table carries which collection.
+-- The kinds of tables and of collections, and which kind of table can serve which kind of collection.
 use Rattle.std.specs.Prelude.{ℕ, Bool, true, false, List, [], ◌∷◌}
 use Rattle.std.proofs.Common.{zero, suc}
 use Rattle.ic_any_collection.specs.declared.kind.Kind.{Kind}
 use Rattle.ic_any_collection.specs.declared.kind.Kind.TheVariants.{Singly, Doubly, Xor, Tree}
 
--- the kinds as numbers, by which the extent of a table tells its kind
+-- the kinds as numbers. The extent of a table contains its kind in this form
 abbrev pub number_of : Kind → ℕ
 number_of Singly = 0
 number_of Doubly = 1
@@ -18,7 +18,7 @@ kind_with (suc zero ∷ rest) = Doubly
 kind_with (suc (suc zero) ∷ rest) = Xor
 kind_with (suc (suc (suc n)) ∷ rest) = Tree
 
--- whether a table of the first kind carries collections of the second
+-- whether a table of the first kind can serve collections of the second
 abbrev pub carries : Kind → Kind → Bool
 carries table Singly = true
 carries table Xor = true
@@ -31,21 +31,21 @@ carries Singly Tree = false
 carries Doubly Tree = false
 carries Xor Tree = false
 
--- which kinds have calls at the position before the cursor: all but singly linked lists
+-- which kinds have calls at the position before the cursor: all except singly linked lists
 abbrev pub has_before : Kind → Bool
 has_before Singly = false
 has_before Doubly = true
 has_before Xor = true
 has_before Tree = true
 
--- which kinds are lists: their gaps can be cut, and lists put into them
+-- which kinds are lists, which can be cut at a gap and spliced into one
 abbrev pub is_list : Kind → Bool
 is_list Singly = true
 is_list Doubly = true
 is_list Xor = true
 is_list Tree = false
 
--- both
+-- which kinds are lists that have calls at the position before the cursor
 abbrev pub is_two_way_list : Kind → Bool
 is_two_way_list Singly = false
 is_two_way_list Doubly = true
@@ -64,7 +64,7 @@ is_xor Doubly = false
 is_xor Xor = true
 is_xor Tree = false
 
--- which kinds have a cursor made on a member from its place alone: all but XOR lists, where a neighbor must be told
+-- which kinds can make a cursor on a member from its place alone: all except XOR lists, which need a neighbor as well
 abbrev pub has_pointer : Kind → Bool
 has_pointer Singly = true
 has_pointer Doubly = true

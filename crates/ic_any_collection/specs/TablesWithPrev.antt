@@ -1,4 +1,4 @@
--- What clauses see of a table with a place before in each entry.
+-- What contracts see of a table whose entries also name the previous place.
 use Rattle.std.specs.Prelude.{refl}
 use Rattle.ic_link_ops.specs.Prelude.{Place, index_of, Table, IsLinked, IsCovered}
 use Rattle.ic_link_ops.specs.Links.{link_of}
@@ -19,7 +19,7 @@ module _ {M : Type 0} where
   table_in (Doubly t) = read kind.Doubly of_two (table wide two.no_words t)
   table_in (Tree t) = read kind.Tree of_three (tree.table_in t)
 
-  -- a linked place is covered
+  -- the table covers every linked place
   pub covered_where_linked : (t : TableWithPrev M) (p : Place) → IsLinked is_linked (table_in t) p → IsCovered (table_in t) p
   covered_where_linked (Doubly t) p h = linked_in_range (linked_by two.has_words) (link_of two.no_words) refl (entries t) (index_of p) h
   covered_where_linked (Tree t) p h = linked_in_range (linked_by three.has_link) (link_of three.no_words) refl (entries t) (index_of p) h

@@ -1,4 +1,4 @@
--- What clauses see of a table of tree links, in its own words.
+-- What contracts see of a table of tree links, in the terms of trees.
 use Rattle.std.specs.Prelude.{Bool, ⊤}
 use Rattle.ic_link_ops.specs.Prelude.{Table}
 use Rattle.ic_link_ops.specs.Links.{words_of}

@@ -1,4 +1,4 @@
-//! A collection of any kind: what it is made as, its kind and its cursor.
+//! A collection of any kind: how it is made, its kind and its cursor.
 //!
 //! ```text
 //! let mut queue = AnyCollection::new(Kind::Doubly);
@@ -22,7 +22,7 @@ use ic_singly_linked_list::SinglyLinkedList;
 use ic_unsafe_ref::Place;
 use ic_xor_linked_list::{PositionWithNext, XorLinkedList};
 
-/// A collection of one of the kinds, and where its cursor is: null, or on a member.
+/// A collection of one of the kinds, with the position of its cursor: null, or on a member.
 #[derive(Drop)]
 pub enum AnyCollection<T> {
     /// A singly linked list.
@@ -38,7 +38,7 @@ pub enum AnyCollection<T> {
 impl<T> AnyCollection<T> {
     ghost use Rattle.ic_any_collection.specs.AnyCollection.{kind_in, cursor_in, Keeps};
 
-    /// An empty collection of that kind, with its cursor at null. It takes no memory.
+    /// Makes an empty collection of this kind, with its cursor at null. It takes no memory.
     #[inline]
     pub fn new(kind: Kind) -> AnyCollection<T>
         ensures kind { kind_in result ≡ kind }
@@ -54,7 +54,7 @@ impl<T> AnyCollection<T> {
         }
     }
 
-    /// The kind of the collection.
+    /// Returns the kind of the collection.
     #[inline]
     pub fn kind(&self) -> Kind
         ensures { result ≡ kind_in self.now }
@@ -67,7 +67,7 @@ impl<T> AnyCollection<T> {
         }
     }
 
-    /// The place of the member that the cursor is on, `None` at null.
+    /// Returns the place of the member that the cursor is on, or `None` if the cursor is at null.
     #[inline]
     pub fn cursor(&self) -> Option<Place>
         ensures { result ≡ cursor_in self.now }

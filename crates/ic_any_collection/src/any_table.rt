@@ -1,4 +1,4 @@
-//! The table of a link field, of any of the four kinds. Each carries singly linked and XOR lists.
+//! The table of a link field, of any of the four kinds. Every kind of table can serve singly linked lists and XOR lists.
 //!
 //! ```text
 //! let mut links = AnyTable::new(rt.alloc(), Kind::Xor);
@@ -18,7 +18,7 @@ use ic_link_ops::{CoverError, LinkOps, linked_list, rbtree, singly_linked_list, 
 use ic_unsafe_ref::Place;
 use std::alloc::{Allocator, Global};
 
-/// The table of a link field. No call makes it one of another kind.
+/// The table of a link field. No call changes its kind.
 #[derive(Drop)]
 pub enum AnyTable<M: Allocator = Global> {
     /// A table of singly links.
@@ -33,7 +33,7 @@ impl<M: Allocator> AnyTable<M> {
     ghost use Rattle.ic_any_collection.specs.Entries.{is_linked, kind_of};
     ghost use Rattle.ic_any_collection.specs.AnyTables.{table_in};
 
-    /// A table of that kind which covers no place. It takes no memory.
+    /// Makes a table of this kind that covers no place. It takes no memory.
     pub fn new(alloc: M, kind: Kind) -> AnyTable<M>
         ensures covers { (table_in result).extent.places ≡ 0 }
         ensures kind { kind_of (table_in result) ≡ kind }
@@ -46,7 +46,7 @@ impl<M: Allocator> AnyTable<M> {
         }
     }
 
-    /// The kind of the table.
+    /// Returns the kind of the table.
     #[inline]
     pub fn kind(&self) -> Kind
         ensures { result ≡ kind_of (table_in self.now) }
@@ -59,7 +59,7 @@ impl<M: Allocator> AnyTable<M> {
         }
     }
 
-    /// How many places are covered: those with a smaller index.
+    /// Returns how many places the table covers: it covers those with a smaller index.
     #[inline]
     pub fn covers(&self) -> usize
         ensures { result ≡ (table_in self.now).extent.places }
@@ -72,7 +72,7 @@ impl<M: Allocator> AnyTable<M> {
         }
     }
 
-    /// Whether `place` is linked. It requires that the place is covered. O(1).
+    /// Returns whether `place` is linked. It requires that the table covers the place. O(1).
     #[inline]
     pub fn is_linked(&self, place: Place) -> bool
         requires covered { IsCovered (table_in self.now) place }
@@ -86,9 +86,9 @@ impl<M: Allocator> AnyTable<M> {
         }
     }
 
-    /// Unlinks `place`, whoever linked it. An unlinked place stays so. It requires that the place is covered. O(1).
+    /// Unlinks `place`, whichever collection linked it. An unlinked place stays unlinked. It requires that the table covers the place. O(1).
     ///
-    /// Every other entry stays, so each collection of which the place is no member keeps its sequence.
+    /// Every other entry stays as it is, so each collection of which the place is not a member keeps its sequence.
     #[inline]
     pub fn force_unlink(&mut self, place: Place)
         requires covered { IsCovered (table_in self.old) place }
@@ -105,8 +105,8 @@ impl<M: Allocator> AnyTable<M> {
 
     /// Covers the first `count` places, with an unlinked entry for each that is new.
     ///
-    /// It is refused above 4,294,967,296 places, and where no memory is found; then nothing has changed. The entries that are
-    /// there stay, and where `count` is smaller than what is covered nothing changes. At most one request for memory.
+    /// It is refused if `count` is above 4,294,967,296 or there is not enough memory. Then nothing has changed. Existing entries stay, and if the
+    /// table already covers `count` places, nothing changes. It makes at most one request for memory.
     pub fn cover(&mut self, count: usize) -> Result<(), CoverError>
         ensures too_many { (result ≡ Err CoverError.TooManyPlaces) ↔ 4294967296 < count }
         ensures covers { OnOk result ((table_in self.new).extent.places ≡ max (table_in self.old).extent.places count) }
@@ -219,10 +219,10 @@ impl<M: Allocator> SinglyLinkedListOps for AnyTable<M> {
 }
 
 impl<M: Allocator> XorLinkedListOps for AnyTable<M> {
-    ghost use Rattle.ic_any_collection.specs.Entries.{Joins, other};
+    ghost use Rattle.ic_any_collection.specs.Entries.{HasNeighbors, other};
     ghost use Rattle.ic_link_ops.specs.XorLaws.{joins_symmetric, joins_one_other, joins_finds_other};
 
-    ghost Joins = { Joins };
+    ghost HasNeighbors = { HasNeighbors };
 
     ghost other = { other };
 

@@ -23,7 +23,7 @@ use ic_cursors::{Bidirectional, Collection, CursorOps, ForwardOnly, Position};
 use ic_link_ops::LinkOps;
 use ic_unsafe_ref::{Place, UnsafeRef};
 
-// The position from which an edit at the gap is made.
+// Returns the position from which an edit at the gap is made.
 #[inline]
 fn start<C: Collection>(list: &C, gap: Gap, at: &C::Position) -> C::Position
     ensures start { result ≡ from gap (C.null_of list.now) at.now }
@@ -35,7 +35,7 @@ fn start<C: Collection>(list: &C, gap: Gap, at: &C::Position) -> C::Position
     }
 }
 
-// Moves the cursor's position there, where an object's link was acquired.
+// Moves the cursor to its position after an edit, if the object's link was acquired.
 #[inline]
 fn settled<P: Position>(at: &mut P, there: P, acquired: bool) -> bool
     ensures same { result ≡ acquired }
@@ -48,7 +48,7 @@ fn settled<P: Position>(at: &mut P, there: P, acquired: bool) -> bool
     acquired
 }
 
-/// Puts the object into a gap that is after a position, and returns whether its link was acquired.
+/// Inserts the object into a gap that is after a position, and returns whether its link was acquired.
 #[inline(always)]
 pub(crate) fn insert_after<C: CursorOps<L>, L: LinkOps>(
     list: &mut C,
@@ -68,7 +68,7 @@ pub(crate) fn insert_after<C: CursorOps<L>, L: LinkOps>(
     settled(at, there, acquired)
 }
 
-/// Puts the object into the gap, and returns whether its link was acquired.
+/// Inserts the object into the gap, and returns whether its link was acquired.
 #[inline(always)]
 pub(crate) fn insert<C: Bidirectional<L>, L: LinkOps>(
     list: &mut C,
@@ -90,7 +90,7 @@ pub(crate) fn insert<C: Bidirectional<L>, L: LinkOps>(
     settled(at, there, acquired)
 }
 
-/// Takes the member out that is after the position, and returns it.
+/// Removes the member after the position, and returns it.
 #[inline(always)]
 pub(crate) fn remove_after<C: ForwardOnly<L>, L: LinkOps>(
     list: &mut C,
@@ -109,7 +109,7 @@ pub(crate) fn remove_after<C: ForwardOnly<L>, L: LinkOps>(
     out
 }
 
-// The place of an object, if there is one.
+// Returns the place of an object, if there is one.
 #[inline]
 fn place_of<T>(object: Option<UnsafeRef<T>>) -> Option<Place>
     ensures { result ≡ object }
@@ -120,7 +120,7 @@ fn place_of<T>(object: Option<UnsafeRef<T>>) -> Option<Place>
     }
 }
 
-/// Takes the member out that is meant at a gap of a list that leads both ways, and returns it.
+/// Removes the member that a gap means in a list whose links lead both ways, and returns it.
 #[inline(always)]
 pub(crate) fn remove<K: DoubleEnded + BidirectionalLinks<L>, T, L: LinkOps>(
     list: &mut Chain<K, T>,
@@ -150,7 +150,7 @@ pub(crate) fn remove<K: DoubleEnded + BidirectionalLinks<L>, T, L: LinkOps>(
     }
 }
 
-/// Swaps the member that the position is on for the object, and returns it, with whether the object's link was acquired.
+/// Replaces the member at the position by the object. It returns the member, and whether the object's link was acquired.
 #[inline(always)]
 pub(crate) fn replace<C: Bidirectional<L>, L: LinkOps>(
     list: &mut C,

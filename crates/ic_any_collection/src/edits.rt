@@ -24,10 +24,10 @@ impl<T> AnyCollection<T> {
     ghost use Rattle.ic_any_collection.specs.AnyCollection.{kind_in, cursor_in, members_in, Held};
     ghost use Rattle.ic_any_collection.specs.Edits.{AtGap, Puts, TakesIfAny, SwapsIfAny, IsUnchanged};
 
-    /// Puts the object into the gap, and returns whether its link was acquired: an object that is linked changes nothing. At an end of a
-    /// list the cursor goes to null, elsewhere it stays. O(1), in a tree O(log n).
+    /// Inserts the object into the gap, and returns whether its link was acquired: if the object is already linked, nothing changes. If the gap is an
+    /// end of a list, the cursor goes to null, otherwise it stays. O(1), in a tree O(log n).
     ///
-    /// It requires that the kind has the gap, as [`Gap::can_insert`] says, and that the object's place is covered.
+    /// It requires that the kind has the gap, as [`Gap::can_insert`] says, and that the table covers the object's place.
     #[inline(always)]
     pub fn insert<M: Allocator>(&mut self, links: &mut AnyTable<M>, gap: Gap, object: Place) -> bool
         requires held { Held (table_in links.old) self.old }
@@ -45,8 +45,8 @@ impl<T> AnyCollection<T> {
         }
     }
 
-    /// Takes the member out that is meant at the gap, and returns it, `None` where there is none. At an end of a list the cursor goes to
-    /// null; where it is on the member, it goes on to the next one. O(1), in a tree O(log n).
+    /// Removes the member that the gap means, and returns it, or `None` if there is none. If the gap is an end of a list, the cursor goes to null. If
+    /// the cursor is on the member, it goes on to the next one. O(1), in a tree O(log n).
     ///
     /// It requires that the kind has the call, as [`Gap::can_remove`] says.
     #[inline(always)]
@@ -64,10 +64,10 @@ impl<T> AnyCollection<T> {
         }
     }
 
-    /// Swaps the member that is meant at the gap for the object, and returns it, with whether the object's link was acquired. A cursor that
-    /// was on the member is on the object then. Where there is no member, and where the object is linked, nothing has changed. O(1).
+    /// Replaces the member that the gap means by the object. It returns the member, and whether the object's link was acquired. A cursor that was on
+    /// the member is then on the object. If there is no member, or if the object is linked, nothing has changed. O(1).
     ///
-    /// It requires that the kind has the call, as [`Gap::can_replace`] says, and that the object's place is covered.
+    /// It requires that the kind has the call, as [`Gap::can_replace`] says, and that the table covers the object's place.
     #[inline(always)]
     pub fn replace<M: Allocator>(
         &mut self,

@@ -1,4 +1,4 @@
-//! What a clause sees of a place in a table, whatever kind of table it is.
+//! What a contract sees of a place in a table of any kind.
 //!
 //! ```text
 //! (table_in links).entry place // an Entry: `linked`, the word for what follows, ..
@@ -7,17 +7,17 @@
 use ic_link_ops::Color;
 use ic_unsafe_ref::Place;
 
-/// What an entry says, in the words of every kind of table. It stands in clauses alone: no table keeps it.
+/// What an entry contains, for every kind of table. Only contracts use this type: no table stores it.
 #[derive(Clone, Copy)]
 pub struct Entry {
     /// Whether the place is linked.
     pub linked: bool,
-    /// The word for what follows: that of a place, or the exclusive or of two.
+    /// The word for the next place, or in a table of XOR links the exclusive or of the words of both neighbors.
     pub word: u64,
-    /// The place before: none in a table that keeps none.
+    /// The previous place, or none in a table that does not store it.
     pub prev: Option<Place>,
-    /// The place above: none in a table that keeps none.
+    /// The parent, or none in a table that does not store it.
     pub parent: Option<Place>,
-    /// The color: red in a table that keeps none.
+    /// The color, or red in a table that does not store it.
     pub color: Color,
 }

@@ -1,4 +1,4 @@
-//! The gaps of a collection that a call may be meant for.
+//! The gaps of a collection at which a call can edit.
 //!
 //! ```text
 //! queue.insert(&mut field, Gap::Back, place) // after all members
@@ -10,22 +10,22 @@ ghost use Rattle.ic_any_collection.specs.Gaps as gaps;
 
 use crate::kind::Kind;
 
-/// A gap of a collection. A call that means a member means the one after the gap, and at the back the one before it.
+/// A gap of a collection. A call that removes or replaces a member takes the one after the gap, or the last member if the gap is at the back.
 #[derive(Clone, Copy)]
 pub enum Gap {
-    /// Before all members.
+    /// The gap before all members.
     Front,
-    /// After all members.
+    /// The gap after all members.
     Back,
-    /// Before the cursor, at null after all.
+    /// The gap before the cursor, or after all members if the cursor is at null.
     Before,
-    /// After the cursor, at null before all.
+    /// The gap after the cursor, or before all members if the cursor is at null.
     After,
 }
 
 impl Gap {
-    /// Whether collections of this kind have objects put into the gap: at its front a list, at its back a list that leads both ways, before
-    /// the cursor all but singly linked lists, and after it each.
+    /// Returns whether collections of this kind can insert objects into the gap. All lists can at the front, lists whose links lead both ways at the
+    /// back, all kinds except singly linked lists before the cursor, and all kinds after the cursor.
     #[inline]
     pub fn can_insert(self, kind: Kind) -> bool
         ensures { result ≡ gaps.can_insert self kind }
@@ -38,8 +38,8 @@ impl Gap {
         }
     }
 
-    /// Whether collections of this kind have the member there taken out: as objects are put in, but after the cursor singly linked lists
-    /// alone.
+    /// Returns whether collections of this kind can remove the member there. They can at each gap at which they can insert, with one exception: after
+    /// the cursor only singly linked lists can.
     #[inline]
     pub fn can_remove(self, kind: Kind) -> bool
         ensures { result ≡ gaps.can_remove self kind }
@@ -50,8 +50,8 @@ impl Gap {
         }
     }
 
-    /// Whether collections of this kind have the member there swapped for an object: the one that the cursor is on, and in a singly linked
-    /// list the one after it.
+    /// Returns whether collections of this kind can replace the member there by an object: the member that the cursor is on, or in a singly linked
+    /// list the member after it.
     #[inline]
     pub fn can_replace(self, kind: Kind) -> bool
         ensures { result ≡ gaps.can_replace self kind }
@@ -62,7 +62,7 @@ impl Gap {
         }
     }
 
-    // Whether what goes into the gap goes after a position, that of the cursor or null.
+    // Returns whether an insertion into the gap is made after a position, which is that of the cursor or null.
     #[inline]
     pub(crate) fn is_after(self) -> bool
         ensures { result ≡ gaps.is_after self }

@@ -1,4 +1,4 @@
-//! The table inside a field's table, for the calls of the kinds that need more than each table carries.
+//! The table inside a field's table, for the calls of doubly linked lists and trees, which not every kind of table can serve.
 //!
 //! ```text
 //! tree.remove_at(links.tree_mut(), at) // proved: the field carries trees
@@ -20,7 +20,7 @@ use ic_link_ops::rbtree;
 use std::alloc::Allocator;
 
 impl<M: Allocator> AnyTable<M> {
-    /// The table with a place before in each entry. It requires that the field carries doubly linked lists.
+    /// Returns the table whose entries also name the previous place. It requires that the field's table can serve doubly linked lists.
     #[inline(always)]
     pub(crate) fn with_prev(&self) -> &TableWithPrev<M>
         requires carried { carries (kind_of (table_in self.now)) kind.Doubly ≡ true }
@@ -32,7 +32,7 @@ impl<M: Allocator> AnyTable<M> {
         }
     }
 
-    /// That table, to be changed.
+    /// Returns the same table by a mutable reference.
     #[inline(always)]
     pub(crate) fn with_prev_mut(&mut self) -> &mut TableWithPrev<M>
         requires carried { carries (kind_of (table_in self.old)) kind.Doubly ≡ true }
@@ -45,7 +45,7 @@ impl<M: Allocator> AnyTable<M> {
         }
     }
 
-    /// The table of tree links. It requires that the field carries trees.
+    /// Returns the table of tree links. It requires that the field's table can serve trees.
     #[inline(always)]
     pub(crate) fn tree(&self) -> &rbtree::LinkOps<M>
         requires carried { carries (kind_of (table_in self.now)) kind.Tree ≡ true }
@@ -57,7 +57,7 @@ impl<M: Allocator> AnyTable<M> {
         }
     }
 
-    /// That table, to be changed.
+    /// Returns the same table by a mutable reference.
     #[inline(always)]
     pub(crate) fn tree_mut(&mut self) -> &mut rbtree::LinkOps<M>
         requires carried { carries (kind_of (table_in self.old)) kind.Tree ≡ true }
@@ -69,7 +69,7 @@ impl<M: Allocator> AnyTable<M> {
 }
 
 impl<M: Allocator> TableWithPrev<M> {
-    /// The table of tree links, to be changed. It requires that the table carries trees.
+    /// Returns the table of tree links by a mutable reference. It requires that the table can serve trees.
     #[inline(always)]
     fn tree_mut(&mut self) -> &mut rbtree::LinkOps<M>
         requires carried { carries (kind_of (with_prev.table_in self.old)) kind.Tree ≡ true }

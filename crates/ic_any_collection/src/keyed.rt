@@ -1,4 +1,4 @@
-//! Keyed calls of a collection that is a tree. Each searches through a probe of the caller's, which alone compares, and counts how often.
+//! Keyed calls of a collection that is a tree. Each searches with a probe of the caller's, which makes all comparisons and counts them.
 //!
 //! ```text
 //! let mut probe = KeyProbe::new(adapter, &5);
@@ -35,7 +35,7 @@ use ic_rbtree::{Bound, Entry, Iter, KeyAdapter, KeyProbe, Probe, RBTree, Refused
 use ic_unsafe_ref::{Objects, Place, UnsafeRef, Values};
 use std::alloc::{AllocError, Allocator};
 
-// The places of the members that a walk has left, which stand side by side in the tree, in memory of `alloc`.
+// Returns the places of the members that a walk has not returned yet, which are consecutive in the tree, in memory of `alloc`.
 fn list_walk<A: KeyAdapter, L: RBTreeOps, O: Values<A::Value>, N: Allocator>(
     alloc: N,
     tree: &RBTree<A>,
@@ -64,10 +64,10 @@ impl<T> AnyCollection<T> {
     ghost use Rattle.ic_any_collection.specs.Edits.{Moves, Puts, IsUnchanged};
     ghost use Rattle.ic_any_collection.specs.Keyed.{PutsInOrder, PutsAtKey};
 
-    /// Puts the cursor on the first member that compares equal, null if there is none, and returns it.
+    /// Puts the cursor on the first member that compares equal, or to null if there is none, and returns that member.
     ///
-    /// It requires that this is a tree, that an object stands at each member, and that the probe's count is at most `u64::MAX - 66`.
-    /// O(log n): the probe is asked v times in a tree of n members, where `2^v <= (n + 1)^2`.
+    /// It requires that this is a tree, that there is an object at each member's place, and that the probe's count is at most `u64::MAX - 66`. O(log
+    /// n): in a tree of n members the probe compares at most 2 log2(n + 1) times.
     pub fn find_by<P: Probe<T>, M: Allocator, B: Allocator>(
         &mut self,
         links: &AnyTable<M>,
@@ -104,10 +104,11 @@ impl<T> AnyCollection<T> {
         }
     }
 
-    /// Puts the cursor on the first member that meets the bound, null if there is none, and returns it. `Unbounded` asks nothing.
+    /// Puts the cursor on the first member that meets the bound, or to null if there is none, and returns that member. For `Unbounded` it compares
+    /// nothing.
     ///
-    /// It requires what [`AnyCollection::find_by`] does, of the bound's probe. In a tree that isn't sorted for the probe the cursor is
-    /// on a border. O(log n).
+    /// It requires what [`AnyCollection::find_by`] does, of the bound's probe. If the tree is not sorted by the probe's order, the cursor is at a
+    /// point where the result of the comparison changes from one member to the next. O(log n).
     pub fn lower_bound_by<P: Probe<T>, M: Allocator, B: Allocator>(
         &mut self,
         links: &AnyTable<M>,
@@ -130,10 +131,11 @@ impl<T> AnyCollection<T> {
         position
     }
 
-    /// Puts the cursor on the last member that meets the bound, null if there is none, and returns it. `Unbounded` asks nothing.
+    /// Puts the cursor on the last member that meets the bound, or to null if there is none, and returns that member. For `Unbounded` it compares
+    /// nothing.
     ///
-    /// It requires what [`AnyCollection::find_by`] does, of the bound's probe. In a tree that isn't sorted for the probe the cursor is
-    /// on a border. O(log n).
+    /// It requires what [`AnyCollection::find_by`] does, of the bound's probe. If the tree is not sorted by the probe's order, the cursor is at a
+    /// point where the result of the comparison changes from one member to the next. O(log n).
     pub fn upper_bound_by<P: Probe<T>, M: Allocator, B: Allocator>(
         &mut self,
         links: &AnyTable<M>,
@@ -156,10 +158,10 @@ impl<T> AnyCollection<T> {
         position
     }
 
-    /// The members between two bounds, in memory of `alloc`. Each bound's probe is asked in a descent of its own.
+    /// Returns the members between two bounds, in memory of `alloc`. It makes a separate search with each bound's probe.
     ///
-    /// It requires that this is a tree, that an object stands at each member, that both probes have the adapter, and that their counts
-    /// are at most `u64::MAX - 66`. O(log n + answer).
+    /// It requires that this is a tree, that there is an object at each member's place, that both probes have the adapter, and that their counts are
+    /// at most `u64::MAX - 66`. O(log n + answer).
     pub fn range_by<A: KeyAdapter<Value = T>, M: Allocator, B: Allocator, N: Allocator>(
         &self,
         alloc: N,
@@ -191,11 +193,11 @@ impl<T> AnyCollection<T> {
         list_walk(alloc, &tree, links, walk)
     }
 
-    /// Puts the object where the probe's order wants it, after members that compare equal, and returns whether its link was acquired. Then
-    /// the cursor is on it. An object that is linked changes nothing, and asks nothing. O(log n).
+    /// Inserts the object at its position in the probe's order, after members that compare equal, and returns whether its link was acquired. Then the
+    /// cursor is on it. If the object is already linked, nothing changes, and the probe compares nothing. O(log n).
     ///
-    /// It requires that this is a tree, that an object stands at each member, that the place is covered, and that the probe's count is at
-    /// most `u64::MAX - 66`.
+    /// It requires that this is a tree, that there is an object at each member's place, that the table covers the place, and that the probe's count
+    /// is at most `u64::MAX - 66`.
     #[inline]
     pub fn insert_by<P: Probe<T>, M: Allocator, B: Allocator>(
         &mut self,
@@ -225,7 +227,7 @@ impl<T> AnyCollection<T> {
         true
     }
 
-    /// Puts the object where the probe's order wants it, after members that compare equal, and returns whether its link was acquired. The
+    /// Inserts the object at its position in the probe's order, after members that compare equal, and returns whether its link was acquired. The
     /// cursor stays. It requires what [`AnyCollection::insert_by`] does.
     pub fn cursor_insert_by<P: Probe<T>, M: Allocator, B: Allocator>(
         &mut self,
@@ -251,12 +253,12 @@ impl<T> AnyCollection<T> {
         put_in_order(tree, links.tree_mut(), objects, probe, object)
     }
 
-    /// Puts the cursor on the first member that compares equal, or puts the object into the gap where what is searched would stand
-    /// and the cursor on it. Answers whether a member compares equal, and that member or the object; `None` where none does and the
-    /// object is linked, and then neither tree nor links have changed.
+    /// Puts the cursor on the first member that compares equal, or else inserts the object into the gap where the searched key belongs and puts the
+    /// cursor on it. It returns whether a member compares equal, and that member or the object. If none does and the object is already linked, it
+    /// returns `None`, and neither tree nor links have changed.
     ///
-    /// It requires that this is a tree, that an object stands at each member, that the object's place is covered, and that the
-    /// probe's count is at most `u64::MAX - 66`. O(log n).
+    /// It requires that this is a tree, that there is an object at each member's place, that the object's place is covered, and that the probe's
+    /// count is at most `u64::MAX - 66`. O(log n).
     pub fn entry_by<P: Probe<T>, M: Allocator, B: Allocator>(
         &mut self,
         links: &mut AnyTable<M>,
@@ -292,7 +294,7 @@ impl<T> AnyCollection<T> {
     }
 }
 
-// Puts the object where the probe's order wants it, and returns whether its link was acquired.
+// Inserts the object at its position in the probe's order, and returns whether its link was acquired.
 #[inline]
 fn put_in_order<T, P: Probe<T>, M: Allocator, B: Allocator>(
     tree: &mut RBTree<Unkeyed<T>>,
@@ -320,7 +322,8 @@ fn put_in_order<T, P: Probe<T>, M: Allocator, B: Allocator>(
     true
 }
 
-// The first member that compares equal, or the object, which goes into the gap where the search ended; `None` where it is linked.
+// Returns the first member that compares equal, or else the object, which it inserts into the gap where the search ended. It returns `None` if the
+// object is already linked.
 fn put_at_key<T, P: Probe<T>, M: Allocator, B: Allocator>(
     tree: &mut RBTree<Unkeyed<T>>,
     links: &mut rbtree::LinkOps<M>,

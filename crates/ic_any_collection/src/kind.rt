@@ -6,26 +6,26 @@
 
 ghost use Rattle.std.specs.Prelude.{◌≡◌};
 
-/// A kind of tables, and of the collections that ask for all that such a table keeps.
+/// A kind of tables, and of the collections that need everything that such a table stores.
 #[derive(Clone, Copy, PartialEq, Eq, Debug)]
 pub enum Kind {
-    /// Singly linked: the place after.
+    /// Singly linked lists: an entry names the next place.
     Singly,
-    /// Doubly linked: the place after, and the one before.
+    /// Doubly linked lists: an entry names the next and the previous place.
     Doubly,
-    /// XOR linked: the exclusive or of both, in one word.
+    /// XOR linked lists: an entry has the exclusive or of both neighbors in one word.
     Xor,
-    /// Red-black trees: two children, the parent and a color.
+    /// Red-black trees: an entry names two children and the parent, and has a color.
     Tree,
 }
 
 impl Kind {
     ghost use Rattle.ic_any_collection.specs.Kinds.{carries};
 
-    /// Whether a table of this kind carries collections of that one.
+    /// Returns whether a table of this kind can serve collections of the other kind.
     ///
-    /// Each carries singly linked and XOR lists, those of doubly links and of trees doubly linked lists as well, and that of
-    /// trees each kind.
+    /// Every table can serve singly linked lists and XOR lists. Tables of doubly links and of tree links can also serve doubly linked lists, and
+    /// tables of tree links can serve every kind.
     #[inline]
     pub fn carries(self, collection: Kind) -> bool
         ensures { result ≡ carries self collection }

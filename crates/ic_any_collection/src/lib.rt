@@ -8,11 +8,11 @@
 //! queue.move_next(&links) // Some(place)
 //! ```
 //!
-//! An [`AnyTable`] is a table of any kind, and each carries singly linked and XOR lists. One that has a place before in each entry has
-//! a [`TableWithPrev`], which carries doubly linked lists, too, and the one of tree links carries trees.
+//! An [`AnyTable`] is a table of any kind, and every kind can serve singly linked lists and XOR lists. If its entries also name the previous place,
+//! it contains a [`TableWithPrev`], which can serve doubly linked lists, too. If it has tree links, it can also serve trees.
 //!
-//! An [`AnyCollection`] is a collection of any kind, with its cursor. Each call goes to the kind of the collection and to the table
-//! that carries it, and each is said in the same words for every kind. A call that a kind lacks requires that this is another kind.
+//! An [`AnyCollection`] is a collection of any kind, with its cursor. Each call is passed on to the collection's kind and to the table that serves
+//! it, and its contract is the same for every kind. If a kind lacks a call, the call requires that the collection is of another kind.
 #![tactic(auto)]
 
 mod any_collection;

@@ -17,7 +17,7 @@ use ic_link_ops::PlaceWord;
 use ic_unsafe_ref::Place;
 use std::alloc::Allocator;
 
-// Moves a position there, and returns the member that it is on.
+// Moves a position to that member or to null, and returns the member that it is on.
 #[inline]
 fn moved_to<P: Position>(at: &mut P, to: P) -> Option<Place>
     ensures moved { at.new ≡ to }
@@ -47,8 +47,8 @@ impl<T> AnyCollection<T> {
         }
     }
 
-    /// Moves the cursor to the next member, from null to the first one, and from the last one to null, and returns where it is. O(1), in
-    /// a tree O(log n).
+    /// Moves the cursor to the next member, from null to the first one, and from the last one to null, and returns the member that it is then on.
+    /// O(1), in a tree O(log n).
     ///
     /// It requires that the field's table keeps the collection, as all calls do that take the table.
     #[inline]
@@ -66,10 +66,10 @@ impl<T> AnyCollection<T> {
         }
     }
 
-    /// Moves the cursor to the previous member, from null to the last one, and from the first one to null, and returns where it is. O(1),
-    /// in a tree O(log n).
+    /// Moves the cursor to the previous member, from null to the last one, and from the first one to null, and returns the member that it is then on.
+    /// O(1), in a tree O(log n).
     ///
-    /// It requires that the kind has the position before the cursor: all but singly linked lists.
+    /// It requires that the collection is not a singly linked list.
     #[inline]
     pub fn move_prev<M: Allocator>(&mut self, links: &AnyTable<M>) -> Option<Place>
         requires held { Held (table_in links.now) self.old }
@@ -86,8 +86,8 @@ impl<T> AnyCollection<T> {
         }
     }
 
-    /// Puts the cursor on a member. In an XOR list it requires that `prev` is the one before it, `None` at the front; other kinds
-    /// don't read it. O(1).
+    /// Puts the cursor on a member. In an XOR list it requires that `prev` is the previous member, or `None` for the first member. Other kinds ignore
+    /// `prev`. O(1).
     #[inline]
     pub fn stand_on<M: Allocator>(&mut self, links: &AnyTable<M>, prev: Option<Place>, place: Place)
         requires held { Held (table_in links.now) self.old }

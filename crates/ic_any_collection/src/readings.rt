@@ -1,4 +1,4 @@
-//! Readings of a collection: its members from the front, and whether a place is one of them.
+//! Calls that only read a collection: they return its members from the front, and whether a place is one of them.
 //!
 //! ```text
 //! queue.listed(alloc, &field)?     // the places of all members
@@ -19,7 +19,7 @@ impl<T> AnyCollection<T> {
     ghost use Rattle.ic_any_collection.specs.AnyCollection.{members_in, Held};
     ghost use Rattle.ic_any_collection.specs.Edits.{AtGap};
 
-    // The first member.
+    // Returns the first member.
     #[inline]
     fn front<M: Allocator>(&self, links: &AnyTable<M>) -> Option<Place>
         requires held { Held (table_in links.now) self.now }
@@ -33,9 +33,10 @@ impl<T> AnyCollection<T> {
         }
     }
 
-    /// The member after `place`, which is a member and has `prev` before it; `None` where it is the last. O(1), in a tree O(log n).
+    /// Returns the member after `place`, or `None` if `place` is the last. It requires that `place` is a member, and `prev` the member before it.
+    /// O(1), in a tree O(log n).
     #[inline]
-    pub fn behind<M: Allocator>(
+    pub fn after<M: Allocator>(
         &self,
         links: &AnyTable<M>,
         prev: Option<Place>,
@@ -55,7 +56,7 @@ impl<T> AnyCollection<T> {
         }
     }
 
-    /// The members from the front, in memory of `alloc`. O(members).
+    /// Returns the members from the front, in memory of `alloc`. O(members).
     pub fn listed<M: Allocator, N: Allocator>(
         &self,
         alloc: N,
@@ -69,14 +70,14 @@ impl<T> AnyCollection<T> {
         let mut current = self.front(links);
         while let Some(place) = current {
             places.push(place)?;
-            current = self.behind(links, prev, place);
+            current = self.after(links, prev, place);
             prev = Some(place);
         }
         Ok(places)
     }
 
-    /// Whether the place is that of a member, and if so, which one stands before it: `Some(None)` for the first member. It
-    /// walks from the front: O(members).
+    /// Returns the member before a place, if the place is a member: `Some(None)` for the first member, and `None` if the place is no member. It walks
+    /// from the front: O(members).
     pub fn find_prev<M: Allocator>(
         &self,
         links: &AnyTable<M>,
@@ -93,14 +94,14 @@ impl<T> AnyCollection<T> {
             if member == place {
                 return Some(prev);
             }
-            current = self.behind(links, prev, member);
+            current = self.after(links, prev, member);
             prev = Some(member);
         }
         None
     }
 
-    /// Whether the place is that of a member. It requires that the place is covered. It walks from the front, but climbs in a tree:
-    /// O(members), in a tree O(log n).
+    /// Returns whether the place is a member. It requires that the table covers the place. In a list it walks from the front, in O(members). In a
+    /// tree it climbs to the root, in O(log n).
     pub fn contains<M: Allocator>(&self, links: &AnyTable<M>, place: Place) -> bool
         requires held { Held (table_in links.now) self.now }
         requires covered { IsCovered (table_in links.now) place }

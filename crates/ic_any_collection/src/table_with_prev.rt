@@ -1,4 +1,4 @@
-//! The tables with a place before in each entry, under one type.
+//! The tables whose entries also name the previous place, under one type.
 //!
 //! ```text
 //! if let AnyTable::WithPrev(links) = &mut field {
@@ -15,7 +15,7 @@ use ic_link_ops::{LinkOps, linked_list, rbtree};
 use ic_unsafe_ref::Place;
 use std::alloc::{Allocator, Global};
 
-/// A table that carries doubly linked lists. No call makes it one of the other kind.
+/// A table that can serve doubly linked lists. No call changes its kind.
 #[derive(Drop)]
 pub enum TableWithPrev<M: Allocator = Global> {
     /// A table of doubly links.

@@ -1,4 +1,4 @@
-//! The adapter of a tree whose searches bring their own.
+//! The adapter of a tree whose searches each pass an adapter of their own.
 //!
 //! ```text
 //! let tree = RBTree::new(Unkeyed::new()); // searched by `find_by`, which compares by its probe
@@ -10,7 +10,7 @@ use ic_rbtree::KeyAdapter;
 use std::alloc::AllocError;
 use std::marker::PhantomData;
 
-/// Finds no keys: the key of every value is `()`.
+/// An adapter without keys: the key of every value is `()`.
 pub struct Unkeyed<T> {
     of: PhantomData<T>,
 }
@@ -27,7 +27,7 @@ impl<T> Clone for Unkeyed<T> {
 
     ghost is_infallible = { λ _. ⊤ };
 
-    /// The same adapter. It never fails.
+    /// Returns a copy of the adapter. It never fails.
     fn clone(&self) -> Result<Self, AllocError> {
         Ok(*self)
     }

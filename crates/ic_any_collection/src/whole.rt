@@ -1,4 +1,4 @@
-//! Calls on a collection as a whole, and on its parts.
+//! Calls that move or unlink all members of a collection, or the members on one side of its cursor.
 //!
 //! ```text
 //! let after = queue.split_after(&mut field);
@@ -23,7 +23,7 @@ impl<T> AnyCollection<T> {
     ghost use Rattle.ic_any_collection.specs.AnyCollection.{kind_in, cursor_in, members_in, is_list, is_two_way_list, is_xor, Keeps, Held, Alike};
     ghost use Rattle.ic_any_collection.specs.Edits.{AtGap, Empties, PutsAll, Parts};
 
-    /// Hands out the whole collection, with its cursor at null, and leaves it empty. O(1): it reads no table, and no link changes.
+    /// Returns the whole collection, with its cursor at null, and leaves this one empty. O(1): it reads no table, and no link changes.
     #[inline]
     pub fn take(&mut self) -> AnyCollection<T>
         ensures whole { (t : Table Entry) (s : List Place) → Keeps t self.old s → Keeps t result s }
@@ -39,7 +39,7 @@ impl<T> AnyCollection<T> {
         taken
     }
 
-    /// Unlinks all members of a collection that is given up. One step for each member.
+    /// Unlinks all members of a collection and drops it. It makes one step for each member.
     pub fn dispose<M: Allocator>(self, links: &mut AnyTable<M>)
         requires held { Held (table_in links.old) self }
         ensures released { TraceIs is_linked (table_in links.old) (table_in links.new) (releases_each (members_in (table_in links.old) self)) }
@@ -53,7 +53,7 @@ impl<T> AnyCollection<T> {
         }
     }
 
-    /// Unlinks all members. The collection is empty then, with its cursor at null. One step for each member.
+    /// Unlinks all members and leaves the collection empty, with its cursor at null. It makes one step for each member.
     #[inline]
     pub fn unlink_all<M: Allocator>(&mut self, links: &mut AnyTable<M>)
         requires held { Held (table_in links.old) self.old }
@@ -62,10 +62,10 @@ impl<T> AnyCollection<T> {
         self.take().dispose(links);
     }
 
-    /// Puts all of the given collection after the cursor, at null before all. The cursor stays.
+    /// Moves all members of the given collection after the cursor, or to the front if the cursor is at null. The cursor stays.
     ///
-    /// It requires that both are lists of one kind, kept by the same table, which share no member. O(1); of singly linked lists one
-    /// reading for each given member.
+    /// It requires that both are lists of one kind, kept by the same table, which share no member. O(1). For singly linked lists it reads one entry
+    /// for each given member.
     #[inline]
     pub fn splice_after<M: Allocator>(&mut self, links: &mut AnyTable<M>, given: AnyCollection<T>)
         requires held { Held (table_in links.old) self.old }
@@ -96,7 +96,7 @@ impl<T> AnyCollection<T> {
         }
     }
 
-    /// Puts all of the given collection before the cursor, at null after all. The cursor stays.
+    /// Moves all members of the given collection before the cursor, or to the back if the cursor is at null. The cursor stays.
     ///
     /// It requires that both are doubly linked lists or both XOR lists, kept by the same table, which share no member. O(1).
     #[inline]
@@ -124,7 +124,7 @@ impl<T> AnyCollection<T> {
         }
     }
 
-    /// Hands out the members after the cursor, at null all of them. The cursor stays.
+    /// Returns the members after the cursor as a collection, or all members if the cursor is at null. The cursor stays.
     ///
     /// It requires that this is a list. O(1).
     #[inline]
@@ -148,7 +148,7 @@ impl<T> AnyCollection<T> {
         }
     }
 
-    /// Hands out the members before the cursor, at null all of them. The cursor stays.
+    /// Returns the members before the cursor as a collection, or all members if the cursor is at null. The cursor stays.
     ///
     /// It requires that this is a doubly linked or an XOR list. O(1).
     #[inline]
@@ -168,7 +168,7 @@ impl<T> AnyCollection<T> {
         }
     }
 
-    /// Turns an XOR list round, and moves its cursor to null. O(1): no entry is written.
+    /// Reverses an XOR list, and moves its cursor to null. O(1): no entry is written.
     ///
     /// It requires that this is an XOR list.
     #[inline]

@@ -6,7 +6,7 @@ use native.Mathlib.Decide.{ℕ_discrete}
 use Rattle.ic_unsafe_ref.specs.declared.place.Place.{Place}
 use Rattle.ic_atomic.specs.declared.step.Event.{Event}
 use Rattle.ic_atomic.specs.declared.hand.Size.{Size}
-use Rattle.ic_atomic.specs.declared.hand.Hand.{Hand}
+use Rattle.ic_atomic.specs.declared.hand.HeldRecords.{HeldRecords}
 use Rattle.ic_atomic.specs.declared.claims.Claims.{Claims}
 use Rattle.ic_atomic.specs.declared.claims.Holder.{Holder}
 use Rattle.ic_atomic.specs.Hands.{hand, without_first, only_first}
@@ -20,7 +20,7 @@ pub is_of : {A : Type 0} (claims : Claims A) (h : Holder) (r : List Event) → I
 is_of claims h r t e = (record { table = t; hand = e ∙ ap (λ (x : List Event). hand_with claims (x ∷ [])) (sym (ap mine e)) }, ap mine e)
 
 -- one more empty record is dealt
-module _ (size : Size) (n m : ℕ) (v : Hand) (has : v ≡ hand size (replicate n [])) (is : n ≡ suc m) where
+module _ (size : Size) (n m : ℕ) (v : HeldRecords) (has : v ≡ hand size (replicate n [])) (is : n ≡ suc m) where
   pub dealt_rest : without_first v ≡ hand size (replicate m [])
   dealt_rest = ap without_first (has ∙ ap (λ k. hand size (replicate k [])) is)
 
@@ -28,11 +28,11 @@ module _ (size : Size) (n m : ℕ) (v : Hand) (has : v ≡ hand size (replicate 
   dealt_first = ap only_first (has ∙ ap (λ k. hand size (replicate k [])) is)
 
 -- a holder's seat has these records in hand
-abbrev pub HasHand : {A : Type 0} → Claims A → List (List Event) → Holder → Type 0
-HasHand claims records h = IsSeatOf claims h.seat × (hand_of h.seat ≡ hand_with claims records)
+abbrev pub HasRecords : {A : Type 0} → Claims A → List (List Event) → Holder → Type 0
+HasRecords claims records h = IsSeatOf claims h.seat × (hand_of h.seat ≡ hand_with claims records)
 
 -- the first of the gathered records goes back
-module _ (size : Size) (hs : List Holder) (i : ℕ) (d : Holder) (lt : i < length hs) (v : Hand) (has : v ≡ hand size (map record_of (drop i hs))) where
+module _ (size : Size) (hs : List Holder) (i : ℕ) (d : Holder) (lt : i < length hs) (v : HeldRecords) (has : v ≡ hand size (map record_of (drop i hs))) where
   gathered : v ≡ hand size (record_of (get_or hs i d) ∷ map record_of (drop (i + 1) hs))
   gathered = has ∙ ap (λ (l : List Holder). hand size (map record_of l)) (drop_more hs i d lt)
 
@@ -45,23 +45,23 @@ module _ (size : Size) (hs : List Holder) (i : ℕ) (d : Holder) (lt : i < lengt
 module _ {A : Type 0} (claims : Claims A) where
   -- one holder more has its record again
   pub one_back : (hs now : List Holder) (i : ℕ) (new : Holder) → i < length now
-      → ((k : ℕ) (d : Holder) → k < i → HasHand claims (record_of (get_or hs k d) ∷ []) (get_or now k d))
-      → ((d : Holder) → HasHand claims (record_of (get_or hs i d) ∷ []) new)
-      → (k : ℕ) (d : Holder) → k < i + 1 → HasHand claims (record_of (get_or hs k d) ∷ []) (get_or (set now i new) k d)
+      → ((k : ℕ) (d : Holder) → k < i → HasRecords claims (record_of (get_or hs k d) ∷ []) (get_or now k d))
+      → ((d : Holder) → HasRecords claims (record_of (get_or hs i d) ∷ []) new)
+      → (k : ℕ) (d : Holder) → k < i + 1 → HasRecords claims (record_of (get_or hs k d) ∷ []) (get_or (set now i new) k d)
   one_back hs now i new inside done here k d below = dite (ℕ_discrete k i)
-      (λ e. subst (λ j. HasHand claims (record_of (get_or hs j d) ∷ []) (get_or (set now i new) j d)) (sym e) (subst (HasHand claims (record_of (get_or hs i d) ∷ [])) (sym (get_or-set_same now i new d inside)) (here d)))
-      (λ ne. subst (HasHand claims (record_of (get_or hs k d) ∷ [])) (sym (get_or-set_other now i k new d ne)) (done k d (omega (arith, ne, below))))
+      (λ e. subst (λ j. HasRecords claims (record_of (get_or hs j d) ∷ []) (get_or (set now i new) j d)) (sym e) (subst (HasRecords claims (record_of (get_or hs i d) ∷ [])) (sym (get_or-set_same now i new d inside)) (here d)))
+      (λ ne. subst (HasRecords claims (record_of (get_or hs k d) ∷ [])) (sym (get_or-set_other now i k new d ne)) (done k d (omega (arith, ne, below))))
 
   pub others_empty : (now : List Holder) (i n : ℕ) (new : Holder)
-      → ((k : ℕ) (d : Holder) → i ≤ k → k < n → HasHand claims [] (get_or now k d))
-      → (k : ℕ) (d : Holder) → i + 1 ≤ k → k < n → HasHand claims [] (get_or (set now i new) k d)
+      → ((k : ℕ) (d : Holder) → i ≤ k → k < n → HasRecords claims [] (get_or now k d))
+      → (k : ℕ) (d : Holder) → i + 1 ≤ k → k < n → HasRecords claims [] (get_or (set now i new) k d)
   others_empty now i n new empty k d above inside =
       let ne : k ≢ i = λ e. absurd (omega (arith, e, above)) in
-      subst (HasHand claims []) (sym (get_or-set_other now i k new d ne)) (empty k d (omega (arith, above)) inside)
+      subst (HasRecords claims []) (sym (get_or-set_other now i k new d ne)) (empty k d (omega (arith, above)) inside)
 
   -- all have their records again
   pub all_back : (hs now : List Holder) → length now ≡ length hs
-      → ((k : ℕ) (d : Holder) → k < length hs → HasHand claims (record_of (get_or hs k d) ∷ []) (get_or now k d))
+      → ((k : ℕ) (d : Holder) → k < length hs → HasRecords claims (record_of (get_or hs k d) ∷ []) (get_or now k d))
       → map record_of now ≡ map record_of hs
   all_back [] [] long back = refl
   all_back [] (y ∷ ys) long back = absurd (omega (arith, long))
@@ -72,7 +72,7 @@ module _ {A : Type 0} (claims : Claims A) where
       λ i. one i ∷ rest i
 
   -- what was told of the gathered records
-  pub reported : (rs : List (List Event)) (v : Hand) → v ≡ hand_with claims rs → Compares v → AreOneList claims rs
+  pub reported : (rs : List (List Event)) (v : HeldRecords) → v ≡ hand_with claims rs → Compares v → AreOneList claims rs
   reported rs v has c =
       let here : Compares (hand_with claims rs) = subst Compares has c in record {
         others = here.others;

@@ -1,4 +1,4 @@
--- What the table laws need of a record that gains steps.
+-- What the laws of tables require of a record that gains steps.
 use Rattle.std.specs.Prelude.{List, [], ◌∷◌, ◌++◌, map}
 use Rattle.std.proofs.Common.{◌≡◌, refl, sym, ap, ◌∙◌, append-nil, append_assoc}
 use Rattle.ic_link_ops.specs.declared.link_ops.LinkOps.{Ghosts}
@@ -7,7 +7,7 @@ use Rattle.ic_atomic.specs.declared.step.Event.{Event}
 use Rattle.ic_atomic.specs.declared.atomic_link_ops.AtomicLinkOps.{AtomicLinkOps}
 use Rattle.ic_atomic.specs.AtomicLinks.{step_of, record_in, links_of, Gains}
 
--- the steps of some link steps, and of more after them
+-- the steps of two lists of link steps, one after the other
 steps_on : (s t : List LinkStep) → map step_of (s ++ t) ≡ map step_of s ++ map step_of t
 steps_on [] t = refl
 steps_on (x ∷ s) t = ap (λ (es : List Event). step_of x ∷ es) (steps_on s t)

@@ -1,4 +1,4 @@
--- What clauses see of a table whose places are claimed.
+-- A table whose places are claimed, as contracts see it.
 use Rattle.std.specs.Prelude.{◌≡◌, List, [], ◌∷◌, ◌++◌, map}
 use Rattle.ic_link_ops.specs.Prelude.{Place, LinkStep, acquires, releases}
 use Rattle.ic_link_ops.specs.declared.link_ops.LinkOps.{Ghosts}
@@ -16,7 +16,7 @@ step_of (acquires p) = event (Claim p) 0
 step_of (releases p) = event (Release p) 1
 
 module _ {L A E : Type 0} {g : Ghosts L E} where
-  -- the claims, the holder with the record of its steps, and the table in which it keeps what it holds
+  -- the claims, the holder with the record of its steps, and the table that links the places which it holds
   abbrev pub claims_of : AtomicLinkOps L A E g → Claims A
   claims_of t = t.claims.now
 
@@ -29,7 +29,7 @@ module _ {L A E : Type 0} {g : Ghosts L E} where
   abbrev pub links_of : AtomicLinkOps L A E g → L
   links_of t = t.links
 
-  -- THE RECORD GAINS a claim that found 0 for each link, and a release for each that is given up, in this order, and nothing else
+  -- THE RECORD GAINS, in this order, a claim that found 0 for each link and a release for each unlink, and nothing else
   pub record Gains (Trace : L → L → List LinkStep → Type 0) (old new : AtomicLinkOps L A E g) (steps : List LinkStep) : Type 0 where
     pub claims : claims_of new ≡ claims_of old
     pub gained : record_in new ≡ record_in old ++ map step_of steps

@@ -1,4 +1,4 @@
--- Claims of several places by one holder, which of them it got, and in which order a gate is told of them.
+-- Claims of several places by one holder, the places that it got, and the order in which it calls a gate.
 use Rattle.std.specs.Prelude.{ℕ, zero, suc, Bool, if◌then◌else◌, List, [], ◌∷◌}
 use Rattle.ic_unsafe_ref.specs.declared.place.Place.{Place}
 use Rattle.ic_atomic.specs.declared.step.Step.TheVariants.{Claim}
@@ -17,7 +17,7 @@ chosen [] got = []
 chosen (p ∷ ps) [] = []
 chosen (p ∷ ps) (b ∷ got) = if b then p ∷ chosen ps got else chosen ps got
 
--- so many answers may be told next: none, or one more than was told
+-- the count that the next call of the gate may have: 0, or one more than in the last call
 abbrev pub IsNext : (ℕ → Type 0) → ℕ → Type 0
 IsNext Reported zero = Unit {0}
 IsNext Reported (suc n) = Reported n

@@ -2,28 +2,28 @@
 use Rattle.std.specs.Prelude.{List, [], take, drop, ◌++◌, flat_map}
 use Rattle.ic_atomic.specs.declared.step.Event.{Event}
 use Rattle.ic_atomic.specs.declared.hand.Size.{Size}
-use Rattle.ic_atomic.specs.declared.hand.Hand.{Hand}
+use Rattle.ic_atomic.specs.declared.hand.HeldRecords.{HeldRecords}
 
 -- these records in hand, for claims of this size
-abbrev pub hand : Size → List (List Event) → Hand
+abbrev pub hand : Size → List (List Event) → HeldRecords
 hand size records = record { size = size; records = records }
 
 -- the records in all hands, in one list
-abbrev pub records_in : List Hand → List (List Event)
-records_in hands = flat_map (λ (v : Hand). v.records) hands
+abbrev pub records_in : List HeldRecords → List (List Event)
+records_in hands = flat_map (λ (v : HeldRecords). v.records) hands
 
 -- a hand without its first record
-abbrev pub without_first : Hand → Hand
+abbrev pub without_first : HeldRecords → HeldRecords
 without_first v = hand v.size (drop 1 v.records)
 
 -- a hand of the first record alone
-abbrev pub only_first : Hand → Hand
+abbrev pub only_first : HeldRecords → HeldRecords
 only_first v = hand v.size (take 1 v.records)
 
 -- a hand with its own records, and those of another after them
-abbrev pub both_hands : Hand → Hand → Hand
+abbrev pub both_hands : HeldRecords → HeldRecords → HeldRecords
 both_hands v w = hand v.size (v.records ++ w.records)
 
 -- the hand of a seat that has given its records away
-abbrev pub nothing_left : Hand
+abbrev pub nothing_left : HeldRecords
 nothing_left = hand record { words = 0; holders = 0 } []

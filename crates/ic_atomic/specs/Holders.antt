@@ -1,9 +1,9 @@
--- What clauses see of claims and of their holders.
+-- Claims and their holders, as contracts see them.
 use Rattle.std.specs.Prelude.{◌≡◌, ℕ, ◌+◌, ◌<◌, true, List, [], ◌∷◌, ◌++◌, length}
 use Rattle.atomic_table.specs.declared.shared.Seat.{Seat}
 use Rattle.ic_unsafe_ref.specs.declared.place.Place.{Place}
 use Rattle.ic_atomic.specs.declared.step.Event.{Event}
-use Rattle.ic_atomic.specs.declared.hand.Hand.{Hand}
+use Rattle.ic_atomic.specs.declared.hand.HeldRecords.{HeldRecords}
 use Rattle.ic_atomic.specs.declared.claims.Claims.{Claims}
 use Rattle.ic_atomic.specs.declared.claims.Holder.{Holder}
 use Rattle.ic_atomic.specs.Records.{holds}
@@ -14,24 +14,24 @@ use Rattle.ic_atomic.specs.Hands.{hand}
 abbrev pub places_of : {A : Type 0} → Claims A → ℕ
 places_of claims = claims.places
 
--- how many holders were made with the claims: so many records there are, and no other
+-- how many holders were made with the claims. There are exactly as many records
 abbrev pub holders_of : {A : Type 0} → Claims A → ℕ
 holders_of claims = claims.table.shared.key.holders
 
 -- the seat is one of the claims' table
-abbrev pub IsSeatOf : {A : Type 0} → Claims A → Seat (Unit {0}) Hand → Type 0
+abbrev pub IsSeatOf : {A : Type 0} → Claims A → Seat (Unit {0}) HeldRecords → Type 0
 IsSeatOf claims seat = seat.table_id ≡ claims.table.shared.table_id
 
--- what a seat has in hand
-abbrev pub hand_of : Seat (Unit {0}) Hand → Hand
+-- the records that a seat has in hand
+abbrev pub hand_of : Seat (Unit {0}) HeldRecords → HeldRecords
 hand_of seat = seat.me.0
 
--- the seat holds no slot of the table, which has none
-abbrev pub HasNoSlot : Seat (Unit {0}) Hand → Type 0
+-- the seat holds no slot of the table, which has no slots
+abbrev pub HasNoSlot : Seat (Unit {0}) HeldRecords → Type 0
 HasNoSlot seat = seat.me.1 ≡ []
 
 -- these records in a hand of the claims
-abbrev pub hand_with : {A : Type 0} → Claims A → List (List Event) → Hand
+abbrev pub hand_with : {A : Type 0} → Claims A → List (List Event) → HeldRecords
 hand_with claims records = hand claims.table.shared.key records
 
 -- the holder's steps so far, in their order
@@ -43,9 +43,10 @@ pub record IsOf {A : Type 0} (claims : Claims A) (holder : Holder) : Type 0 wher
   pub table : IsSeatOf claims holder.seat
   pub hand : hand_of holder.seat ≡ hand_with claims (record_of holder ∷ [])
 
--- THE RECORDS OF SOME HOLDERS at one moment: with those of all other holders of the claims they are one list of steps
+-- THE RECORDS OF SOME HOLDERS at one moment: together with the records of all other holders of the claims they are one
+-- list of steps
 pub record AreOneList {A : Type 0} (claims : Claims A) (records : List (List Event)) : Type 0 where
-  -- There are so many others that each holder of the claims has one record, and there is no record more.
+  -- With the others there is exactly one record for each holder of the claims.
   pub others : List (List Event)
   pub all : length records + length others ≡ holders_of claims
   -- Each place has its word,
@@ -54,7 +55,7 @@ pub record AreOneList {A : Type 0} (claims : Claims A) (records : List (List Eve
   -- and the rule holds of these words and records.
   pub one : IsOneList words (records ++ others)
 
--- THE RECORDS OF ALL HOLDERS at one moment: alone they are one list of steps, and each place has its word
+-- THE RECORDS OF ALL HOLDERS at one moment: they are one list of steps, and each place has its word
 pub record AreWholeList {A : Type 0} (claims : Claims A) (records : List (List Event)) : Type 0 where
   pub words : List ℕ
   pub places : places_of claims < length words

@@ -1,4 +1,4 @@
--- The rule as the table of claim words keeps it, and what each kind of step tells its holder.
+-- The rule that the table of claim words keeps, and what a holder knows after each kind of step.
 use Rattle.std.specs.Prelude.{◌≡◌, ℕ, ◌+◌, ◌<◌, false, List, [], ◌∷◌, ◌++◌, length, replicate}
 use Rattle.atomic_table.specs.Table.{State, Me, Step as TableStep}
 use Rattle.ic_link_ops.specs.Prelude.{Place, index_of}
@@ -6,34 +6,34 @@ use Rattle.ic_atomic.specs.declared.step.Step.{Step}
 use Rattle.ic_atomic.specs.declared.step.Step.TheVariants.{Claim, Release, Look}
 use Rattle.ic_atomic.specs.declared.step.Event.{Event}
 use Rattle.ic_atomic.specs.declared.hand.Size.{Size}
-use Rattle.ic_atomic.specs.declared.hand.Hand.{Hand}
+use Rattle.ic_atomic.specs.declared.hand.HeldRecords.{HeldRecords}
 use Rattle.ic_atomic.specs.Records.{event, holds}
 use Rattle.ic_atomic.specs.OneList.{record_at, IsOneList}
 use Rattle.ic_atomic.specs.Hands.{hand, records_in}
 
--- there are so many words and so many records in all hands, and these records are one list
-pub record Rule (size : Size) (s : State (Unit {0}) Hand) : Type 0 where
+-- there are this many words, and this many records in all hands, and these records are one list
+pub record Rule (size : Size) (s : State (Unit {0}) HeldRecords) : Type 0 where
   pub words : length s.words ≡ size.words
   pub holders : length (records_in s.views) ≡ size.holders
   pub one : IsOneList s.words (records_in s.views)
 
 -- at first one hand has every record, and all are empty
-abbrev pub all_fresh : Size → Hand
+abbrev pub all_fresh : Size → HeldRecords
 all_fresh size = hand size (replicate size.holders [])
 
 -- what a seat knows: its hand, and no slots
 abbrev pub Mine : Type 0
-Mine = Me (Unit {0}) Hand
+Mine = Me (Unit {0}) HeldRecords
 
 -- the record of a holder's hand
-abbrev pub mine : Hand → List Event
+abbrev pub mine : HeldRecords → List Event
 mine v = record_at v.records 0
 
 -- the one record in hand gains the step with the word that it found
-pub record Gains (s : Step) (found : ℕ) (old new : Hand) : Type 0 where
+pub record Gains (s : Step) (found : ℕ) (old new : HeldRecords) : Type 0 where
   pub gained : new ≡ hand old.size ((mine old ++ event s found ∷ []) ∷ [])
 
--- a compare-exchange finds 0 only where this holder doesn't hold the place
+-- a compare-exchange finds 0 only if this holder doesn't hold the place
 abbrev pub claimed : TableStep (Unit {0}) → Mine → ℕ → Mine → Type 0
 claimed t me n me' =
     (n < 2) × ((p : Place) → index_of p ≡ t.word → Gains (Claim p) n me.0 me'.0 × (n ≡ 0 → holds p (mine me.0) ≡ false))
@@ -50,14 +50,14 @@ looked t me n me' = (n < 2) × ((p : Place) → index_of p ≡ t.word → Gains 
 abbrev pub seated : TableStep (Unit {0}) → Mine → ℕ → Mine → Type 0
 seated t me n me' = me'.0 ≡ hand me.0.size []
 
--- the records in hand are one list with those in all other hands, at one moment
-pub record Compares (v : Hand) : Type 0 where
+-- at one moment, the records in hand and those in all other hands are one list
+pub record Compares (v : HeldRecords) : Type 0 where
   pub others : List (List Event)
   pub all : length v.records + length others ≡ v.size.holders
   pub words : List ℕ
   pub counted : length words ≡ v.size.words
   pub one : IsOneList words (v.records ++ others)
 
--- a load tells that of the records in hand, and leaves them as they are
+-- after a load, the statement above is known of the records in hand, which stay as they are
 abbrev pub compared : TableStep (Unit {0}) → Mine → ℕ → Mine → Type 0
 compared t me n me' = (me'.0 ≡ me.0) × Compares me.0

@@ -18,11 +18,11 @@ use ic_link_ops::LinkOps;
 use ic_unsafe_ref::Place;
 use std::alloc::{Allocator, Global};
 
-/// A table whose linked places are those that its holder holds.
+/// A table of links whose linked places are exactly those that its holder has claimed.
 ///
 /// It refuses a link exactly if some holder, living or dropped, holds the place. Each link is one claim of its holder, and
-/// each that is given up one release; what it keeps at a place nobody else reads or writes, so that no call waits. A table
-/// that is dropped leaves its places held.
+/// each unlink is one release. Nobody else reads or writes the entries of the table, so no call waits. If the table is
+/// dropped, its places stay held.
 #[derive(Drop)]
 pub struct AtomicLinkOps<'c, L: PlainLinkOps, A: Allocator = Global> {
     claims: &'c Claims<A>,
@@ -38,10 +38,10 @@ impl<'c, L: PlainLinkOps, A: Allocator> AtomicLinkOps<'c, L, A> {
     ghost use Rattle.ic_atomic.specs.AtomicLinks.{claims_of, holder_of, record_in, links_of, Gains};
     ghost use Rattle.ic_atomic.specs.declared.step.Step.TheVariants.{Look};
 
-    /// The table, as one whose places its holder claims.
+    /// Turns a table into one whose places the holder claims.
     ///
-    /// It requires that the holder was made with the claims and holds nothing, and that the table links nothing and covers no
-    /// more than the claims' places. O(1).
+    /// It requires that the holder was made with the claims and holds nothing, and that the table links nothing and covers at
+    /// most the claims' places. O(1).
     pub fn new(claims: &'c Claims<A>, holder: Holder, links: L) -> AtomicLinkOps<'c, L, A>
         requires made { IsOf claims.now holder }
         requires covered { (L.table links).extent.places ≤ places_of claims.now }
@@ -58,7 +58,7 @@ impl<'c, L: PlainLinkOps, A: Allocator> AtomicLinkOps<'c, L, A> {
         }
     }
 
-    /// How many places are covered: those with a smaller index.
+    /// The number of places that are covered. A place is covered if its index is smaller than this number. O(1).
     #[inline]
     pub fn covers(&self) -> usize
         ensures { result ≡ (L.table (links_of self.now)).extent.places }
@@ -66,7 +66,8 @@ impl<'c, L: PlainLinkOps, A: Allocator> AtomicLinkOps<'c, L, A> {
         self.links.covers()
     }
 
-    /// Whether this table's holder holds `place`: whether it is linked here. It requires that the place is covered. O(1).
+    /// Whether this table's holder holds `place`, which is whether this table links it. It requires that the place is
+    /// covered. O(1).
     #[inline]
     pub fn holds(&self, place: Place) -> bool
         requires covered { IsCovered (L.table (links_of self.now)) place }
@@ -76,10 +77,10 @@ impl<'c, L: PlainLinkOps, A: Allocator> AtomicLinkOps<'c, L, A> {
         self.links.is_linked(place)
     }
 
-    /// Whether anybody holds `place`, this holder or another, living or dropped: a look of the holder.
+    /// Whether any holder holds `place`: this one or another, living or dropped. It is a look of the holder.
     ///
-    /// It requires that the place is covered. The answer may be out of date when it comes, unless this holder holds the place.
-    /// One load, O(1), which waits for nobody.
+    /// It requires that the place is covered. The result may be out of date when the call returns, unless this holder holds
+    /// the place. One load, O(1), which waits for nobody.
     #[inline]
     pub fn is_linked(&mut self, place: Place) -> bool
         requires covered { IsCovered (L.table (links_of self.old)) place }
@@ -95,10 +96,10 @@ impl<'c, L: PlainLinkOps, A: Allocator> AtomicLinkOps<'c, L, A> {
         claims.look(holder, place)
     }
 
-    /// Unlinks `place`, which this holder holds, and gives it up: by one release.
+    /// Unlinks `place`, which this holder holds, and releases it.
     ///
-    /// It requires that the holder holds the place. Every other entry stays, so each collection of which the place is no member
-    /// keeps its sequence. O(1).
+    /// It requires that the holder holds the place. Every other entry stays, so each collection without this member keeps its
+    /// sequence. O(1).
     #[inline]
     pub fn force_unlink(&mut self, place: Place)
         requires held { holds place (record_in self.old) ≡ true }
@@ -108,7 +109,7 @@ impl<'c, L: PlainLinkOps, A: Allocator> AtomicLinkOps<'c, L, A> {
         self.release_link(place);
     }
 
-    /// The holder, with its record, and the table, as they are: what the holder holds is linked in the table still. O(1).
+    /// Returns the holder, with its record, and the table. The table still links the places that the holder holds. O(1).
     pub fn into_parts(self) -> (Holder, L)
         ensures made { IsOf (claims_of self.entry) result.0 }
         ensures holder { result.0 ≡ holder_of self.entry }

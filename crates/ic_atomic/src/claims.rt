@@ -4,38 +4,39 @@ ghost use Rattle.std.specs.Prelude.{◌≡◌, true, ◌<◌, ◌≤◌, ◌+◌
 ghost use Rattle.std.specs.Bool.{OnTrue, OnFalse};
 ghost use Rattle.ic_unsafe_ref.specs.Places.{index_of};
 
-use crate::hand::{Hand, Size};
+use crate::hand::{HeldRecords, Size};
 use crate::rule::{After, Claimed, Compared, FirstOff, Looked, OneList, Released, Seated};
 use atomic_table::{Seat, Table};
 use ic_unsafe_ref::Place;
 use std::alloc::{AllocError, Allocator, Global};
 use thiserror::Error;
 
-/// Claims on places: a word for each, 1 where some holder holds the place and 0 where none does.
+/// Claims on places: a word for each place, which is 1 if some holder holds the place and 0 if none does.
 ///
-/// Threads share it by reference. A word changes in single atomic steps, each of them a call of a holder. Between any
-/// two steps the records of all holders are one list of steps, in which each answer is that of one thread alone. There
-/// are as many records as holders were made with the claims, and no call adds one.
+/// Threads share it by reference. A word changes only in single atomic steps, and each step is a call of a holder.
+/// Between any two steps the records of all holders can be merged into one list of steps, and each step has the result
+/// that it would have if one thread made them all in this order. The claims are made with a fixed number of holders,
+/// each with one record; no call adds one.
 #[derive(Drop)]
 pub struct Claims<A: Allocator = Global> {
-    table: Table<(), Hand, Size, OneList, A>,
+    table: Table<(), HeldRecords, Size, OneList, A>,
     places: usize,
     ghost counted: { table.shared.key.words ≡ table.shared.table_id.words },
     ghost room: { places < table.shared.table_id.words },
 }
 
-/// What a party claims with: a token of no bytes, with the record of its steps, which contracts alone see.
+/// A token of no bytes, with which a party claims places. It has the record of its steps, which only contracts see.
 ///
-/// A holder that is dropped keeps what it held.
+/// If a holder is dropped, its places stay held.
 #[derive(Drop)]
 pub struct Holder {
-    seat: Seat<(), Hand>,
+    seat: Seat<(), HeldRecords>,
 }
 
 /// Why no claims were made.
 #[derive(Clone, Copy, PartialEq, Eq, Debug, Error)]
 pub enum ClaimsError {
-    /// More than 4,294,967,296 places were asked for.
+    /// The caller requested more than 4,294,967,296 places.
     #[error("TooManyPlaces")]
     TooManyPlaces = 1,
     /// There was no memory for them.
@@ -46,13 +47,14 @@ pub enum ClaimsError {
 impl<A: Allocator + Copy> Claims<A> {
     ghost use Rattle.ic_atomic.specs.Holders.{places_of, holders_of, IsSeatOf, hand_of, hand_with, record_of, IsOf};
 
-    /// Claims on the places with an index below `places`, all of them free, and `holders` holders, whose records are
-    /// empty.
+    /// Makes claims on the places with an index below `places`, all of them free, and `holders` holders, whose records
+    /// are empty.
     ///
-    /// No other holder of these claims is ever made: who claims later has to be handed one of these.
+    /// No other holder of these claims is ever made: each thread that claims has to get one of these.
     ///
-    /// It is refused above 4,294,967,296 places, and where no memory is found; then nothing is made. At most four
-    /// requests for memory, for a word a place and the holders; no other call makes any. O(places + holders).
+    /// It is refused if `places` is above 4,294,967,296, or if there is no memory; then nothing is made. At most four
+    /// requests for memory, for one word for each place and for the holders; no other call makes any. O(places +
+    /// holders).
     pub fn new(
         alloc: A,
         places: usize,
@@ -82,13 +84,13 @@ impl<A: Allocator + Copy> Claims<A> {
         Ok((claims, made))
     }
 
-    // Claims, and a seat that has every record in hand. There is one word more than there are places, so that there is
-    // one to load.
+    // Makes claims, and a seat that has every record in hand. There is one word more than there are places, so there
+    // always is one to load.
     fn free(
         alloc: A,
         places: usize,
         holders: usize,
-    ) -> Result<(Claims<A>, Seat<(), Hand>), AllocError>
+    ) -> Result<(Claims<A>, Seat<(), HeldRecords>), AllocError>
         requires { places ≤ 4294967296 }
         ensures places { IfOk result (λ made. places_of made.0 ≡ places) }
         ensures all { IfOk result (λ made. holders_of made.0 ≡ holders) }
@@ -111,8 +113,8 @@ impl<A: Allocator> Claims<A> {
     ghost use Rattle.ic_atomic.specs.Hands.{without_first, only_first, both_hands};
     ghost use Rattle.ic_atomic.specs.Holders.{places_of, holders_of, IsSeatOf, hand_of, HasNoSlot, record_of, IsOf, AreOneList, AreWholeList, NoneTwice};
 
-    // The first record that a seat has in hand, in a new seat.
-    fn first_of(&self, seat: &mut Seat<(), Hand>) -> Seat<(), Hand>
+    // Moves the first record that a seat has in hand to a new seat.
+    fn first_of(&self, seat: &mut Seat<(), HeldRecords>) -> Seat<(), HeldRecords>
         requires seat { IsSeatOf self.now seat.old }
         ensures seat { IsSeatOf self.now seat.new }
         ensures rest { hand_of seat.new ≡ without_first (hand_of seat.old) }
@@ -122,8 +124,8 @@ impl<A: Allocator> Claims<A> {
         self.table.shared.split_seat::<FirstOff>(seat)
     }
 
-    // Puts the records of another seat after those of this one, and that seat is gone.
-    fn put_after(&self, seat: &mut Seat<(), Hand>, other: Seat<(), Hand>)
+    // Appends the records of another seat to those of this one, and consumes that seat.
+    fn put_after(&self, seat: &mut Seat<(), HeldRecords>, other: Seat<(), HeldRecords>)
         requires seat { IsSeatOf self.now seat.old }
         requires other { IsSeatOf self.now other × HasNoSlot other }
         ensures seat { IsSeatOf self.now seat.new }
@@ -132,7 +134,8 @@ impl<A: Allocator> Claims<A> {
         self.table.shared.join_seat::<After>(seat, other);
     }
 
-    /// How many places there are claims on: those with a smaller index. O(1).
+    /// The number of places that there are claims on. These are the places whose index is smaller than this number.
+    /// O(1).
     #[inline]
     pub fn places(&self) -> usize
         ensures { result ≡ places_of self.now }
@@ -140,11 +143,11 @@ impl<A: Allocator> Claims<A> {
         self.places
     }
 
-    /// Claims `place`, if nobody holds it, and says whether it did.
+    /// Claims `place` and returns true, or returns false if some holder holds it.
     ///
-    /// It requires that the place is one of these claims' places, and that the holder was made with them. The answer is
-    /// false exactly if some holder, living or dropped, held the place at that step, also if it was this one; then
-    /// nothing but the record is changed. One compare-exchange, O(1), which waits for nobody.
+    /// It requires that the place is one of these claims' places, and that the holder was made with them. It returns
+    /// false exactly if some holder, living or dropped, held the place at that step; this includes the holder itself.
+    /// Then only the record is changed. One compare-exchange, O(1), which waits for nobody.
     #[inline]
     pub fn claim(&self, holder: &mut Holder, place: Place) -> bool
         requires place { index_of place < places_of self.now }
@@ -160,7 +163,7 @@ impl<A: Allocator> Claims<A> {
         found == 0
     }
 
-    /// Gives up `place`, which anybody may claim then.
+    /// Releases `place`. Any holder may claim it then.
     ///
     /// It requires that this holder holds the place, and that it was made with these claims. One store, O(1), which waits
     /// for nobody.
@@ -178,10 +181,10 @@ impl<A: Allocator> Claims<A> {
         words.store::<Released>(&mut holder.seat, place.index(), 0);
     }
 
-    /// Whether anybody holds `place`, this holder or another, living or dropped.
+    /// Whether any holder holds `place`: this one or another, living or dropped.
     ///
-    /// It requires that the place is one of these claims' places, and that the holder was made with them. The answer may
-    /// be out of date when it comes, unless this holder holds the place. One load, O(1), which waits for nobody.
+    /// It requires that the place is one of these claims' places, and that the holder was made with them. The result may
+    /// be out of date when the call returns, unless this holder holds the place. One load, O(1), which waits for nobody.
     #[inline]
     pub fn look(&self, holder: &mut Holder, place: Place) -> bool
         requires place { index_of place < places_of self.now }
@@ -198,10 +201,10 @@ impl<A: Allocator> Claims<A> {
 
     /// Proves to its caller that the records of these holders are parts of one list of steps.
     ///
-    /// It is the list of all holders of the claims, and these are the whole of it where they are all there are. No place is held by
-    /// two of them. It is for whoever has holders of several threads together, as after a join. It requires that each holder was made
-    /// with these claims; which of them are there, and in which order, is free. Neither a word nor a record is changed,
-    /// and it is never refused. Four loads a holder and two more, O(holders). It waits for nobody, and it takes no memory.
+    /// The list is that of all holders of the claims. If the caller passes all holders, it consists of just their records. No place
+    /// is held by two of them. Use it if you have the holders of several threads together, for example after a join. It requires that
+    /// each holder was made with these claims; you may pass any of them, in any order. It changes neither a word nor a record, and is
+    /// never refused. Four loads for each holder and two more, O(holders). It waits for nobody, and it takes no memory.
     pub fn audit<B: Allocator>(&self, holders: &mut Vec<Holder, B>)
         requires made { All (λ h. IsOf self.now h) holders.old.items }
         ensures made { All (λ h. IsOf self.now h) holders.new.items }
@@ -212,7 +215,7 @@ impl<A: Allocator> Claims<A> {
         ensures apart { NoneTwice (map record_of holders.new.items) }
     {
         let words = &self.table.shared;
-        // One load speaks of one seat, so all records go to one first.
+        // The contract of a load is about one seat, so all records are first moved to one.
         let mut all = words.load_new_seat::<Seated>(0).1;
         for i in 0..holders.len() {
             let record = self.first_of(&mut holders[i].seat);

@@ -1,4 +1,4 @@
-//! Places that several parties are offered, each of which one of them gets.
+//! Several parties are offered the same places, and each place goes to one of them.
 //!
 //! ```text
 //! // in each thread, with links and a list of its own
@@ -18,24 +18,25 @@ use ic_linked_list::LinkedList;
 use ic_unsafe_ref::UnsafeRef;
 use std::alloc::Allocator;
 
-/// What is told how far a worker has come, and may hold it up there.
+/// A gate. A worker calls it with its progress, and it may delay the worker there.
 pub trait Gate {
-    // The gate was told that the worker of this number has had so many answers. Nothing but `passed` says so.
+    // The gate was called for the worker with this number after this many results. Only `passed` establishes this.
     ghost Reported: { Self → ℕ → ℕ → Type 0 };
 
-    /// Takes note that the worker of this number has had so many answers.
+    /// Records that the worker with this number has had this many results.
     ///
-    /// It requires that these are none, or one more than the gate was told of this worker before.
+    /// It requires that the count is 0, or one more than in the last call for this worker.
     fn passed(&self, worker: usize, answered: usize)
         requires in_order { IsNext (Reported self.now worker) answered }
         ensures reported { Reported self.now worker answered };
 }
 
-/// Puts each offered object whose place nobody holds at the back of this party's list, and returns how many it put there.
+/// Inserts each offered object whose place nobody holds at the back of this party's list, and returns how many it
+/// inserted.
 ///
 /// It requires that the offered places are covered, and that the table represents a sequence for the list. It claims each place once,
-/// in the order in which they are offered; what some party holds already, also this one, stays where it is. The gate is told
-/// 0 before the first claim, and i after the i-th, in this order. O(offered), no memory, and it waits for nobody but the gate.
+/// in the order in which they are offered. An object that some party holds already, also this one, stays where it is. It calls the
+/// gate with 0 before the first claim, and with i after the i-th. O(offered), no memory, and it waits for nobody except the gate.
 pub fn gather<T, L: PlainLinkOps + LinkedListOps, A: Allocator, G: Gate>(
     worker: usize,
     offered: &[UnsafeRef<T>],

@@ -1,7 +1,7 @@
-//! Claims: one word for each place, and one history for all who share them.
+//! Claims on places: one word for each place, and one history of all threads that share them.
 //!
-//! Objects that threads share are each in at most one holder's collections, with no lock. Whoever wants a place claims
-//! it, by one compare-exchange on the place's word, and gives it up by one store; a look is one load.
+//! Without a lock, each object that threads share is in the collections of at most one holder. A holder claims a place
+//! by one compare-exchange on the place's word, releases it by one store, and looks whether it is held by one load.
 //!
 //! ```text
 //! let (claims, holders) = Claims::new(rt.alloc(), 1000, 2)?;
@@ -14,7 +14,7 @@
 //! claims.audit(&mut holders);
 //! ```
 //!
-//! [`Core`] is the same as a plain value of one thread: what it answers is what the claims answer to the same steps.
+//! [`Core`] does the same as a plain value of one thread: its results are those of the claims for the same steps.
 #![tactic(auto)]
 
 mod atomic_link_ops;

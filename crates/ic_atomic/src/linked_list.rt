@@ -10,7 +10,7 @@ use ic_link_ops::linked_list::{LinkOps, LinkedListOps};
 use ic_unsafe_ref::Place;
 use std::alloc::{Allocator, Global};
 
-/// The plain table of doubly links, whose places are claimed.
+/// The plain table for doubly linked lists over claimed places.
 pub type AtomicLinkOps<'c, A = Global> = crate::AtomicLinkOps<'c, LinkOps<A>, A>;
 
 impl<L: PlainLinkOps + LinkedListOps, A: Allocator> LinkedListOps

@@ -1,4 +1,4 @@
-//! Tables whose links nobody else may have.
+//! Tables that refuse a link only if they link the place themselves.
 //!
 //! ```text
 //! links.acquire_link(place) // false exactly if the place is linked in this table
@@ -11,11 +11,11 @@ use ic_link_ops::{AcceptsUnlinked, LentTable, LinkValue, PlainTable, Words};
 use ic_unsafe_ref::Place;
 use std::alloc::Allocator;
 
-/// A table that refuses a link for one reason alone: that the place is linked in it.
+/// A table that refuses a link only if it links the place already.
 ///
-/// A plain table is one, and so is a view of its links that is lent.
+/// Plain tables are such tables, and so are lent views of their links.
 pub trait PlainLinkOps: AcceptsUnlinked {
-    /// How many places are covered: those with a smaller index.
+    /// The number of places that are covered. A place is covered if its index is smaller than this number.
     fn covers(&self) -> usize
         ensures { result ≡ (Self.table self.now).extent.places };
 

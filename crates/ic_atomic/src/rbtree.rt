@@ -11,7 +11,7 @@ use ic_link_ops::rbtree::{LinkOps, RBTreeOps};
 use ic_unsafe_ref::Place;
 use std::alloc::{Allocator, Global};
 
-/// The plain table of tree links, whose places are claimed.
+/// The plain table for red-black trees over claimed places.
 pub type AtomicLinkOps<'c, A = Global> = crate::AtomicLinkOps<'c, LinkOps<A>, A>;
 
 impl<L: PlainLinkOps + RBTreeOps, A: Allocator> RBTreeOps for crate::AtomicLinkOps<'_, L, A> {

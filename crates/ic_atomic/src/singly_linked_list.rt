@@ -10,7 +10,7 @@ use ic_link_ops::singly_linked_list::{LinkOps, SinglyLinkedListOps};
 use ic_unsafe_ref::Place;
 use std::alloc::{Allocator, Global};
 
-/// The plain table of singly links, whose places are claimed.
+/// The plain table for singly linked lists over claimed places.
 pub type AtomicLinkOps<'c, A = Global> = crate::AtomicLinkOps<'c, LinkOps<A>, A>;
 
 impl<L: PlainLinkOps + SinglyLinkedListOps, A: Allocator> SinglyLinkedListOps

@@ -10,12 +10,12 @@ use ic_link_ops::xor_linked_list::{LinkOps, XorLinkedListOps};
 use ic_unsafe_ref::Place;
 use std::alloc::{Allocator, Global};
 
-/// The plain table of XOR links, whose places are claimed.
+/// The plain table for XOR lists over claimed places.
 pub type AtomicLinkOps<'c, A = Global> = crate::AtomicLinkOps<'c, LinkOps<A>, A>;
 
 impl<L: PlainLinkOps + XorLinkedListOps, A: Allocator> XorLinkedListOps
     for crate::AtomicLinkOps<'_, L, A> {
-    ghost Joins = { L.Joins };
+    ghost HasNeighbors = { L.HasNeighbors };
 
     ghost other = { L.other };
 

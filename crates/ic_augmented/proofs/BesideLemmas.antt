@@ -1,16 +1,16 @@
 -- What was written within a tree: that of one that is summed, and with a place whose summary is stale.
-use Rattle.std.proofs.Common.{◌≡◌, ◌≢◌, ◌≤◌, ◌+◌, ℕ, suc, Bool, true, false, cond, ◌||◌, Option, Some, None, List, [], ◌∷◌, ◌++◌, refl, sym, ap, ◌∙◌, subst, arith, inl, inr}
+use Rattle.std.proofs.Common.{◌≡◌, ◌≤◌, ◌+◌, ℕ, Bool, true, false, cond, ◌||◌, Option, Some, None, List, [], ◌∷◌, ◌++◌, refl, sym, ap, ◌∙◌, subst, arith, inl, inr}
 use Rattle.std.proofs.lemmas.Bool.{false_from_ne_true}
 use Rattle.ic_link_ops.specs.Prelude.{Place, Cut, join, insert, IsAbsent, Table}
 use Rattle.ic_unsafe_ref.proofs.PlaceLemmas.{same_or_not}
-use Rattle.ic_link_ops.specs.RedBlackTree.{Node, Represents}
+use Rattle.ic_link_ops.specs.RedBlackTree.{Node}
 use Rattle.ic_link_ops.specs.Times.{one_at, times, times_in}
-use Rattle.ic_link_ops.specs.Trees.{Tree, leaf, fork, in_order}
+use Rattle.ic_link_ops.specs.Trees.{Tree, leaf, fork}
 use Rattle.ic_link_ops.proofs.SequenceLemmas.{none_not, some_same, absent_left, absent_right, absent_both, absent_with}
 use Rattle.ic_link_ops.proofs.Times.{absent_times, one_at_self, one_at_other, times_order}
 use Rattle.ic_rbtree.specs.Closed.{IsIn}
 use Rattle.ic_rbtree.proofs.RepresentedClosed.{is_it, among}
-use Rattle.ic_augmented.specs.Sums.{Sums, is_fresh, IsSummed}
+use Rattle.ic_augmented.specs.Summaries.{Summaries, is_fresh, IsSummed}
 use Rattle.ic_augmented.specs.Consistent.{RepresentsSummed}
 use Rattle.ic_augmented.specs.Beside.{IsWrittenWithin, IsWrittenIn, IsEdgeOf}
 use Rattle.ic_augmented.proofs.ConsistencyLemmas.{where_is}
@@ -51,11 +51,11 @@ edge_of (Some x) front p back i q e other out =
 
 module _ {S : Type 0} where
   -- WRITTEN WITHIN, in both words
-  pub written_among : (z : Sums S) (s : List Place) → IsWrittenWithin z s → IsWrittenIn z (λ q. among q s)
+  pub written_among : (z : Summaries S) (s : List Place) → IsWrittenWithin z s → IsWrittenIn z (λ q. among q s)
   written_among z s h q p m e up = times_among p s (h q p (among_times q s m) e up)
 
   -- THE SUMMARIES OF A SUMMED TREE were written within it
-  upper_within : (z : Sums S) (up : Option Place) (t : Tree) (s : List Place) → IsSummed z up t → ((q : Place) → 1 ≤ times q t → 1 ≤ times_in q s)
+  upper_within : (z : Summaries S) (up : Option Place) (t : Tree) (s : List Place) → IsSummed z up t → ((q : Place) → 1 ≤ times q t → 1 ≤ times_in q s)
       → ((p : Place) → up ≡ Some p → 1 ≤ times_in p s) → (q p : Place) → 1 ≤ times q t → z.upper q ≡ Some p → 1 ≤ times_in p s
   upper_within z up leaf s h all above q p m e = absurd (omega (arith, m))
   upper_within z up (fork c a x b) s h all above q p m e =
@@ -69,14 +69,14 @@ module _ {S : Type 0} where
       ]
 
   -- and so were those of a tree with a place whose summary is stale
-  pub stale_within : (z : Sums S) (s : List Place) (p : Place) → z.fresh p ≡ None → IsWrittenWithin z s → IsWrittenWithin z (p ∷ s)
+  pub stale_within : (z : Summaries S) (s : List Place) (p : Place) → z.fresh p ≡ None → IsWrittenWithin z s → IsWrittenWithin z (p ∷ s)
   stale_within z s p stale h q r m fresh up = elim (same_or_not q p) [
     | inl e ↦ let k : is_fresh (z.fresh q) ≡ false = rw e (rw stale refl) in let x : true ≡ false = sym fresh ∙ k in cc
     | inr other ↦ let k = h q r (omega (arith, m, one_at_other q p other)) fresh up in omega (arith, k)
   ]
 
 module _ {E S : Type 0} (n : E → Node) where
-  pub summed_within : {z : Sums S} {v : Table E} {root : Option Place} {s : List Place} → RepresentsSummed n z v root s → IsWrittenWithin z s
+  pub summed_within : {z : Summaries S} {v : Table E} {root : Option Place} {s : List Place} → RepresentsSummed n z v root s → IsWrittenWithin z s
   summed_within {z} {v} {root} {s} h q p m fresh up =
       let times_are : (x : Place) → times x h.shows.tree ≡ times_in x s = λ x. sym (times_order x h.shows.tree) ∙ ap (times_in x) h.shows.held.order in
       upper_within z None h.shows.tree s h.summed (λ x k. omega (arith, k, times_are x)) (λ x e. absurd (none_not x e)) q p (omega (arith, m, times_are q)) up

@@ -11,9 +11,9 @@ use Rattle.ic_link_ops.specs.Trees.{Tree, leaf, fork, top, in_order}
 use Rattle.ic_link_ops.proofs.SequenceLemmas.{none_not, some_same}
 use Rattle.ic_link_ops.proofs.RepresentedTrees.{holds_out}
 use Rattle.ic_link_ops.proofs.Times.{one_at_self, apart, times_plug, times_order, absent_times}
-use Rattle.ic_augmented.specs.Sums.{Sums, is_fresh, seen, IsSummed, Writes}
+use Rattle.ic_augmented.specs.Summaries.{Summaries, is_fresh, seen, IsSummed, Writes}
 use Rattle.ic_augmented.specs.Consistent.{IsUnder, IsJoined, IsSameAt, IsConsistentTree, IsConsistentBelow, IsConsistentBut, IsConsistent, Refreshes}
-use Rattle.ic_augmented.specs.Changes.{IsAmong, Rejoins, seen_upper, join_on, IsJoinedOn, IsConsistentAbove, IsEdgeAbove, IsEdgeAt, RenewsAt, PassesOn, ClimbsTo}
+use Rattle.ic_augmented.specs.Changes.{IsAmong, Rejoins, seen_upper, join_on, IsJoinedOn, IsConsistentAbove, IsEdgeAbove, IsEdgeAt, RecomputesAt, PassesOn, ClimbsTo}
 use Rattle.ic_augmented.specs.Subtrees.{IsSubtree}
 use Rattle.ic_augmented.proofs.ConsistencyLemmas.{times_top, apart_left, apart_right, seen_same, under_same, joined_same, consistent_kept, same_on, tree_consistent, writes_same, summed_consistent_tree}
 use Rattle.ic_augmented.proofs.EditLemmas.{others_consistent}
@@ -40,12 +40,12 @@ member_out q (x ∷ s) t apart m = (
 )
 
 module _ {S : Type 0} where
-  under_of : (z : Sums S) (p : Place) (o : Option Place) → is_fresh (seen z o) ≡ true → seen_upper z o ≡ Some p → IsUnder z p o
+  under_of : (z : Summaries S) (p : Place) (o : Option Place) → is_fresh (seen z o) ≡ true → seen_upper z o ≡ Some p → IsUnder z p o
   under_of z p None f u = tt
   under_of z p (Some c) f u = (f, u)
 
   -- what stands above depends on what is kept there alone
-  joined_on_same : (z w : Sums S) (d : Side) (p : Place) (x : Option S) (up : Option Place) (b : Tree) (y : S) → w.join ≡ z.join → ((q : Place) → 1 ≤ times q b → IsSameAt z w q)
+  joined_on_same : (z w : Summaries S) (d : Side) (p : Place) (x : Option S) (up : Option Place) (b : Tree) (y : S) → w.join ≡ z.join → ((q : Place) → 1 ≤ times q b → IsSameAt z w q)
       → IsJoinedOn z d p x up (top b) y → IsJoinedOn w d p x up (top b) y
   joined_on_same z w d p x up b y ej k j = record {
     fresh = j.fresh;
@@ -55,11 +55,11 @@ module _ {S : Type 0} where
     other_is = under_same z w p (top b) j.other_is (λ c i. k c (times_top c b i));
   }
 
-  as_kept : (z w : Sums S) (p : Place) (fs : List Frame) → IsSameAt z w p → IsConsistentAbove w (z.fresh p) (z.upper p) fs → IsConsistentAbove w (w.fresh p) (w.upper p) fs
+  as_kept : (z w : Summaries S) (p : Place) (fs : List Frame) → IsSameAt z w p → IsConsistentAbove w (z.fresh p) (z.upper p) fs → IsConsistentAbove w (w.fresh p) (w.upper p) fs
   as_kept z w p fs here h =
       subst (λ (o : Option S). IsConsistentAbove w o (w.upper p) fs) (sym here.fresh) (subst (λ (u : Option Place). IsConsistentAbove w (z.fresh p) u fs) (sym here.upper) h)
 
-  pub above_kept : (z w : Sums S) (x : Option S) (up : Option Place) (fs : List Frame) → w.join ≡ z.join → ((q : Place) → 1 ≤ times_around q fs → IsSameAt z w q)
+  pub above_kept : (z w : Summaries S) (x : Option S) (up : Option Place) (fs : List Frame) → w.join ≡ z.join → ((q : Place) → 1 ≤ times_around q fs → IsSameAt z w q)
       → IsConsistentAbove z x up fs → IsConsistentAbove w x up fs
   above_kept z w x up [] ej k h = tt
   above_kept z w x up (frame d c p b ∷ fs) ej k h =
@@ -69,7 +69,7 @@ module _ {S : Type 0} where
         as_kept z w p fs here (above_kept z w (z.fresh p) (z.upper p) fs ej (λ q m. k q (omega (arith, m))) h.2),
       )
 
-  edge_above_kept : (z w : Sums S) (edge : Place) (fs : List Frame) → w.join ≡ z.join → ((q : Place) → 1 ≤ times_around q fs → IsSameAt z w q) → IsEdgeAbove z edge fs → IsEdgeAbove w edge fs
+  edge_above_kept : (z w : Summaries S) (edge : Place) (fs : List Frame) → w.join ≡ z.join → ((q : Place) → 1 ≤ times_around q fs → IsSameAt z w q) → IsEdgeAbove z edge fs → IsEdgeAbove w edge fs
   edge_above_kept z w edge [] ej k h = absurd h
   edge_above_kept z w edge (frame d c p b ∷ fs) ej k h = (
     consistent_kept z w b ej (λ q m. k q (omega (arith, m))) h.0,
@@ -79,7 +79,7 @@ module _ {S : Type 0} where
     ],
   )
 
-  edge_among : (z : Sums S) (edge : Place) (fs : List Frame) → IsEdgeAbove z edge fs → IsAmong edge fs
+  edge_among : (z : Summaries S) (edge : Place) (fs : List Frame) → IsEdgeAbove z edge fs → IsAmong edge fs
   edge_among z edge [] h = absurd h
   edge_among z edge (frame d c p b ∷ fs) h = elim h.1 [
     | inl x ↦ inl x.0
@@ -87,7 +87,7 @@ module _ {S : Type 0} where
   ]
 
   -- THE WAY UP IS RIGHT if it was so for the summary that its lowest place has
-  pub closes : (z : Sums S) (x : Option S) (up : Option Place) (fs : List Frame) (t : Tree) → (is_fresh x ≡ true → seen z (top t) ≡ x) → (is_fresh x ≡ true → seen_upper z (top t) ≡ up)
+  pub closes : (z : Summaries S) (x : Option S) (up : Option Place) (fs : List Frame) (t : Tree) → (is_fresh x ≡ true → seen z (top t) ≡ x) → (is_fresh x ≡ true → seen_upper z (top t) ≡ up)
       → IsConsistentTree z t → IsConsistentAbove z x up fs → IsConsistentTree z (plug fs t)
   closes z x up [] t s u h a = h
   closes z x up (frame Left c p b ∷ fs) t s u h a = closes z (z.fresh p) (z.upper p) fs (fork c t p b) (λ f. refl) (λ f. refl) (
@@ -110,7 +110,7 @@ module _ {S : Type 0} where
   ) a.2
 
   -- the lowest place has its parent now
-  under_now : (z : Sums S) (x : Option S) (up : Option Place) (fs : List Frame) → IsConsistentAbove z x up fs → IsConsistentAbove z x (above fs) fs
+  under_now : (z : Summaries S) (x : Option S) (up : Option Place) (fs : List Frame) → IsConsistentAbove z x up fs → IsConsistentAbove z x (above fs) fs
   under_now z x up [] h = tt
   under_now z x up (frame d c p b ∷ fs) h = (
     (λ y e. let j = h.0 y e in record { fresh = j.fresh; under = refl; joined = j.joined; other_is = j.other_is }),
@@ -119,7 +119,7 @@ module _ {S : Type 0} where
   )
 
   -- A SUMMARY REJOINED: the subtree is right
-  pub rejoined : (z w : Sums S) (d : Side) (c : Color) (p : Place) (b t : Tree) (from to was is : S) (up parent : Option Place)
+  pub rejoined : (z w : Summaries S) (d : Side) (c : Color) (p : Place) (b t : Tree) (from to was is : S) (up parent : Option Place)
       → ((q : Place) → times q (put_in (frame d c p b) t) ≤ 1) → IsConsistentTree z t → IsConsistentTree z b → seen z (top t) ≡ Some to → seen_upper z (top t) ≡ Some p
       → IsJoinedOn z d p (Some from) up (top b) was → Rejoins (z.join p) from to was is → Writes z w p (Some is) parent → IsConsistentTree w (put_in (frame d c p b) t)
   rejoined z w Left c p b t from to was is up parent once ht hb s u j r k = (
@@ -141,16 +141,16 @@ module _ {S : Type 0} where
     consistent_kept z w t k.join (λ q m. writes_same z w p _ parent q k (apart_right q p c b t once m)) ht,
   )
 
-  -- a stale one: nothing is to be renewed
-  stale_put : (z : Sums S) (d : Side) (c : Color) (p : Place) (b t : Tree) → z.fresh p ≡ None → IsConsistentTree z t → IsConsistentTree z b → IsConsistentTree z (put_in (frame d c p b) t)
+  -- a stale one: nothing is to be recomputed
+  stale_put : (z : Summaries S) (d : Side) (c : Color) (p : Place) (b t : Tree) → z.fresh p ≡ None → IsConsistentTree z t → IsConsistentTree z b → IsConsistentTree z (put_in (frame d c p b) t)
   stale_put z Left c p b t none ht hb = ((λ y e. absurd (none_not y (sym none ∙ e))), ht, hb)
   stale_put z Right c p b t none ht hb = ((λ y e. absurd (none_not y (sym none ∙ e))), hb, ht)
 
-  below_put : (z : Sums S) (d : Side) (c : Color) (p : Place) (b t : Tree) → IsConsistentTree z t → IsConsistentTree z b → IsConsistentBelow z (put_in (frame d c p b) t)
+  below_put : (z : Summaries S) (d : Side) (c : Color) (p : Place) (b t : Tree) → IsConsistentTree z t → IsConsistentTree z b → IsConsistentBelow z (put_in (frame d c p b) t)
   below_put z Left c p b t ht hb = (ht, hb)
   below_put z Right c p b t ht hb = (hb, ht)
 
-  summed_upper : (z : Sums S) (up : Option Place) (p : Place) (t : Tree) → top t ≡ Some p → IsSummed z up t → z.upper p ≡ up
+  summed_upper : (z : Summaries S) (up : Option Place) (p : Place) (t : Tree) → top t ≡ Some p → IsSummed z up t → z.upper p ≡ up
   summed_upper z up p leaf e h = absurd (none_not p e)
   summed_upper z up p (fork c a q b) e h = ap z.upper (sym (some_same e)) ∙ h.1
 
@@ -164,13 +164,13 @@ module _ {E : Type 0} (n : E → Node) (v : Table E) where
 
 module _ {E S : Type 0} (n : E → Node) (v : Table E) where
   -- RENEWED AT A PLACE, by a write of what was rejoined
-  pub rejoined_at : (z y : Sums S) (p : Place) (from to was is : S) (parent : Option Place) → z.fresh p ≡ Some was → Writes z y p (Some is) parent → Rejoins (z.join p) from to was is → RenewsAt n v z y p from to parent
+  pub rejoined_at : (z y : Summaries S) (p : Place) (from to was is : S) (parent : Option Place) → z.fresh p ≡ Some was → Writes z y p (Some is) parent → Rejoins (z.join p) from to was is → RecomputesAt n v z y p from to parent
   rejoined_at z y p from to was is parent e k r d c b fs t up h ht s u a =
       (rejoined z y d c p b t from to was is up parent (once_below n v fs (put_in (frame d c p b) t) (subtree_put n v d c p b fs t h)) ht a.1 s u (a.0 was e) r k, k.upper)
 
-  -- or by a renewal of all below
-  pub renewed_at : (z y : Sums S) (p : Place) (from to : S) (upper : Option Place) → ((u : Option Place) (t : Tree) → IsTree n v.entry u t → Some p ≡ top t → Refreshes IsConsistentBelow z y upper t 67) → RenewsAt n v z y p from to upper
-  renewed_at z y p from to upper here d c b fs t up h ht s u a =
+  -- or by a recomputation of all below
+  pub recomputed_at : (z y : Summaries S) (p : Place) (from to : S) (upper : Option Place) → ((u : Option Place) (t : Tree) → IsTree n v.entry u t → Some p ≡ top t → Refreshes IsConsistentBelow z y upper t 67) → RecomputesAt n v z y p from to upper
+  recomputed_at z y p from to upper here d c b fs t up h ht s u a =
       let w : Tree = put_in (frame d c p b) t in
       let i = subtree_put n v d c p b fs t h in
       let r = here (above fs) w i.tree (sym (top_put d c p b t)) in
@@ -178,16 +178,16 @@ module _ {E S : Type 0} (n : E → Node) (v : Table E) where
       (summed_consistent_tree y upper w summed, summed_upper y upper p w (top_put d c p b t) summed)
 
   -- what stands outside the tree stays
-  pub others_up : (z y w : Sums S) (p next : Place) → ((fs : List Frame) (t : Tree) → IsSubtree n v fs t → top t ≡ Some p → (q : Place) → times q t ≡ 0 → IsSameAt z y q)
+  pub others_up : (z y w : Summaries S) (p next : Place) → ((fs : List Frame) (t : Tree) → IsSubtree n v fs t → top t ≡ Some p → (q : Place) → times q t ≡ 0 → IsSameAt z y q)
       → (n (v.entry p)).parent ≡ Some next → OthersStay n v y w next → OthersStay n v z w p
   others_up z y w p next kept is on [] t h e q out = absurd (none_not next (sym (subtree_parent n v [] t p h e) ∙ is))
   others_up z y w p next kept is on (frame d c a b ∷ fs) t h e q out =
       same_on z y w q (kept (frame d c a b ∷ fs) t h e q (omega (arith, out, times_plug q (frame d c a b ∷ fs) t)))
       (on fs (put_in (frame d c a b) t) (subtree_put n v d c a b fs t h) (top_put d c a b t ∙ (sym (subtree_parent n v (frame d c a b ∷ fs) t p h e) ∙ is)) q out)
 
-  -- PASSED ON from a place that was renewed
-  module _ (z y : Sums S) (p : Place) (from to was is : S) (parent : Option Place)
-      (parent_is : (n (v.entry p)).parent ≡ parent) (ej : y.join ≡ z.join) (at : RenewsAt n v z y p from to parent) (was_at : z.fresh p ≡ Some was) (is_there : y.fresh p ≡ Some is)
+  -- PASSED ON from a place that was recomputed
+  module _ (z y : Summaries S) (p : Place) (from to was is : S) (parent : Option Place)
+      (parent_is : (n (v.entry p)).parent ≡ parent) (ej : y.join ≡ z.join) (at : RecomputesAt n v z y p from to parent) (was_at : z.fresh p ≡ Some was) (is_there : y.fresh p ≡ Some is)
       (kept : (fs : List Frame) (t : Tree) → IsSubtree n v fs t → top t ≡ Some p → (q : Place) → times q t ≡ 0 → IsSameAt z y q) where
     above_now : (d : Side) (c : Color) (b : Tree) (fs : List Frame) (t : Tree) (up : Option Place) → IsSubtree n v (frame d c p b ∷ fs) t → IsConsistentAbove z (Some from) up (frame d c p b ∷ fs)
         → IsConsistentAbove y (Some was) (above fs) fs
@@ -216,7 +216,7 @@ module _ {E S : Type 0} (n : E → Node) (v : Table E) where
         absurd (none_not q (sym none ∙ (sym parent_is ∙ subtree_parent n v (frame e g q m ∷ fs) (put_in (frame d c p b) t) p (subtree_put n v d c p b (frame e g q m ∷ fs) t h) (top_put d c p b t))))
 
     -- it has a parent, from which the change is passed on
-    pub passed_on : (w : Sums S) (next : Place) → parent ≡ Some next → PassesOn n v y w next was is → PassesOn n v z w p from to
+    pub passed_on : (w : Summaries S) (next : Place) → parent ≡ Some next → PassesOn n v y w next was is → PassesOn n v z w p from to
     passed_on w next on passes d c b [] t up h ht s u a =
         absurd (none_not next (sym (subtree_parent n v [] (put_in (frame d c p b) t) p (subtree_put n v d c p b [] t h) (top_put d c p b t)) ∙ (parent_is ∙ on)))
     passed_on w next on passes d c b (frame e g q m ∷ fs) t up h ht s u a =
@@ -229,12 +229,12 @@ module _ {E S : Type 0} (n : E → Node) (v : Table E) where
         (above_now d c b (frame e g q m ∷ fs) t up h a)
 
   -- a stale one ends it
-  pub passed_stale : (z : Sums S) (p : Place) (from to : S) → z.fresh p ≡ None → PassesOn n v z z p from to
+  pub passed_stale : (z : Summaries S) (p : Place) (from to : S) → z.fresh p ≡ None → PassesOn n v z z p from to
   passed_stale z p from to none d c b fs t up h ht s u a =
       closes z (z.fresh p) (z.upper p) fs (put_in (frame d c p b) t) (λ f. ap (seen z) (top_put d c p b t)) (λ f. ap (seen_upper z) (top_put d c p b t)) (stale_put z d c p b t none ht a.1) a.2
 
-  -- THE CLIMB, from a place that was renewed
-  module _ (z y : Sums S) (p edge : Place) (is : S) (parent : Option Place) (parent_is : (n (v.entry p)).parent ≡ parent) (is_there : Some is ≡ y.fresh p)
+  -- THE CLIMB, from a place that was recomputed
+  module _ (z y : Summaries S) (p edge : Place) (is : S) (parent : Option Place) (parent_is : (n (v.entry p)).parent ≡ parent) (is_there : Some is ≡ y.fresh p)
       (here : (u : Option Place) (t : Tree) → IsTree n v.entry u t → Some p ≡ top t → Refreshes IsConsistentBelow z y parent t 67) where
     climbed_tree : (fs : List Frame) (t : Tree) → IsSubtree n v fs t → top t ≡ Some p → IsConsistentBelow z t → IsSummed y parent t
     climbed_tree fs t h e below = (here (above fs) t h.tree (sym e)).summed (once_below n v fs t h) below (omega (arith, h.low, lower fs t))
@@ -263,7 +263,7 @@ module _ {E S : Type 0} (n : E → Node) (v : Table E) where
     climbed_ends none (frame d c q b ∷ fs) t h e below at = absurd (none_not q (sym none ∙ parent_above (frame d c q b ∷ fs) t h e))
 
     -- not yet at the edge
-    pub climbed_on : (w : Sums S) (next : Place) → parent ≡ Some next → p ≢ edge → ClimbsTo n v y w next edge → ClimbsTo n v z w p edge
+    pub climbed_on : (w : Summaries S) (next : Place) → parent ≡ Some next → p ≢ edge → ClimbsTo n v y w next edge → ClimbsTo n v z w p edge
     climbed_on w next on other climbs [] t h e below at = absurd (none_not next (sym (parent_above [] t h e) ∙ on))
     climbed_on w next on other climbs (frame d c q b ∷ fs) t h e below (inl x) = absurd (other x.0)
     climbed_on w next on other climbs (frame d c q b ∷ fs) t h e below (inr x) =
@@ -288,7 +288,7 @@ module _ {E S : Type 0} (n : E → Node) (v : Table E) where
         (under_now y (Some was) (z.upper p) fs (subst (λ (o : Option S). IsConsistentAbove y o (z.upper p) fs) fresh (above_there fs t h e (at_edge fs t i h e at))))
 
     -- at the edge, from which the change is passed on
-    pub climbed_edge : (w : Sums S) (next : Place) (was : S) → p ≡ edge → z.fresh p ≡ Some was → parent ≡ Some next → PassesOn n v y w next was is → ClimbsTo n v z w p edge
+    pub climbed_edge : (w : Summaries S) (next : Place) (was : S) → p ≡ edge → z.fresh p ≡ Some was → parent ≡ Some next → PassesOn n v y w next was is → ClimbsTo n v z w p edge
     climbed_edge w next was i fresh on passes [] t h e below at = absurd (none_not next (sym (parent_above [] t h e) ∙ on))
     climbed_edge w next was i fresh on passes (frame d c q b ∷ fs) t h e below at =
         let same : q ≡ next = some_same (sym (parent_above (frame d c q b ∷ fs) t h e) ∙ on) in
@@ -299,12 +299,12 @@ module _ {E S : Type 0} (n : E → Node) (v : Table E) where
         (subst (λ (o : Option S). IsConsistentAbove y o (z.upper p) (frame d c q b ∷ fs)) fresh (above_there (frame d c q b ∷ fs) t h e (at_edge (frame d c q b ∷ fs) t i h e at)))
 
   -- the place is the edge itself
-  pub climbed_there : (z y : Sums S) (p edge : Place) → p ≡ edge → ClimbsTo n v z y p p → ClimbsTo n v z y p edge
+  pub climbed_there : (z y : Summaries S) (p edge : Place) → p ≡ edge → ClimbsTo n v z y p p → ClimbsTo n v z y p edge
   climbed_there z y p edge i climbs fs t h e below at =
       climbs fs t h e below (subst (λ (q : Place). IsEdgeAt z q p fs) (sym i) at)
 
 -- FROM THE SEQUENCE, in which each fresh summary is right but maybe at the edge
-module _ {E S : Type 0} (n : E → Node) (v : Table E) (z : Sums S) (s : List Place) (edge : Place) (h : IsConsistentBut n v z s (Some edge)) where
+module _ {E S : Type 0} (n : E → Node) (v : Table E) (z : Summaries S) (s : List Place) (edge : Place) (h : IsConsistentBut n v z s (Some edge)) where
   right_at : (q : Place) → 1 ≤ times_in q s → q ≢ edge → (x : S) → z.fresh q ≡ Some x → IsJoined z q (n (v.entry q)).left (n (v.entry q)).right x
   right_at q m other x e = h q m (λ i. other (sym (some_same i))) x e
 
@@ -393,7 +393,7 @@ module _ {E : Type 0} (n : E → Node) (v : Table E) where
 
 module _ {E S : Type 0} (n : E → Node) (v : Table E) where
   -- THE EDGE SETTLED: each fresh summary of the represented tree is right
-  pub settled : (z y : Sums S) (root : Option Place) (front : List Place) (p edge : Place) (back : List Place) → ClimbsTo n v z y p edge
+  pub settled : (z y : Summaries S) (root : Option Place) (front : List Place) (p edge : Place) (back : List Place) → ClimbsTo n v z y p edge
       → ((fs : List Frame) (t : Tree) → IsSubtree n v fs t → top t ≡ Some p → IsAmong edge fs) → (h : Represents n v root (front ++ p ∷ back))
       → IsConsistentBut n v z (front ++ p ∷ back) (Some edge) → IsConsistentTree y h.tree
   settled z y root front p edge back climbs among h k =
@@ -405,7 +405,7 @@ module _ {E S : Type 0} (n : E → Node) (v : Table E) where
       subst (λ (u : Tree). IsConsistentTree y u) x.same (climbs x.fs t x.subtree refl r.0 r.1)
 
   -- and each of another tree
-  pub others_settled : (z y : Sums S) (root other : Option Place) (front : List Place) (p edge : Place) (back t : List Place) → y.join ≡ z.join → OthersStay n v z y p
+  pub others_settled : (z y : Summaries S) (root other : Option Place) (front : List Place) (p edge : Place) (back t : List Place) → y.join ≡ z.join → OthersStay n v z y p
       → ((fs : List Frame) (t : Tree) → IsSubtree n v fs t → top t ≡ Some p → IsAmong edge fs) → Represents n v root (front ++ p ∷ back) → Represents n v other t → IsDisjoint (front ++ p ∷ back) t
       → IsConsistentBut n v z t (Some edge) → IsConsistent n v y t
   others_settled z y root other front p edge back t ej stays among h k apart but =
@@ -418,7 +418,7 @@ module _ {E S : Type 0} (n : E → Node) (v : Table E) where
       (others_consistent n v z y other t ej (λ q m. stays x.fs u x.subtree refl q (out q m)) (k, λ q m none. but q m (other_than q m))).1
 
 -- THE EDGE SETTLED from itself on, where it is a member
-module _ {E S : Type 0} (n : E → Node) (v : Table E) (z y : Sums S) (root : Option Place) (s : List Place) (edge : Place) (h : Represents n v root s) (member : IsMember edge s) where
+module _ {E S : Type 0} (n : E → Node) (v : Table E) (z y : Summaries S) (root : Option Place) (s : List Place) (edge : Place) (h : Represents n v root s) (member : IsMember edge s) where
   pub settled_here : ClimbsTo n v z y edge edge → IsConsistentBut n v z s (Some edge) → IsConsistent n v y s
   settled_here climbs k q m but x e =
       let at = member_at n v root s edge h member in

@@ -12,7 +12,7 @@ use Rattle.ic_link_ops.proofs.Walks.{few_places}
 use Rattle.ic_rbtree.specs.Height.{height}
 use Rattle.ic_rbtree.proofs.Climbed.{path_few}
 use Rattle.ic_augmented.specs.declared.sum_table.Cell.{Cell}
-use Rattle.ic_augmented.specs.Sums.{seen, total, IsSummed}
+use Rattle.ic_augmented.specs.Summaries.{seen, total, IsSummed}
 use Rattle.ic_augmented.specs.SumTables.{or_zero}
 use Rattle.ic_augmented.specs.Counts.{counts_in}
 use Rattle.ic_augmented.specs.Consistent.{RepresentsSummed}

@@ -22,7 +22,7 @@ use Rattle.ic_rbtree.proofs.Attaching.{inserts}
 use Rattle.ic_rbtree.proofs.Removing.{removes, loose_absent, represented_of, represents_of}
 use Rattle.ic_rbtree.proofs.Climbed.{path_few}
 use Rattle.ic_rbtree.proofs.RepresentedClosed.{among_there, with_itself, represented_closed, represented_closed_but, hole_in}
-use Rattle.ic_augmented.specs.Sums.{Sums, is_fresh, Invalidates}
+use Rattle.ic_augmented.specs.Summaries.{Summaries, is_fresh, Invalidates}
 use Rattle.ic_augmented.specs.Consistent.{IsSameAt, IsConsistentBut, IsConsistent, IsConsistentTree, KeepsConsistent, RepresentsConsistent, RepresentsSummed, Refreshes, IsJoined}
 use Rattle.ic_augmented.specs.Beside.{IsEdgeOf}
 use Rattle.ic_augmented.specs.Fresh.{RepresentsFresh}
@@ -125,33 +125,33 @@ own_searched {V = V} {Represents = Represents} {old} {w} {head} {s} cmp key_of {
     (subst (λ (o : V → Ordering). InsertsInOrder Represents (compared o after) old w head s place) own i))
 
 module _ {E S : Type 0} (n : E → Node) where
-  fewer_consistent : (v : Table E) (z : Sums S) (edge : Option Place) (s t : List Place) → ((q : Place) → times_in q t ≤ times_in q s) → IsConsistentBut n v z s edge → IsConsistentBut n v z t edge
+  fewer_consistent : (v : Table E) (z : Summaries S) (edge : Option Place) (s t : List Place) → ((q : Place) → times_in q t ≤ times_in q s) → IsConsistentBut n v z s edge → IsConsistentBut n v z t edge
   fewer_consistent v z edge s t k h q m but x e = h q (omega (arith, m, k q)) but x e
 
   -- where no member is the edge, none is wrong
-  pub edge_absent : (v : Table E) (z : Sums S) (s : List Place) (p : Place) (edge : Option Place) → edge ≡ Some p → IsAbsent p s → IsConsistentBut n v z s edge → IsConsistent n v z s
+  pub edge_absent : (v : Table E) (z : Summaries S) (s : List Place) (p : Place) (edge : Option Place) → edge ≡ Some p → IsAbsent p s → IsConsistentBut n v z s edge → IsConsistent n v z s
   edge_absent v z s p edge is out h q m but x e = h q m (λ i. member_other q p s out m (sym (some_same (sym is ∙ i)))) x e
 
   -- without a member it is so too
-  pub without_member : (v : Table E) (z : Sums S) (edge : Option Place) (front : List Place) (p : Place) (back : List Place) → IsConsistentBut n v z (front ++ p ∷ back) edge
+  pub without_member : (v : Table E) (z : Summaries S) (edge : Option Place) (front : List Place) (p : Place) (back : List Place) → IsConsistentBut n v z (front ++ p ∷ back) edge
       → IsConsistentBut n v z (front ++ back) edge
   without_member v z edge front p back h = fewer_consistent v z edge (front ++ p ∷ back) (front ++ back) (λ q. omega (arith, times_append q front back, times_append q front (p ∷ back))) h
 
-  stale_more : (v : Table E) (z : Sums S) (s : List Place) (p : Place) → z.fresh p ≡ None → IsConsistent n v z s → IsConsistent n v z (p ∷ s)
+  stale_more : (v : Table E) (z : Summaries S) (s : List Place) (p : Place) → z.fresh p ≡ None → IsConsistent n v z s → IsConsistent n v z (p ∷ s)
   stale_more v z s p none h q m but x e = h q (omega (arith, m, one_at_other q p (not_stale z p q x none e))) but x e
 
   -- with a stale place in it, each fresh summary is right
-  pub stale_with : (v : Table E) (z y : Sums S) (p : Place) (gap : Cut) → y.fresh p ≡ None → KeepsConsistent n v v z y → IsConsistent n v z (join gap) → IsConsistent n v y (insert gap p)
+  pub stale_with : (v : Table E) (z y : Summaries S) (p : Place) (gap : Cut) → y.fresh p ≡ None → KeepsConsistent n v v z y → IsConsistent n v z (join gap) → IsConsistent n v y (insert gap p)
   stale_with v z y p gap none invalidated h =
       fewer_consistent v y None (p ∷ join gap) (insert gap p) (λ q. omega (arith, times_append q gap.front gap.back, times_append q gap.front (p ∷ gap.back)))
       (stale_more v y (join gap) p none (invalidated.consistent (join gap) h))
 
   -- the represented tree is consistent
-  pub consistent_represented : (v : Table E) (z : Sums S) (root : Option Place) (s : List Place) (h : RepresentsConsistent n z v root s) → IsConsistentTree z h.0.tree
+  pub consistent_represented : (v : Table E) (z : Summaries S) (root : Option Place) (s : List Place) (h : RepresentsConsistent n z v root s) → IsConsistentTree z h.0.tree
   consistent_represented v z root s h = consistent_tree n v z s None h.0.tree h.1 h.0.held.entries (λ q. omega (arith, member_times n v root s h.0 q))
 
   -- ALL IS FRESH, of a tree that is consistent
-  pub refreshed_tree : (v : Table E) (z y : Sums S) (root : Option Place) (s : List Place) (h : Represents n v root s) → IsConsistentTree z h.tree → Refreshes IsConsistentTree z y None h.tree 67 → RepresentsSummed n y v root s
+  pub refreshed_tree : (v : Table E) (z y : Summaries S) (root : Option Place) (s : List Place) (h : Represents n v root s) → IsConsistentTree z h.tree → Refreshes IsConsistentTree z y None h.tree 67 → RepresentsSummed n y v root s
   refreshed_tree v z y root s h k f = record {
     shows = h;
     summed = f.summed (holds_once h.held) k (omega (arith, low));
@@ -159,26 +159,26 @@ module _ {E S : Type 0} (n : E → Node) where
     low : height h.tree ≤ 66
     low = path_few n h [] h.tree (height h.tree) refl (omega arith)
 
-  pub refreshed : (v : Table E) (z y : Sums S) (root : Option Place) (s : List Place) (h : RepresentsConsistent n z v root s) → Refreshes IsConsistentTree z y None h.0.tree 67 → RepresentsSummed n y v root s
+  pub refreshed : (v : Table E) (z y : Summaries S) (root : Option Place) (s : List Place) (h : RepresentsConsistent n z v root s) → Refreshes IsConsistentTree z y None h.0.tree 67 → RepresentsSummed n y v root s
   refreshed v z y root s h f = refreshed_tree v z y root s h.0 (consistent_represented v z root s h) f
 
   -- a represented tree that is consistent is so in its sequence
-  represented_consistent : (v : Table E) (z : Sums S) (root : Option Place) (s : List Place) (h : Represents n v root s) → IsConsistentTree z h.tree → IsConsistent n v z s
+  represented_consistent : (v : Table E) (z : Summaries S) (root : Option Place) (s : List Place) (h : Represents n v root s) → IsConsistentTree z h.tree → IsConsistent n v z s
   represented_consistent v z root s h k q m but x e = tree_consistent n v z None h.tree k h.held.entries q (omega (arith, m, member_times n v root s h q)) x e
 
   -- and so consistent
-  pub still_consistent : (v : Table E) (z : Sums S) (root : Option Place) (s : List Place) → RepresentsSummed n z v root s → RepresentsConsistent n z v root s
+  pub still_consistent : (v : Table E) (z : Summaries S) (root : Option Place) (s : List Place) → RepresentsSummed n z v root s → RepresentsConsistent n z v root s
   still_consistent v z root s h = (h.shows, represented_consistent v z root s h.shows (summed_consistent_tree z None h.shows.tree h.summed))
 
   -- WHERE ALL STAYS THAT IS KEPT at the members, each fresh summary is right still
-  pub others_consistent : (v : Table E) (z w : Sums S) (root : Option Place) (s : List Place) → w.join ≡ z.join → ((q : Place) → 1 ≤ times_in q s → IsSameAt z w q)
+  pub others_consistent : (v : Table E) (z w : Summaries S) (root : Option Place) (s : List Place) → w.join ≡ z.join → ((q : Place) → 1 ≤ times_in q s → IsSameAt z w q)
       → RepresentsConsistent n z v root s → RepresentsConsistent n w v root s
   others_consistent v z w root s ej same h =
       let members : (q : Place) → 1 ≤ times q h.0.tree → IsSameAt z w q = λ q m. same q (omega (arith, m, member_times n v root s h.0 q)) in
       (h.0, represented_consistent v w root s h.0 (consistent_kept z w h.0.tree ej members (consistent_represented v z root s h)))
 
   -- AND THE TREE STAYS SUMMED
-  pub still_summed : (v w : Table E) (z y : Sums S) (root : Option Place) (s : List Place) → ((q : Place) → 1 ≤ times_in q s → IsSameAt z y q)
+  pub still_summed : (v w : Table E) (z y : Summaries S) (root : Option Place) (s : List Place) → ((q : Place) → 1 ≤ times_in q s → IsSameAt z y q)
       → RepresentsSummed n z v root s → RepresentsConsistent n y w root s → RepresentsSummed n y w root s
   still_summed v w z y root s same h k = record { shows = k.0; summed = fresh_summed y None k.0.tree (λ p e. at p e) (consistent_represented w y root s k) } where
     at : (p : Place) → top k.0.tree ≡ Some p → (is_fresh (y.fresh p) ≡ true) × (y.upper p ≡ None)
@@ -189,35 +189,35 @@ module _ {E S : Type 0} (n : E → Node) where
         (ap is_fresh kept.fresh ∙ printed.0, kept.upper ∙ printed.1)
 
   -- AND WHERE A PLACE that is no member is made stale
-  pub invalidated_represents : (v : Table E) (z y : Sums S) (root : Option Place) (s : List Place) (p : Place) → IsAbsent p s → Invalidates z y p → RepresentsConsistent n z v root s → RepresentsConsistent n y v root s
+  pub invalidated_represents : (v : Table E) (z y : Summaries S) (root : Option Place) (s : List Place) (p : Place) → IsAbsent p s → Invalidates z y p → RepresentsConsistent n z v root s → RepresentsConsistent n y v root s
   invalidated_represents v z y root s p out k h = others_consistent v z y root s k.join (λ q m. invalidated_same z y p q k (member_other q p s out m)) h
 
-  pub invalidated_summed : (v : Table E) (z y : Sums S) (root : Option Place) (s : List Place) (p : Place) → IsAbsent p s → Invalidates z y p → RepresentsSummed n z v root s → RepresentsSummed n y v root s
+  pub invalidated_summed : (v : Table E) (z y : Summaries S) (root : Option Place) (s : List Place) (p : Place) → IsAbsent p s → Invalidates z y p → RepresentsSummed n z v root s → RepresentsSummed n y v root s
   invalidated_summed v z y root s p out k h =
       still_summed v v z y root s (λ q m. invalidated_same z y p q k (member_other q p s out m)) h (invalidated_represents v z y root s p out k (still_consistent v z root s h))
 
   -- another place changes
-  pub beside_consistent : (v w : Table E) (z : Sums S) (t : List Place) (p : Place) → IsAbsent p t → ChangesOnly v w p → IsConsistent n v z t → IsConsistent n w z t
+  pub beside_consistent : (v w : Table E) (z : Summaries S) (t : List Place) (p : Place) → IsAbsent p t → ChangesOnly v w p → IsConsistent n v z t → IsConsistent n w z t
   beside_consistent v w z t p out only h q m but x k = subst (λ (y : E). IsJoined z q (n y).left (n y).right x) (sym (only.others q other)) (h q m but x k) where
     other : q ≢ p
     other = member_other q p t out m
 
-  pub beside_represents : (v w : Table E) (z : Sums S) (root : Option Place) (s : List Place) (p : Place) → IsAbsent p s → ChangesOnly v w p → RepresentsConsistent n z v root s → RepresentsConsistent n z w root s
+  pub beside_represents : (v w : Table E) (z : Summaries S) (root : Option Place) (s : List Place) (p : Place) → IsAbsent p s → ChangesOnly v w p → RepresentsConsistent n z v root s → RepresentsConsistent n z w root s
   beside_represents v w z root s p out only h = (represents_beside h.0 out only.others, beside_consistent v w z s p out only h.1)
 
-  pub beside_summed : (v w : Table E) (z : Sums S) (root : Option Place) (s : List Place) (p : Place) → IsAbsent p s → ChangesOnly v w p → RepresentsSummed n z v root s → RepresentsSummed n z w root s
+  pub beside_summed : (v w : Table E) (z : Summaries S) (root : Option Place) (s : List Place) (p : Place) → IsAbsent p s → ChangesOnly v w p → RepresentsSummed n z v root s → RepresentsSummed n z w root s
   beside_summed v w z root s p out only h = still_summed v w z z root s (λ q m. record { fresh = refl; upper = refl }) h (beside_represents v w z root s p out only (still_consistent v z root s h))
 
-  pub acquired_consistent : (old v : Table E) (z : Sums S) (root : Option Place) (s t : List Place) (p : Place) → t ≡ s → (n (old.entry p)).linked ≡ false → ChangesOnly old v p
+  pub acquired_consistent : (old v : Table E) (z : Summaries S) (root : Option Place) (s t : List Place) (p : Place) → t ≡ s → (n (old.entry p)).linked ≡ false → ChangesOnly old v p
       → RepresentsConsistent n z old root s → RepresentsConsistent n z v root t
   acquired_consistent old v z root s t p e free only h = subst (RepresentsConsistent n z v root) (sym e) (beside_represents old v z root s p (free_absent h.0 free) only h)
 
   -- and so all is fresh
-  pub all_fresh : (v : Table E) (z : Sums S) (root : Option Place) (s : List Place) → RepresentsSummed n z v root s → RepresentsFresh n z v root s
+  pub all_fresh : (v : Table E) (z : Summaries S) (root : Option Place) (s : List Place) → RepresentsSummed n z v root s → RepresentsFresh n z v root s
   all_fresh v z root s h = record { summed = h; consistent = still_consistent v z root s h }
 
   -- an insert in order, into a tree that is summed then
-  pub inserts_fresh : {at : Place → Ordering} (old w : Table E) (x : Sums S) (root : Option Place) (s : List Place) (p : Place) (gap : Cut) → RepresentsFresh n x w root (insert gap p)
+  pub inserts_fresh : {at : Place → Ordering} (old w : Table E) (x : Summaries S) (root : Option Place) (s : List Place) (p : Place) (gap : Cut) → RepresentsFresh n x w root (insert gap p)
       → InsertsInOrder (Represents n) at old w root s p → InsertsInOrder (RepresentsFresh n x) at old w root s p
   inserts_fresh old w x root s p gap h i = record {
     gap = i.gap;

@@ -23,7 +23,7 @@ use Rattle.ic_augmented.specs.Consistent.{RepresentsSummed}
 use Rattle.ic_augmented.specs.Greatest.{number_in, greatest_in}
 use Rattle.ic_augmented.specs.Intervals.{overlaps}
 use Rattle.ic_augmented.specs.SumTables.{or_zero}
-use Rattle.ic_augmented.specs.Sums.{seen, total, IsSummed}
+use Rattle.ic_augmented.specs.Summaries.{seen, total, IsSummed}
 use Rattle.ic_augmented.proofs.ConsistencyLemmas.{summed_seen, times_top}
 use Rattle.ic_augmented.specs.Subtrees.{IsSubtree}
 use Rattle.ic_augmented.proofs.SubtreeLemmas.{lower, member_subtree, subtree_left, subtree_right}
@@ -157,10 +157,10 @@ module _ (start : Place → ℕ) (es : List (Cell ℕ ℕ)) (from to : ℕ) wher
     pick (x ∷ w) e = ap first e ∙ sym (ap first (filter-append test s rest ∙ ap (λ (y : List Place). y ++ filter test rest) e))
     pick [] e =
         let both : filter test r.front ++ filter test (r.q ∷ r.back) ≡ [] = sym (filter-append test r.front (r.q ∷ r.back)) ∙ (ap (filter test) (sym r.is) ∙ e) in
-        let behind : to ≤ start r.q = must_start_after r.q r.ends (must_fail r.q r.back (nothing_after (filter test r.front) (filter test (r.q ∷ r.back)) both)) in
+        let following : to ≤ start r.q = must_start_after r.q r.ends (must_fail r.q r.back (nothing_after (filter test r.front) (filter test (r.q ∷ r.back)) both)) in
         let split : s ++ rest ≡ r.front ++ (r.q ∷ (r.back ++ rest)) = ap (λ (y : List Place). y ++ rest) r.is ∙ append_assoc r.front (r.q ∷ r.back) rest in
         let on : IsSorted nat_cmp (map start (r.q ∷ (r.back ++ rest))) = sorted_after start r.front (r.q ∷ (r.back ++ rest)) (subst (λ (y : List Place). IsSorted nat_cmp (map start y)) split sorted) in
-        let none : filter test (r.q ∷ r.back) ++ filter test rest ≡ [] = sym (filter-append test (r.q ∷ r.back) rest) ∙ late r.q (r.back ++ rest) behind on in
+        let none : filter test (r.q ∷ r.back) ++ filter test rest ≡ [] = sym (filter-append test (r.q ∷ r.back) rest) ∙ late r.q (r.back ++ rest) following on in
         let rest_none : filter test rest ≡ [] = nothing_after (filter test (r.q ∷ r.back)) (filter test rest) none in
         ap first (e ∙ sym (filter-append test s rest ∙ (ap (λ (y : List Place). y ++ filter test rest) e ∙ rest_none)))
 
@@ -191,8 +191,8 @@ module _ (start : Place → ℕ) (es : List (Cell ℕ ℕ)) (from to : ℕ) wher
           ∙ first_left (in_order a) (p ∷ in_order b) (reaches a (omega (arith, more, left_greatest c a b h s))) sorted)
 
       pub overlap_none : g ≤ from → to ≤ start p → (t : Tree) → Some p ≡ top t → Finds None t
-      overlap_none less behind = at_root p None (λ c a b h s sorted low.
-          sym (ap first (skipped a (p ∷ in_order b) (omega (arith, less, left_greatest c a b h s)) ∙ late p (in_order b) behind (sorted_after start (in_order a) (p ∷ in_order b) sorted))))
+      overlap_none less following = at_root p None (λ c a b h s sorted low.
+          sym (ap first (skipped a (p ∷ in_order b) (omega (arith, less, left_greatest c a b h s)) ∙ late p (in_order b) following (sorted_after start (in_order a) (p ∷ in_order b) sorted))))
 
       pub overlap_here : g ≤ from → start p < to → from < end p → (t : Tree) → Some p ≡ top t → Finds (Some p) t
       overlap_here less starts ends = at_root p (Some p) (λ c a b h s sorted low.
@@ -298,7 +298,7 @@ module _ {E : Type 0} (n : E → Node) (v : Table E) where
 
       pub after_none : result ≡ None → to ≤ start up → is_end right p ≡ false → (fs : List Frame) (t : Tree) → above fs ≡ Some up → IsSubtree n v fs t → IsSummed (greatest_in es) None (plug fs t) → top t ≡ Some p
           → IsSorted nat_cmp (map start (after fs)) → length fs ≤ turns → result ≡ first (filter (test start es from to) (after fs))
-      after_none none behind = after_left (λ b fs c t h s sb rb tb sorted low. none ∙ sym (ap first (late start es from to up (in_order b ++ after fs) behind sorted)))
+      after_none none following = after_left (λ b fs c t h s sb rb tb sorted low. none ∙ sym (ap first (late start es from to up (in_order b ++ after fs) following sorted)))
 
       pub after_this : result ≡ Some up → start up < to → from < number_in es up → is_end right p ≡ false → (fs : List Frame) (t : Tree) → above fs ≡ Some up → IsSubtree n v fs t → IsSummed (greatest_in es) None (plug fs t)
           → top t ≡ Some p → IsSorted nat_cmp (map start (after fs)) → length fs ≤ turns → result ≡ first (filter (test start es from to) (after fs))
@@ -351,7 +351,7 @@ module _ {E : Type 0} (n : E → Node) (v : Table E) where
           ∙ (first_left start es from to (in_order x.b) (after x.fs) (reaches start es from to x.b (omega (arith, more, many))) rest ∙ ap (λ (y : List Place). first (filter (test start es from to) y)) x.back_is)
 
       pub next_after : g ≤ from → FindsAfter p 67 result → FindsNext
-      next_after less behind h sorted =
+      next_after less following h sorted =
           let x = member_subtree n v root front p back h.shows in
           let t : Tree = fork x.c x.a p x.b in
           let summed = subst (λ (y : Tree). IsSummed (greatest_in es) None y) (sym x.same) h.summed in
@@ -359,5 +359,5 @@ module _ {E : Type 0} (n : E → Node) (v : Table E) where
           let rb : right ≡ top x.b = right_is ∙ x.subtree.tree.0.right in
           let many : g ≡ or_zero (total (greatest_in es) x.b) = g_is ∙ ap or_zero (ap (seen (greatest_in es)) rb ∙ summed_seen (greatest_in es) (Some p) x.b sb) in
           let rest = after_sorted (in_order x.b ++ after x.fs) x.back_is sorted in
-          behind x.fs t x.subtree summed refl (sorted_after start (in_order x.b) (after x.fs) rest) (omega (arith, x.low))
+          following x.fs t x.subtree summed refl (sorted_after start (in_order x.b) (after x.fs) rest) (omega (arith, x.low))
           ∙ (sym (ap first (skipped start es from to x.b (after x.fs) (omega (arith, less, many)))) ∙ ap (λ (y : List Place). first (filter (test start es from to) y)) x.back_is)

@@ -1,4 +1,4 @@
--- Summaries renewed from a place up to the root.
+-- Summaries recomputed from a place up to the root.
 use Rattle.std.proofs.Common.{◌≡◌, ◌≤◌, ◌<◌, ◌-◌, ℕ, Option, Some, None, List, [], ◌∷◌, ◌++◌, length, refl, sym, ◌∙◌, subst, arith}
 use Rattle.ic_link_ops.specs.Prelude.{Place, Table}
 use Rattle.ic_link_ops.specs.declared.side.Side.TheVariants.{Left, Right}
@@ -8,7 +8,7 @@ use Rattle.ic_link_ops.specs.Times.{times, times_around}
 use Rattle.ic_link_ops.specs.Trees.{Tree, fork, top}
 use Rattle.ic_link_ops.proofs.SequenceLemmas.{none_not}
 use Rattle.ic_link_ops.proofs.Times.{times_plug}
-use Rattle.ic_augmented.specs.Sums.{Sums, IsSummed}
+use Rattle.ic_augmented.specs.Summaries.{Summaries, IsSummed}
 use Rattle.ic_augmented.specs.Consistent.{IsSameAt, IsConsistentTree, IsConsistentBelow, IsConsistentBeside, Refreshes, RepresentsConsistent, RepresentsSummed}
 use Rattle.ic_augmented.specs.Subtrees.{IsSubtree}
 use Rattle.ic_augmented.proofs.ConsistencyLemmas.{consistent_kept, same_on, summed_consistent_tree}
@@ -17,27 +17,27 @@ use Rattle.ic_augmented.proofs.SubtreeLemmas.{lower, member_subtree, subtree_lef
 
 module _ {S : Type 0} where
   -- what stands beside a way depends on what is kept at its members alone
-  beside_kept : (z w : Sums S) (fs : List Frame) → w.join ≡ z.join → ((q : Place) → 1 ≤ times_around q fs → IsSameAt z w q) → IsConsistentBeside z fs → IsConsistentBeside w fs
+  beside_kept : (z w : Summaries S) (fs : List Frame) → w.join ≡ z.join → ((q : Place) → 1 ≤ times_around q fs → IsSameAt z w q) → IsConsistentBeside z fs → IsConsistentBeside w fs
   beside_kept z w [] ej k h = tt
   beside_kept z w (frame d c p b ∷ fs) ej k h =
       (consistent_kept z w b ej (λ q m. k q (omega (arith, m))) h.0, beside_kept z w fs ej (λ q m. k q (omega (arith, m))) h.1)
 
   -- a consistent tree is so below a place, and beside the way to it
-  pub consistent_parts : (z : Sums S) (fs : List Frame) (t : Tree) → IsConsistentTree z (plug fs t) → IsConsistentTree z t × IsConsistentBeside z fs
+  pub consistent_parts : (z : Summaries S) (fs : List Frame) (t : Tree) → IsConsistentTree z (plug fs t) → IsConsistentTree z t × IsConsistentBeside z fs
   consistent_parts z [] t h = (h, tt)
   consistent_parts z (frame Left c p b ∷ fs) t h = let r = consistent_parts z fs (fork c t p b) h in (r.0.1, (r.0.2, r.1))
   consistent_parts z (frame Right c p b ∷ fs) t h = let r = consistent_parts z fs (fork c b p t) h in (r.0.2, (r.0.1, r.1))
 
 module _ {E S : Type 0} (n : E → Node) (v : Table E) where
   -- all stays that is kept outside the tree around the subtree at this place
-  abbrev pub OthersStay : Sums S → Sums S → Place → Type 0
+  abbrev pub OthersStay : Summaries S → Summaries S → Place → Type 0
   OthersStay z w p = (fs : List Frame) (t : Tree) → IsSubtree n v fs t → top t ≡ Some p → (q : Place) → times q (plug fs t) ≡ 0 → IsSameAt z w q
 
   -- from one state to the other the whole tree around the subtree at this place has been summed
-  abbrev pub RefreshesPath : Sums S → Sums S → Place → ℕ → Type 0
+  abbrev pub RefreshesPath : Summaries S → Summaries S → Place → ℕ → Type 0
   RefreshesPath z w p turns = (fs : List Frame) (t : Tree) → IsSubtree n v fs t → top t ≡ Some p → length fs < turns → IsConsistentBeside z fs → IsConsistentBelow z t → IsSummed w None (plug fs t)
 
-  module _ (z y : Sums S) (p : Place) (upper : Option Place)
+  module _ (z y : Summaries S) (p : Place) (upper : Option Place)
       (here : (u : Option Place) (t : Tree) → IsTree n v.entry u t → Some p ≡ top t → Refreshes IsConsistentBelow z y upper t 67) (upper_is : (fs : List Frame) (t : Tree) → IsSubtree n v fs t → top t ≡ Some p → upper ≡ above fs) where
     -- the subtree at the place is summed
     summed_here : (fs : List Frame) (t : Tree) → IsSubtree n v fs t → top t ≡ Some p → IsConsistentBelow z t → IsSummed y upper t
@@ -55,7 +55,7 @@ module _ {E S : Type 0} (n : E → Node) (v : Table E) where
     path_ends turns none (frame d c q b ∷ fs) t h e low beside below = absurd (none_not q (sym none ∙ upper_is (frame d c q b ∷ fs) t h e))
 
     -- BELOW a parent, from which the way goes on
-    pub path_on : (w : Sums S) (up : Place) (turns : ℕ) → upper ≡ Some up → RefreshesPath y w up (turns - 1) → RefreshesPath z w p turns
+    pub path_on : (w : Summaries S) (up : Place) (turns : ℕ) → upper ≡ Some up → RefreshesPath y w up (turns - 1) → RefreshesPath z w p turns
     path_on w up turns is on [] t h e low beside below = absurd (none_not up (sym (upper_is [] t h e) ∙ is))
     path_on w up turns is on (frame Left c q b ∷ fs) t h e low beside below =
         let kept = beside_here (frame Left c q b ∷ fs) t h e beside in
@@ -70,7 +70,7 @@ module _ {E S : Type 0} (n : E → Node) (v : Table E) where
     pub others_here : (fs : List Frame) (t : Tree) → IsSubtree n v fs t → top t ≡ Some p → (q : Place) → times q (plug fs t) ≡ 0 → IsSameAt z y q
     others_here fs t h e q out = (here (above fs) t h.tree (sym e)).frame q (omega (arith, out, times_plug q fs t))
 
-    pub others_on : (w : Sums S) (up : Place) → upper ≡ Some up → OthersStay y w up → OthersStay z w p
+    pub others_on : (w : Summaries S) (up : Place) → upper ≡ Some up → OthersStay y w up → OthersStay z w p
     others_on w up is on [] t h e q out = absurd (none_not up (sym (upper_is [] t h e) ∙ is))
     others_on w up is on (frame Left c a b ∷ fs) t h e q out =
         let at : Some a ≡ Some up = sym (upper_is (frame Left c a b ∷ fs) t h e) ∙ is in
@@ -80,7 +80,7 @@ module _ {E S : Type 0} (n : E → Node) (v : Table E) where
         same_on z y w q (others_here (frame Right c a b ∷ fs) t h e q out) (on fs (fork c b a t) (subtree_right n v c a b fs t h) at q out)
 
   -- FROM A MEMBER: all is fresh
-  pub propagated : (z y : Sums S) (root : Option Place) (front : List Place) (p : Place) (back : List Place) → RefreshesPath z y p 67 → RepresentsConsistent n z v root (front ++ p ∷ back)
+  pub propagated : (z y : Summaries S) (root : Option Place) (front : List Place) (p : Place) (back : List Place) → RefreshesPath z y p 67 → RepresentsConsistent n z v root (front ++ p ∷ back)
       → RepresentsSummed n y v root (front ++ p ∷ back)
   propagated z y root front p back path h =
       let x = member_subtree n v root front p back h.0 in

@@ -10,30 +10,30 @@ use Rattle.ic_augmented.specs.Consistent.{IsJoined, IsSameAt, IsConsistent, Repr
 use Rattle.ic_augmented.specs.Fresh.{RepresentsFresh}
 use Rattle.ic_augmented.specs.Greatest.{greatest, greatest_of, number_at}
 use Rattle.ic_augmented.specs.GreatestLaws.{greatest_tells}
-use Rattle.ic_augmented.specs.Sums.{Sums}
+use Rattle.ic_augmented.specs.Summaries.{Summaries}
 use Rattle.ic_augmented.proofs.ConsistencyLemmas.{joined_at}
 use Rattle.ic_augmented.proofs.SumTableLemmas.{same_value}
 
 module _ {E S : Type 0} (n : E → Node) where
   -- WHERE BOTH TABLES GROW, what is right stays right
-  pub grown_consistent : (v w : Table E) (z y : Sums S) (s : List Place) → ((q : Place) → w.entry q ≡ v.entry q) → ((q : Place) → y.join q ≡ z.join q) → ((q : Place) → IsSameAt z y q)
+  pub grown_consistent : (v w : Table E) (z y : Summaries S) (s : List Place) → ((q : Place) → w.entry q ≡ v.entry q) → ((q : Place) → y.join q ≡ z.join q) → ((q : Place) → IsSameAt z y q)
       → IsConsistent n v z s → IsConsistent n w y s
   grown_consistent v w z y s entries joins same h q member but x fresh =
       subst (λ (e : E). IsJoined y q (n e).left (n e).right x) (sym (entries q))
       (joined_at z y q _ _ x (h q member but x (sym (same q).fresh ∙ fresh)) (joins q) (λ c k. same c) (λ c k. same c))
 
   -- AN INSERT, of the links alone
-  pub inserts_represented : {at : Place → Ordering} {old new : Table E} {z : Sums S} {root : Option Place} {s : List Place} {p : Place} → InsertsInOrder (RepresentsConsistent n z) at old new root s p
+  pub inserts_represented : {at : Place → Ordering} {old new : Table E} {z : Summaries S} {root : Option Place} {s : List Place} {p : Place} → InsertsInOrder (RepresentsConsistent n z) at old new root s p
       → InsertsInOrder (Represents n) at old new root s p
   inserts_represented i = record { gap = i.gap; same = i.same; border = i.border; inserted = record { shows = i.inserted.shows.0; frame = i.inserted.frame } }
 
   -- and one after which all is fresh, of consistency alone
-  pub inserts_consistent : {at : Place → Ordering} {old new : Table E} {z : Sums S} {root : Option Place} {s : List Place} {p : Place} → InsertsInOrder (RepresentsFresh n z) at old new root s p
+  pub inserts_consistent : {at : Place → Ordering} {old new : Table E} {z : Summaries S} {root : Option Place} {s : List Place} {p : Place} → InsertsInOrder (RepresentsFresh n z) at old new root s p
       → InsertsInOrder (RepresentsConsistent n z) at old new root s p
   inserts_consistent i = record { gap = i.gap; same = i.same; border = i.border; inserted = record { shows = i.inserted.shows.consistent; frame = i.inserted.frame } }
 
   -- what is consistent in one sequence that is represented is so in each
-  pub consistent_in : {v : Table E} {z : Sums S} {root : Option Place} {t : List Place} (s : List Place) → RepresentsConsistent n z v root t → Represents n v root s → IsConsistent n v z s
+  pub consistent_in : {v : Table E} {z : Summaries S} {root : Option Place} {t : List Place} (s : List Place) → RepresentsConsistent n z v root t → Represents n v root s → IsConsistent n v z s
   consistent_in {v} {z} s h shown = subst (IsConsistent n v z) (one_sequence h.0 shown) h.1
 
 -- THE NUMBERS STAY where what is joined does

@@ -15,7 +15,7 @@ use Rattle.ic_link_ops.proofs.Times.{times_plug}
 use Rattle.ic_augmented.specs.declared.sum_table.Cell.{Cell}
 use Rattle.ic_augmented.specs.Counts.{counts_in}
 use Rattle.ic_augmented.specs.SumTables.{or_zero}
-use Rattle.ic_augmented.specs.Sums.{Sums, seen, IsSummed}
+use Rattle.ic_augmented.specs.Summaries.{Summaries, seen, IsSummed}
 use Rattle.ic_augmented.specs.Consistent.{RepresentsSummed}
 use Rattle.ic_augmented.specs.Subtrees.{IsSubtree}
 use Rattle.ic_augmented.proofs.ConsistencyLemmas.{times_top}
@@ -31,7 +31,7 @@ not_end o p e is = let k : is_end o p ≡ true = ap (λ (y : Option Place). is_e
 
 module _ {S : Type 0} where
   -- a subtree is summed below its parent
-  pub summed_below : (z : Sums S) (fs : List Frame) (t : Tree) → IsSummed z None (plug fs t) → IsSummed z (above fs) t
+  pub summed_below : (z : Summaries S) (fs : List Frame) (t : Tree) → IsSummed z None (plug fs t) → IsSummed z (above fs) t
   summed_below z [] t h = h
   summed_below z (frame Left c p b ∷ fs) t h = (summed_below z fs (fork c t p b) h).2
   summed_below z (frame Right c p b ∷ fs) t h = (summed_below z fs (fork c b p t) h).3

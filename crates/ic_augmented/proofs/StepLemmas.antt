@@ -9,31 +9,31 @@ use Rattle.ic_link_ops.proofs.SequenceLemmas.{none_not}
 use Rattle.ic_link_ops.proofs.Times.{one_at_self, one_at_other, times_append}
 use Rattle.ic_rbtree.specs.Ordered.{InsertsInOrder}
 use Rattle.ic_augmented.specs.Consistent.{IsJoined, IsConsistent, IsConsistentBut, RepresentsConsistent, KeepsConsistent}
-use Rattle.ic_augmented.specs.Sums.{Sums}
+use Rattle.ic_augmented.specs.Summaries.{Summaries}
 use Rattle.ic_augmented.specs.SummedSteps.{IsAcquired, IsRightAt, TraceSummed}
 use Rattle.ic_augmented.specs.declared.summed.Summed.{Summed}
 use Rattle.ic_augmented.proofs.ConsistencyLemmas.{written_stale, written_beside}
 
 module _ {E S : Type 0} (n : E → Node) where
   -- a place alone
-  at_one : (v : Table E) (z : Sums S) (q : Place) → IsRightAt n v z q → IsConsistent n v z (q ∷ [])
+  at_one : (v : Table E) (z : Summaries S) (q : Place) → IsRightAt n v z q → IsConsistent n v z (q ∷ [])
   at_one v z q h p m but x e = elim (same_or_not p q) [
     | inl i ↦ subst (IsRightAt n v z) (sym i) h x e
     | inr other ↦ absurd (omega (arith, m, one_at_other p q other))
   ]
 
-  right_in : (v : Table E) (z : Sums S) (q : Place) → IsConsistent n v z (q ∷ []) → IsRightAt n v z q
+  right_in : (v : Table E) (z : Summaries S) (q : Place) → IsConsistent n v z (q ∷ []) → IsRightAt n v z q
   right_in v z q h = h q (omega (arith, one_at_self q)) (none_not q)
 
   -- a child is written where the summary is stale
-  pub set_stale : (v w : Table E) {z y : Sums S} {p : Place} → y.fresh p ≡ None → KeepsConsistent n v v z y → ChangesOnly v w p → (q : Place) → ⊥ ⊎ IsRightAt n v z q → IsRightAt n w y q
+  pub set_stale : (v w : Table E) {z y : Summaries S} {p : Place} → y.fresh p ≡ None → KeepsConsistent n v v z y → ChangesOnly v w p → (q : Place) → ⊥ ⊎ IsRightAt n v z q → IsRightAt n w y q
   set_stale v w {z} {y} {p} none keeps only q h = elim h [
     | inl a ↦ absurd a
     | inr r ↦ right_in w y q (written_stale n v w y (q ∷ []) p none only (keeps.consistent (q ∷ []) (at_one v z q r)))
   ]
 
   -- what is no child
-  pub set_beside : (v w : Table E) (z : Sums S) {p : Place} → (n (w.entry p)).left ≡ (n (v.entry p)).left → (n (w.entry p)).right ≡ (n (v.entry p)).right → ChangesOnly v w p
+  pub set_beside : (v w : Table E) (z : Summaries S) {p : Place} → (n (w.entry p)).left ≡ (n (v.entry p)).left → (n (w.entry p)).right ≡ (n (v.entry p)).right → ChangesOnly v w p
       → (q : Place) → ⊥ ⊎ IsRightAt n v z q → IsRightAt n w z q
   set_beside v w z {p} el er only q h = elim h [
     | inl a ↦ absurd a
@@ -41,7 +41,7 @@ module _ {E S : Type 0} (n : E → Node) where
   ]
 
   -- A LINK IS WRITTEN, and then the summary there is made stale: so it is right, whatever it was
-  written_then_stale : (v w : Table E) {z y : Sums S} {p : Place} → ((q : Place) → q ≢ p → w.entry q ≡ v.entry q) → ((s : List Place) → IsConsistentBut n w z s (Some p) → IsConsistent n w y s)
+  written_then_stale : (v w : Table E) {z y : Summaries S} {p : Place} → ((q : Place) → q ≢ p → w.entry q ≡ v.entry q) → ((s : List Place) → IsConsistentBut n w z s (Some p) → IsConsistent n w y s)
       → (q : Place) → (p ≡ q) ⊎ IsRightAt n v z q → IsRightAt n w y q
   written_then_stale v w {z} {y} {p} others closed q h = right_in w y q (closed (q ∷ []) but_p) where
     but_p : IsConsistentBut n w z (q ∷ []) (Some p)
@@ -56,7 +56,7 @@ module _ {E S : Type 0} (n : E → Node) where
     ]
 
   -- with the steps that were taken: it was linked, or it was not
-  pub acquired_right : (v w : Table E) {z y : Sums S} {p : Place} → ((q : Place) → q ≢ p → w.entry q ≡ v.entry q) → ((s : List Place) → IsConsistentBut n w z s (Some p) → IsConsistent n w y s)
+  pub acquired_right : (v w : Table E) {z y : Summaries S} {p : Place} → ((q : Place) → q ≢ p → w.entry q ≡ v.entry q) → ((s : List Place) → IsConsistentBut n w z s (Some p) → IsConsistent n w y s)
       → (q : Place) → IsAcquired q (acquires p ∷ []) ⊎ IsRightAt n v z q → IsRightAt n w y q
   acquired_right v w {z} {y} {p} others closed q h = elim h [
     | inl a ↦ elim a [
@@ -66,7 +66,7 @@ module _ {E S : Type 0} (n : E → Node) where
     | inr r ↦ written_then_stale v w others closed q (inr r)
   ]
 
-  pub changed_right : (v w : Table E) {z y : Sums S} {p : Place} → ((q : Place) → q ≢ p → w.entry q ≡ v.entry q) → ((s : List Place) → IsConsistentBut n w z s (Some p) → IsConsistent n w y s)
+  pub changed_right : (v w : Table E) {z y : Summaries S} {p : Place} → ((q : Place) → q ≢ p → w.entry q ≡ v.entry q) → ((s : List Place) → IsConsistentBut n w z s (Some p) → IsConsistent n w y s)
       → (q : Place) → ⊥ ⊎ IsRightAt n v z q → IsRightAt n w y q
   changed_right v w {z} {y} {p} others closed q h = elim h [
     | inl none ↦ absurd none
@@ -74,22 +74,22 @@ module _ {E S : Type 0} (n : E → Node) where
   ]
 
 -- WHAT STEPS KEEP of a sequence: each of its places was right, or has been linked
-module _ {N M E S : Type 0} {Trace : N → N → List LinkStep → Type 0} {n : E → Node} {table : N → Table E} {sums : M → Sums S} {Covers : M → Place → Type 0} {old new : Summed N M} {steps : List LinkStep} where
-  pub kept_right : TraceSummed Trace n table sums Covers old new steps → (s t : List Place) → ((q : Place) → 1 ≤ times_in q t → IsAcquired q steps ⊎ (1 ≤ times_in q s))
-      → IsConsistent n (table old.links) (sums old.sums) s → IsConsistent n (table new.links) (sums new.sums) t
+module _ {N M E S : Type 0} {Trace : N → N → List LinkStep → Type 0} {n : E → Node} {table : N → Table E} {summaries : M → Summaries S} {Covers : M → Place → Type 0} {old new : Summed N M} {steps : List LinkStep} where
+  pub kept_right : TraceSummed Trace n table summaries Covers old new steps → (s t : List Place) → ((q : Place) → 1 ≤ times_in q t → IsAcquired q steps ⊎ (1 ≤ times_in q s))
+      → IsConsistent n (table old.links) (summaries old.summaries) s → IsConsistent n (table new.links) (summaries new.summaries) t
   kept_right d s t among h q m but x e = elim (among q m) [
     | inl a ↦ d.right q (inl a) x e
     | inr k ↦ d.right q (inr (λ y f. h q k (none_not q) y f)) x e
   ]
 
   -- in the same one
-  pub still_right : TraceSummed Trace n table sums Covers old new steps → (s : List Place) → IsConsistent n (table old.links) (sums old.sums) s → IsConsistent n (table new.links) (sums new.sums) s
+  pub still_right : TraceSummed Trace n table summaries Covers old new steps → (s : List Place) → IsConsistent n (table old.links) (summaries old.summaries) s → IsConsistent n (table new.links) (summaries new.summaries) s
   still_right d s h = kept_right d s s (λ q m. inr m) h
 
-module _ {N M E S : Type 0} {Trace : N → N → List LinkStep → Type 0} {n : E → Node} {table : N → Table E} {sums : M → Sums S} {Covers : M → Place → Type 0} {old new : Summed N M} {p : Place} where
+module _ {N M E S : Type 0} {Trace : N → N → List LinkStep → Type 0} {n : E → Node} {table : N → Table E} {summaries : M → Summaries S} {Covers : M → Place → Type 0} {old new : Summed N M} {p : Place} where
   -- AN INSERT IN ORDER keeps each fresh summary right
-  pub inserted_right : {at : Place → Ordering} {root : Option Place} {s : List Place} → TraceSummed Trace n table sums Covers old new (acquires p ∷ []) → IsConsistent n (table old.links) (sums old.sums) s
-      → InsertsInOrder (Represents n) at (table old.links) (table new.links) root s p → InsertsInOrder (RepresentsConsistent n (sums new.sums)) at (table old.links) (table new.links) root s p
+  pub inserted_right : {at : Place → Ordering} {root : Option Place} {s : List Place} → TraceSummed Trace n table summaries Covers old new (acquires p ∷ []) → IsConsistent n (table old.links) (summaries old.summaries) s
+      → InsertsInOrder (Represents n) at (table old.links) (table new.links) root s p → InsertsInOrder (RepresentsConsistent n (summaries new.summaries)) at (table old.links) (table new.links) root s p
   inserted_right {s = s} d h i = record {
     gap = i.gap;
     same = i.same;
@@ -105,8 +105,8 @@ module _ {N M E S : Type 0} {Trace : N → N → List LinkStep → Type 0} {n : 
     ]
 
   -- A REMOVAL too
-  pub removed_right : (front back : List Place) → TraceSummed Trace n table sums Covers old new (releases p ∷ []) → IsConsistent n (table old.links) (sums old.sums) (front ++ p ∷ back)
-      → IsConsistent n (table new.links) (sums new.sums) (front ++ back)
+  pub removed_right : (front back : List Place) → TraceSummed Trace n table summaries Covers old new (releases p ∷ []) → IsConsistent n (table old.links) (summaries old.summaries) (front ++ p ∷ back)
+      → IsConsistent n (table new.links) (summaries new.summaries) (front ++ back)
   removed_right front back d h = kept_right d (front ++ p ∷ back) (front ++ back) (λ q m. inr (omega (arith, m, times_append q front back, times_append q front (p ∷ back)))) h
 
 -- WHERE A CALL WAS REFUSED, so were the links

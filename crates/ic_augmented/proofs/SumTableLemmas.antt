@@ -8,7 +8,7 @@ use Rattle.ic_link_ops.proofs.EntryLemmas.{others_same, entry_same, entry_read}
 use Rattle.ic_augmented.specs.declared.sum_table.Cell.{Cell}
 use Rattle.ic_augmented.specs.Consistent.{IsSameAt, IsConsistent}
 use Rattle.ic_augmented.specs.SumTables.{blank, cell_in, joined_in}
-use Rattle.ic_augmented.specs.Sums.{Invalidates, Writes}
+use Rattle.ic_augmented.specs.Summaries.{Invalidates, Writes}
 use Rattle.ic_augmented.proofs.ConsistencyLemmas.{not_stale, joined_at}
 
 module _ {V S : Type 0} (join : V → Option S → Option S → S) (initial : V) where

@@ -1,4 +1,4 @@
--- Summaries that are right where they are fresh: what every edit keeps.
+-- Trees in which each fresh summary is right. Every edit keeps this.
 use Rattle.std.specs.Prelude.{◌≡◌, ◌≤◌, ℕ, true, Option, Some, None, List, [], ◌∷◌}
 use Rattle.ic_link_ops.specs.Prelude.{Place, Table}
 use Rattle.ic_link_ops.specs.Frames.{Frame, frame}
@@ -6,73 +6,78 @@ use Rattle.ic_link_ops.specs.Trees.{Tree, leaf, fork, top}
 use Rattle.ic_link_ops.specs.RedBlackTree.{Node, Represents}
 use Rattle.ic_link_ops.specs.Times.{times, times_in}
 use Rattle.ic_rbtree.specs.Height.{height}
-use Rattle.ic_augmented.specs.Sums.{Sums, is_fresh, seen, IsSummed, WritesNoSummary}
+use Rattle.ic_augmented.specs.Summaries.{Summaries, is_fresh, seen, IsSummed, WritesNoSummary}
 
 module _ {S : Type 0} where
-  -- the child is fresh, and its summary was written below q
-  abbrev pub IsUnder : Sums S → Place → Option Place → Type 0
+  -- the summary of the child is fresh, and was written while q was its parent
+  abbrev pub IsUnder : Summaries S → Place → Option Place → Type 0
   IsUnder z q None = Unit {0}
   IsUnder z q (Some c) = (is_fresh (z.fresh c) ≡ true) × (z.upper c ≡ Some q)
 
-  -- the summary x at q is what its value makes of those of its children, which are fresh
-  pub record IsJoined (z : Sums S) (q : Place) (left right : Option Place) (x : S) : Type 0 where
+  -- the summary x at q is computed from its value and the summaries of its children, which are fresh
+  pub record IsJoined (z : Summaries S) (q : Place) (left right : Option Place) (x : S) : Type 0 where
     pub joined : x ≡ z.join q (seen z left) (seen z right)
     pub left_is : IsUnder z q left
     pub right_is : IsUnder z q right
 
-  -- all at q is the same
-  pub record IsSameAt (z w : Sums S) (q : Place) : Type 0 where
+  -- no fresh summary was made of the summary at q: it was written below a stale one, or below none
+  abbrev pub IsBelowStale : Summaries S → Place → Type 0
+  IsBelowStale z q = (p : Place) → z.upper q ≡ Some p → z.fresh p ≡ None
+
+  -- everything at q is the same
+  pub record IsSameAt (z w : Summaries S) (q : Place) : Type 0 where
     pub fresh : w.fresh q ≡ z.fresh q
     pub upper : w.upper q ≡ z.upper q
 
   -- in this tree each fresh summary is right
-  abbrev pub IsConsistentTree : Sums S → Tree → Type 0
+  abbrev pub IsConsistentTree : Summaries S → Tree → Type 0
   IsConsistentTree z leaf = Unit {0}
   IsConsistentTree z (fork c a p b) = ((x : S) → z.fresh p ≡ Some x → IsJoined z p (top a) (top b) x) × IsConsistentTree z a × IsConsistentTree z b
 
-  -- in both subtrees of the root it is
-  abbrev pub IsConsistentBelow : Sums S → Tree → Type 0
+  -- each fresh summary in both subtrees of the root is right
+  abbrev pub IsConsistentBelow : Summaries S → Tree → Type 0
   IsConsistentBelow z leaf = Unit {0}
   IsConsistentBelow z (fork c a p b) = IsConsistentTree z a × IsConsistentTree z b
 
-  -- and in each tree that stands beside a way down
-  abbrev pub IsConsistentBeside : Sums S → List Frame → Type 0
+  -- each fresh summary in every tree beside a path down is right
+  abbrev pub IsConsistentBeside : Summaries S → List Frame → Type 0
   IsConsistentBeside z [] = Unit {0}
   IsConsistentBeside z (frame d c p b ∷ fs) = IsConsistentTree z b × IsConsistentBeside z fs
 
-  -- from one state to the other a tree t has been summed, below `up`, if it was consistent in this sense and is not too high. Beside it
-  -- nothing has changed
-  pub record Refreshes (IsConsistent : Sums S → Tree → Type 0) (z w : Sums S) (up : Option Place) (t : Tree) (fuel : ℕ) : Type 0 where
+  -- from one state to the other a tree t below `up` has been summed, if it was consistent in this sense and is not too high. Nothing
+  -- beside it has changed
+  pub record Refreshes (IsConsistent : Summaries S → Tree → Type 0) (z w : Summaries S) (up : Option Place) (t : Tree) (fuel : ℕ) : Type 0 where
     pub frame : (q : Place) → times q t ≡ 0 → IsSameAt z w q
     pub join : w.join ≡ z.join
     pub summed : ((q : Place) → times q t ≤ 1) → IsConsistent z t → height t ≤ fuel → IsSummed w up t
 
 module _ {E S : Type 0} (n : E → Node) where
-  -- each fresh summary at a member of s is right, but maybe at one place
-  abbrev pub IsConsistentBut : Table E → Sums S → List Place → Option Place → Type 0
+  -- each fresh summary at a member of s is right, except maybe at one place
+  abbrev pub IsConsistentBut : Table E → Summaries S → List Place → Option Place → Type 0
   IsConsistentBut v z s but =
       (q : Place) → 1 ≤ times_in q s → (but ≡ Some q → ⊥) → (x : S) → z.fresh q ≡ Some x → IsJoined z q (n (v.entry q)).left (n (v.entry q)).right x
 
-  abbrev pub IsConsistent : Table E → Sums S → List Place → Type 0
+  abbrev pub IsConsistent : Table E → Summaries S → List Place → Type 0
   IsConsistent v z s = IsConsistentBut v z s None
 
-  -- an edit keeps what is right, and writes no summary, of whatever tree: it makes some stale
-  pub record KeepsConsistent (v w : Table E) (z y : Sums S) : Type 0 where
+  -- an edit keeps all fresh summaries of every tree right, and writes none: it only makes some stale
+  pub record KeepsConsistent (v w : Table E) (z y : Summaries S) : Type 0 where
     pub consistent : (s : List Place) → IsConsistent v z s → IsConsistent w y s
     pub marks : WritesNoSummary z y
     pub join : y.join ≡ z.join
 
-  -- from the one place at which a fresh summary may be wrong to another, an edit keeps what is right beside it, and writes no summary
-  pub record KeepsEdge (v w : Table E) (z y : Sums S) (was is : Option Place) : Type 0 where
+  -- the one place at which a fresh summary may be wrong changes to another; an edit keeps all other fresh summaries right, and writes
+  -- none
+  pub record KeepsEdge (v w : Table E) (z y : Summaries S) (was is : Option Place) : Type 0 where
     pub consistent : (s : List Place) → IsConsistentBut v z s was → IsConsistentBut w y s is
     pub marks : WritesNoSummary z y
     pub join : y.join ≡ z.join
 
-  -- THE TABLE SHOWS s, and each fresh summary is right
-  abbrev pub RepresentsConsistent : Sums S → Table E → Option Place → List Place → Type 0
+  -- THE TABLE REPRESENTS s, and each fresh summary is right
+  abbrev pub RepresentsConsistent : Summaries S → Table E → Option Place → List Place → Type 0
   RepresentsConsistent z v root s = Represents n v root s × IsConsistent v z s
 
-  -- THE TABLE SHOWS s, SUMMED: the summary of each subtree stands at its root
-  pub record RepresentsSummed (z : Sums S) (v : Table E) (root : Option Place) (s : List Place) : Type 0 where
+  -- THE TABLE REPRESENTS s, SUMMED: each place has the summary of its subtree
+  pub record RepresentsSummed (z : Summaries S) (v : Table E) (root : Option Place) (s : List Place) : Type 0 where
     pub shows : Represents n v root s
     pub summed : IsSummed z None shows.tree

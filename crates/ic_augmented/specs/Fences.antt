@@ -1,4 +1,4 @@
--- A table after a fence: a place outside it is seen as not linked, so no call can write there.
+-- A table behind a fence: a place outside the fence counts as not linked, so no call can write there.
 use Rattle.std.specs.Prelude.{Bool, ◌&&◌}
 use Rattle.ic_link_ops.specs.Prelude.{Place, Table}
 use Rattle.ic_link_ops.specs.RedBlackTree.{Node}
@@ -8,6 +8,6 @@ module _ {E : Type 0} where
   abbrev pub fenced : (Place → Bool) → Table E → Table (Bool × E)
   fenced inside t = record { extent = t.extent; entry = λ q. (inside q, t.entry q) }
 
-  -- what it says, where it says it inside alone that the place is linked
+  -- the node that an entry stores; only a place inside the fence counts as linked
   abbrev pub fenced_node : (E → Node) → Bool × E → Node
   fenced_node n e = record (n e.1) { linked = e.0 && (n e.1).linked }

@@ -1,24 +1,24 @@
--- Summaries of numbers: the greatest at each place and below.
+-- Summaries of numbers: the greatest in each subtree.
 use Rattle.std.specs.Prelude.{ℕ, Bool, nat_lt, max, Option, List}
 use Rattle.ic_unsafe_ref.specs.declared.place.Place.{Place}
-use Rattle.ic_augmented.specs.Sums.{Sums}
+use Rattle.ic_augmented.specs.Summaries.{Summaries}
 use Rattle.ic_augmented.specs.SumTables.{or_zero, cell_in, joined_in}
 use Rattle.ic_augmented.specs.declared.sum_table.Cell.{Cell}
 use Rattle.ic_augmented.specs.declared.sum_table.SumTable.{SumTable}
 
--- the greatest of a number and of what is kept of two subtrees
+-- the greatest of a number and of the summaries of two subtrees
 abbrev pub greatest_of : ℕ → Option ℕ → Option ℕ → ℕ
 greatest_of number a b = max number (max (or_zero a) (or_zero b))
 
 abbrev pub number_in : List (Cell ℕ ℕ) → Place → ℕ
 number_in cells p = (cell_in 0 cells p).value
 
-abbrev pub greatest_in : List (Cell ℕ ℕ) → Sums ℕ
+abbrev pub greatest_in : List (Cell ℕ ℕ) → Summaries ℕ
 greatest_in cells = joined_in greatest_of 0 cells
 
 module _ {A : Type 0} where
-  -- what clauses see of numbers: their summaries, and the number at each place
-  abbrev pub greatest : SumTable ℕ ℕ A → Sums ℕ
+  -- numbers as contracts see them: their summaries, and the number at each place
+  abbrev pub greatest : SumTable ℕ ℕ A → Summaries ℕ
   greatest t = greatest_in t.cells.items
 
   abbrev pub number_at : SumTable ℕ ℕ A → Place → ℕ

@@ -1,4 +1,4 @@
--- What the table of numbers owes.
+-- The laws of the table of numbers.
 use Rattle.std.specs.Prelude.{◌≡◌, ℕ, Option, None}
 use Rattle.std.proofs.Common.{arith, sym, ◌∙◌}
 use Rattle.std.proofs.Math.Nat.{max-eq_left}

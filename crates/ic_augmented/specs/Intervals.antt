@@ -3,7 +3,7 @@ use Rattle.std.specs.Prelude.{ℕ, Bool, ◌&&◌, nat_lt}
 use Rattle.ic_link_ops.specs.Prelude.{Place, Objects}
 use Rattle.ic_rbtree.specs.SortedObjects.{key_at}
 
--- the start of the interval at p, 0 where none is placed
+-- the start of the interval at p, 0 if p has none
 abbrev pub start_in : Objects ℕ → Place → ℕ
 start_in starts p = key_at (λ (start : ℕ). start) starts p
 

@@ -1,4 +1,4 @@
-pub mod Sums
+pub mod Summaries
 pub mod MarkLaws
 pub mod Summed
 pub mod Consistent

@@ -1,9 +1,9 @@
--- Steps that keep fresh summaries right do so together.
+-- Two lists of steps that keep fresh summaries right are together such a list.
 use Rattle.std.specs.Prelude.{◌⊎◌, List, [], ◌∷◌, ◌++◌}
 use Rattle.std.proofs.Common.{inl, inr}
 use Rattle.ic_link_ops.specs.Prelude.{Place, Table, LinkStep, acquires, releases}
 use Rattle.ic_link_ops.specs.RedBlackTree.{Node}
-use Rattle.ic_augmented.specs.Sums.{Sums}
+use Rattle.ic_augmented.specs.Summaries.{Summaries}
 use Rattle.ic_augmented.specs.SummedSteps.{IsAcquired, IsRightAt}
 
 pub acquired_in : (s t : List LinkStep) (p : Place) → IsAcquired p (s ++ t) → IsAcquired p s ⊎ IsAcquired p t
@@ -18,13 +18,13 @@ acquired_in (acquires q ∷ s) t p a = elim a [
 acquired_in (releases q ∷ s) t p a = acquired_in s t p a
 
 module _ {E S : Type 0} (n : E → Node) where
-  pub right_still : (v : Table E) (z : Sums S) (q : Place) → IsAcquired q [] ⊎ IsRightAt n v z q → IsRightAt n v z q
+  pub right_still : (v : Table E) (z : Summaries S) (q : Place) → IsAcquired q [] ⊎ IsRightAt n v z q → IsRightAt n v z q
   right_still v z q h = elim h [
     | inl a ↦ absurd a
     | inr r ↦ r
   ]
 
-  pub right_on : (u v w : Table E) (x y z : Sums S) (s t : List LinkStep) → ((q : Place) → IsAcquired q s ⊎ IsRightAt n u x q → IsRightAt n v y q)
+  pub right_on : (u v w : Table E) (x y z : Summaries S) (s t : List LinkStep) → ((q : Place) → IsAcquired q s ⊎ IsRightAt n u x q → IsRightAt n v y q)
       → ((q : Place) → IsAcquired q t ⊎ IsRightAt n v y q → IsRightAt n w z q) → (q : Place) → IsAcquired q (s ++ t) ⊎ IsRightAt n u x q → IsRightAt n w z q
   right_on u v w x y z s t first next q h = elim h [
     | inl a ↦ elim (acquired_in s t q a) [

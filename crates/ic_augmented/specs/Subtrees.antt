@@ -1,4 +1,4 @@
--- A subtree of a represented tree, and what stands around it.
+-- A subtree of a represented tree, and its surroundings.
 use Rattle.std.specs.Prelude.{◌≤◌, List, length}
 use Rattle.ic_link_ops.specs.Prelude.{Place, Table}
 use Rattle.ic_link_ops.specs.Frames.{Frame, plug, above, IsAround}
@@ -8,7 +8,7 @@ use Rattle.ic_link_ops.specs.Trees.{Tree, top, in_order}
 use Rattle.ic_rbtree.specs.Height.{height}
 
 module _ {E : Type 0} (n : E → Node) where
-  -- THE SUBTREE t stands below these frames in a tree which has no place twice, is not high, and has no more members than there are places
+  -- THE SUBTREE t is below these frames in a tree which has no place twice, is low enough, and has no more members than there are places
   pub record IsSubtree (v : Table E) (fs : List Frame) (t : Tree) : Type 0 where
     pub around : IsAround n v.entry fs (top t)
     pub tree : IsTree n v.entry (above fs) t

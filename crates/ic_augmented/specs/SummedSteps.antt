@@ -1,10 +1,10 @@
--- What steps of links keep of the summaries beside them.
+-- What link steps keep of the summaries beside the links.
 use Rattle.std.specs.Prelude.{◌≡◌, ◌⊎◌, Some, List, [], ◌∷◌}
 use Rattle.ic_link_ops.specs.Prelude.{Place, Table, LinkStep, acquires, releases}
 use Rattle.ic_link_ops.specs.RedBlackTree.{Node}
-use Rattle.ic_augmented.specs.Sums.{Sums, WritesNoSummary}
+use Rattle.ic_augmented.specs.Summaries.{Summaries, WritesNoSummary}
 use Rattle.ic_augmented.specs.Consistent.{IsJoined}
-use Rattle.ic_augmented.specs.Summed.{links_of, sums_of}
+use Rattle.ic_augmented.specs.Summed.{links_of, summaries_of}
 use Rattle.ic_augmented.specs.declared.summed.Summed.{Summed}
 
 -- one of these steps links p
@@ -14,14 +14,15 @@ IsAcquired p (acquires q ∷ s) = (q ≡ p) ⊎ IsAcquired p s
 IsAcquired p (releases q ∷ s) = IsAcquired p s
 
 -- a fresh summary at q is right
-abbrev pub IsRightAt : {E S : Type 0} → (E → Node) → Table E → Sums S → Place → Type 0
+abbrev pub IsRightAt : {E S : Type 0} → (E → Node) → Table E → Summaries S → Place → Type 0
 IsRightAt {S = S} n v z q = (x : S) → z.fresh q ≡ Some x → IsJoined z q (n (v.entry q)).left (n (v.entry q)).right x
 
-module _ {N M E S : Type 0} (Trace : N → N → List LinkStep → Type 0) (n : E → Node) (table : N → Table E) (sums : M → Sums S) (Covers : M → Place → Type 0) where
-  -- the links took these steps, summaries that were right where they were fresh still are, those of places that were linked are, and none was written
+module _ {N M E S : Type 0} (Trace : N → N → List LinkStep → Type 0) (n : E → Node) (table : N → Table E) (summaries : M → Summaries S) (Covers : M → Place → Type 0) where
+  -- the links took these steps, fresh summaries that were right still are, fresh summaries of places that the steps link are right, and none was
+  -- written
   pub record TraceSummed (old new : Summed N M) (steps : List LinkStep) : Type 0 where
     pub links : Trace (links_of old) (links_of new) steps
-    pub right : (q : Place) → IsAcquired q steps ⊎ IsRightAt n (table (links_of old)) (sums (sums_of old)) q → IsRightAt n (table (links_of new)) (sums (sums_of new)) q
-    pub marks : WritesNoSummary (sums (sums_of old)) (sums (sums_of new))
-    pub covers : (q : Place) → Covers (sums_of old) q → Covers (sums_of new) q
-    pub join : (sums (sums_of new)).join ≡ (sums (sums_of old)).join
+    pub right : (q : Place) → IsAcquired q steps ⊎ IsRightAt n (table (links_of old)) (summaries (summaries_of old)) q → IsRightAt n (table (links_of new)) (summaries (summaries_of new)) q
+    pub marks : WritesNoSummary (summaries (summaries_of old)) (summaries (summaries_of new))
+    pub covers : (q : Place) → Covers (summaries_of old) q → Covers (summaries_of new) q
+    pub join : (summaries (summaries_of new)).join ≡ (summaries (summaries_of old)).join

@@ -1,8 +1,9 @@
-//! The functions of this file renew summaries from a place up to the edge, and above the edge for as long as a summary changes.
+//! The functions of this file recompute summaries from a place up to the edge, and above the edge for as long as a summary changes.
+//! The edge is the place above the stale summaries of an edit.
 //!
 //! ```text
-//! settle(&links, &mut sums, place, edge); // up to the edge, and on while summaries change
-//! settle_without(&links, &mut sums, place, edge); // from the edge on, where the place was taken out
+//! settle(&links, &mut summaries, place, edge); // up to the edge, and on while summaries change
+//! settle_without(&links, &mut summaries, place, edge); // from the edge on, where the place was taken out
 //! ```
 
 ghost use Rattle.std.specs.Prelude.{◌≡◌, Bool, false, Option, Some, None, List, ◌∷◌, ◌++◌, IsTrue, IfSome, IfNone};
@@ -13,17 +14,17 @@ ghost use Rattle.ic_link_ops.specs.Trees.{Tree, top};
 ghost use Rattle.ic_link_ops.specs.Times.{times};
 ghost use Rattle.ic_rbtree.specs.Closed.{IsIn, IsNode};
 ghost use Rattle.ic_augmented.specs.Beside.{IsWrittenIn, IsEdgeOf};
-ghost use Rattle.ic_augmented.specs.Changes.{IsAmong, RenewsAt, PassesOn, ClimbsTo};
+ghost use Rattle.ic_augmented.specs.Changes.{IsAmong, RecomputesAt, PassesOn, ClimbsTo};
 ghost use Rattle.ic_augmented.specs.Consistent.{IsSameAt, IsConsistent, IsConsistentBut, IsConsistentTree, IsConsistentBelow, Refreshes};
 ghost use Rattle.ic_augmented.specs.Subtrees.{IsSubtree};
 
 use crate::ranks::is_at;
-use crate::stale::{invalidate_up, renew};
-use crate::sums::RenewSums;
+use crate::stale::{invalidate_up, recompute};
+use crate::summaries::RecomputeSummaries;
 use ic_rbtree::NodeStore;
 use ic_unsafe_ref::Place;
 
-// Whether the edge stands above the place.
+// Whether the edge is above the place.
 fn is_above<N: NodeStore>(links: &N, place: Place, edge: Place) -> bool
     requires { (fs : List Frame) × (t : Tree) × IsSubtree N.node (N.table links.now) fs t × (top t ≡ Some place) }
     ensures { IsTrue result → (fs : List Frame) (t : Tree) → IsSubtree N.node (N.table links.now) fs t → top t ≡ Some place → IsAmong edge fs }
@@ -37,71 +38,73 @@ fn is_above<N: NodeStore>(links: &N, place: Place, edge: Place) -> bool
     is_above(links, above, edge)
 }
 
-// Writes the summary of a place, after the stale ones below it, in code of its own.
+// Writes the summary of a place, after the stale ones below it. It reads the parent itself, since most summaries are computed from the change
+// below and need no parent. This function is not inlined.
 #[inline(never)]
-fn renew_whole<N: NodeStore, M: RenewSums>(
+fn recompute_whole<N: NodeStore, M: RecomputeSummaries>(
     links: &N,
-    sums: &mut M,
+    summaries: &mut M,
     here: Place,
-    upper: Option<Place>,
 ) -> M::Summary
-    requires covered { (q : Place) → IsNode N.node (N.table links.now) q → M.Covers sums.old q }
+    requires covered { (q : Place) → IsNode N.node (N.table links.now) q → M.Covers summaries.old q }
     requires tree { (u : Option Place) × (t : Tree) × IsTree N.node (Table.entry (N.table links.now)) u t × (Some here ≡ top t) }
-    ensures covers { (q : Place) → M.Covers sums.old q → M.Covers sums.new q }
-    ensures summary { Some result ≡ (M.sums sums.new).fresh here }
+    ensures covers { (q : Place) → M.Covers summaries.old q → M.Covers summaries.new q }
+    ensures summary { Some result ≡ (M.summaries summaries.new).fresh here }
     ensures refreshed { (u : Option Place) (t : Tree) → IsTree N.node (Table.entry (N.table links.now)) u t → Some here ≡ top t
-        → Refreshes IsConsistentBelow (M.sums sums.old) (M.sums sums.new) upper t 67 }
+        → Refreshes IsConsistentBelow (M.summaries summaries.old) (M.summaries summaries.new) (N.node ((N.table links.now).entry here)).parent t 67 }
 {
-    renew(links, sums, here, upper, 66)
+    let upper = links.parent(here);
+    recompute(links, summaries, here, upper, 66)
 }
 
-// Renews the summary of a place, where that of one child had been `from` and is `to`: what it was and is, none where it is stale.
+// Recomputes the summary of a place after that of one child changed from `from` to `to`. Returns the old summary and the new one; the
+// old one is `None` if it was stale.
 #[inline(always)]
-fn renew_at<N: NodeStore, M: RenewSums>(
+fn recompute_at<N: NodeStore, M: RecomputeSummaries>(
     links: &N,
-    sums: &mut M,
+    summaries: &mut M,
     place: Place,
     from: M::Summary,
     to: M::Summary,
     upper: Option<Place>,
 ) -> Option<(M::Summary, M::Summary)>
-    requires covered { (q : Place) → IsNode N.node (N.table links.now) q → M.Covers sums.old q }
+    requires covered { (q : Place) → IsNode N.node (N.table links.now) q → M.Covers summaries.old q }
     requires subtree { (fs : List Frame) × (t : Tree) × IsSubtree N.node (N.table links.now) fs t × (top t ≡ Some place) }
     requires upper { (N.node ((N.table links.now).entry place)).parent ≡ upper }
-    ensures covers { (q : Place) → M.Covers sums.old q → M.Covers sums.new q }
-    ensures join { (M.sums sums.new).join ≡ (M.sums sums.old).join }
+    ensures covers { (q : Place) → M.Covers summaries.old q → M.Covers summaries.new q }
+    ensures join { (M.summaries summaries.new).join ≡ (M.summaries summaries.old).join }
     ensures frame { (fs : List Frame) (t : Tree) → IsSubtree N.node (N.table links.now) fs t → top t ≡ Some place
-        → (q : Place) → times q t ≡ 0 → IsSameAt (M.sums sums.old) (M.sums sums.new) q }
-    ensures was { IfSome result (λ change. (M.sums sums.old).fresh place ≡ Some change.0) }
-    ensures is { IfSome result (λ change. (M.sums sums.new).fresh place ≡ Some change.1) }
-    ensures renewed { IfSome result (λ change. RenewsAt N.node (N.table links.now) (M.sums sums.old) (M.sums sums.new) place from to upper) }
-    ensures stale { IfNone result (((M.sums sums.old).fresh place ≡ None) × (sums.new ≡ sums.old)) }
+        → (q : Place) → times q t ≡ 0 → IsSameAt (M.summaries summaries.old) (M.summaries summaries.new) q }
+    ensures was { IfSome result (λ change. (M.summaries summaries.old).fresh place ≡ Some change.0) }
+    ensures is { IfSome result (λ change. (M.summaries summaries.new).fresh place ≡ Some change.1) }
+    ensures recomputed { IfSome result (λ change. RecomputesAt N.node (N.table links.now) (M.summaries summaries.old) (M.summaries summaries.new) place from to upper) }
+    ensures stale { IfNone result (((M.summaries summaries.old).fresh place ≡ None) × (summaries.new ≡ summaries.old)) }
 {
-    if let Some(change) = sums.rejoin(place, from, to, upper) {
+    if let Some(change) = summaries.rejoin(place, from, to, upper) {
         return Some(change);
     }
-    let was = sums.fresh(place)?;
-    Some((was, renew_whole(links, sums, place, upper)))
+    let was = summaries.fresh(place)?;
+    Some((was, recompute_whole(links, summaries, place)))
 }
 
-// Renews the summaries from a place up as far as they change, where that of one child had been `from` and is `to`.
-fn pass_on<N: NodeStore, M: RenewSums>(
+// Recomputes the summaries from a place upwards as far as they change, after that of one child changed from `from` to `to`.
+fn pass_on<N: NodeStore, M: RecomputeSummaries>(
     links: &N,
-    sums: &mut M,
+    summaries: &mut M,
     place: Place,
     from: M::Summary,
     to: M::Summary,
 )
-    requires covered { (q : Place) → IsNode N.node (N.table links.now) q → M.Covers sums.old q }
+    requires covered { (q : Place) → IsNode N.node (N.table links.now) q → M.Covers summaries.old q }
     requires subtree { (fs : List Frame) × (t : Tree) × IsSubtree N.node (N.table links.now) fs t × (top t ≡ Some place) }
-    ensures covers { (q : Place) → M.Covers sums.old q → M.Covers sums.new q }
-    ensures join { (M.sums sums.new).join ≡ (M.sums sums.old).join }
+    ensures covers { (q : Place) → M.Covers summaries.old q → M.Covers summaries.new q }
+    ensures join { (M.summaries summaries.new).join ≡ (M.summaries summaries.old).join }
     ensures others { (fs : List Frame) (t : Tree) → IsSubtree N.node (N.table links.now) fs t → top t ≡ Some place
-        → (q : Place) → times q (plug fs t) ≡ 0 → IsSameAt (M.sums sums.old) (M.sums sums.new) q }
-    ensures consistent { PassesOn N.node (N.table links.now) (M.sums sums.old) (M.sums sums.new) place from to }
+        → (q : Place) → times q (plug fs t) ≡ 0 → IsSameAt (M.summaries summaries.old) (M.summaries summaries.new) q }
+    ensures consistent { PassesOn N.node (N.table links.now) (M.summaries summaries.old) (M.summaries summaries.new) place from to }
 {
     let upper = links.parent(place);
-    let Some(change) = renew_at(links, sums, place, from, to, upper) else {
+    let Some(change) = recompute_at(links, summaries, place, from, to, upper) else {
         return;
     };
     let (was, is) = change;
@@ -111,23 +114,23 @@ fn pass_on<N: NodeStore, M: RenewSums>(
     let Some(above) = upper else {
         return;
     };
-    pass_on(links, sums, above, was, is);
+    pass_on(links, summaries, above, was, is);
 }
 
-// Renews the summary of the edge, and those above as far as they change.
+// Recomputes the summary of the edge, and those above as far as they change.
 #[inline(always)]
-fn climb_on<N: NodeStore, M: RenewSums>(links: &N, sums: &mut M, edge: Place)
-    requires covered { (q : Place) → IsNode N.node (N.table links.now) q → M.Covers sums.old q }
+fn climb_on<N: NodeStore, M: RecomputeSummaries>(links: &N, summaries: &mut M, edge: Place)
+    requires covered { (q : Place) → IsNode N.node (N.table links.now) q → M.Covers summaries.old q }
     requires subtree { (fs : List Frame) × (t : Tree) × IsSubtree N.node (N.table links.now) fs t × (top t ≡ Some edge) }
-    ensures covers { (q : Place) → M.Covers sums.old q → M.Covers sums.new q }
-    ensures join { (M.sums sums.new).join ≡ (M.sums sums.old).join }
+    ensures covers { (q : Place) → M.Covers summaries.old q → M.Covers summaries.new q }
+    ensures join { (M.summaries summaries.new).join ≡ (M.summaries summaries.old).join }
     ensures others { (fs : List Frame) (t : Tree) → IsSubtree N.node (N.table links.now) fs t → top t ≡ Some edge
-        → (q : Place) → times q (plug fs t) ≡ 0 → IsSameAt (M.sums sums.old) (M.sums sums.new) q }
-    ensures consistent { ClimbsTo N.node (N.table links.now) (M.sums sums.old) (M.sums sums.new) edge edge }
+        → (q : Place) → times q (plug fs t) ≡ 0 → IsSameAt (M.summaries summaries.old) (M.summaries summaries.new) q }
+    ensures consistent { ClimbsTo N.node (N.table links.now) (M.summaries summaries.old) (M.summaries summaries.new) edge edge }
 {
     let upper = links.parent(edge);
-    let was = sums.fresh(edge);
-    let is = renew(links, sums, edge, upper, 66);
+    let was = summaries.fresh(edge);
+    let is = recompute(links, summaries, edge, upper, 66);
     let Some(above) = upper else {
         return;
     };
@@ -137,81 +140,86 @@ fn climb_on<N: NodeStore, M: RenewSums>(links: &N, sums: &mut M, edge: Place)
     if M::is_same(&was, &is) {
         return;
     }
-    pass_on(links, sums, above, was, is);
+    pass_on(links, summaries, above, was, is);
 }
 
-// Renews the summaries from a place up to the edge, and those above as far as they change.
-fn climb<N: NodeStore, M: RenewSums>(links: &N, sums: &mut M, place: Place, edge: Place)
-    requires covered { (q : Place) → IsNode N.node (N.table links.now) q → M.Covers sums.old q }
+// Recomputes the summaries from a place up to the edge, and those above as far as they change.
+fn climb<N: NodeStore, M: RecomputeSummaries>(
+    links: &N,
+    summaries: &mut M,
+    place: Place,
+    edge: Place,
+)
+    requires covered { (q : Place) → IsNode N.node (N.table links.now) q → M.Covers summaries.old q }
     requires subtree { (fs : List Frame) × (t : Tree) × IsSubtree N.node (N.table links.now) fs t × (top t ≡ Some place) }
-    ensures covers { (q : Place) → M.Covers sums.old q → M.Covers sums.new q }
-    ensures join { (M.sums sums.new).join ≡ (M.sums sums.old).join }
+    ensures covers { (q : Place) → M.Covers summaries.old q → M.Covers summaries.new q }
+    ensures join { (M.summaries summaries.new).join ≡ (M.summaries summaries.old).join }
     ensures others { (fs : List Frame) (t : Tree) → IsSubtree N.node (N.table links.now) fs t → top t ≡ Some place
-        → (q : Place) → times q (plug fs t) ≡ 0 → IsSameAt (M.sums sums.old) (M.sums sums.new) q }
-    ensures consistent { ClimbsTo N.node (N.table links.now) (M.sums sums.old) (M.sums sums.new) place edge }
+        → (q : Place) → times q (plug fs t) ≡ 0 → IsSameAt (M.summaries summaries.old) (M.summaries summaries.new) q }
+    ensures consistent { ClimbsTo N.node (N.table links.now) (M.summaries summaries.old) (M.summaries summaries.new) place edge }
 {
     if is_at(Some(place), edge) {
-        climb_on(links, sums, place);
+        climb_on(links, summaries, place);
         return;
     }
     let upper = links.parent(place);
-    let _ = renew(links, sums, place, upper, 66);
+    let _ = recompute(links, summaries, place, upper, 66);
     let Some(above) = upper else {
         return;
     };
-    climb(links, sums, above, edge);
+    climb(links, summaries, above, edge);
 }
 
-// Renews what an insert of the place has left stale below the edge, and what changes above. If the edge is not above the place, the
-// summaries above the edge are made stale.
-pub(crate) fn settle<N: NodeStore, M: RenewSums>(
+// Recomputes the summaries that an insert of the place has left stale below the edge, and those above that change. If the edge is not
+// above the place, the summaries above the edge are made stale.
+pub(crate) fn settle<N: NodeStore, M: RecomputeSummaries>(
     links: &N,
-    sums: &mut M,
+    summaries: &mut M,
     place: Place,
     edge: Option<Place>,
 )
     requires member { (root : Option Place) × HasMember (Represents N.node (N.table links.now) root) place }
-    requires covered { (q : Place) → IsNode N.node (N.table links.now) q → M.Covers sums.old q }
-    ensures covers { (q : Place) → M.Covers sums.old q → M.Covers sums.new q }
-    ensures join { (M.sums sums.new).join ≡ (M.sums sums.old).join }
+    requires covered { (q : Place) → IsNode N.node (N.table links.now) q → M.Covers summaries.old q }
+    ensures covers { (q : Place) → M.Covers summaries.old q → M.Covers summaries.new q }
+    ensures join { (M.summaries summaries.new).join ≡ (M.summaries summaries.old).join }
     ensures consistent { (root : Option Place) (front back : List Place) (h : Represents N.node (N.table links.now) root (front ++ place ∷ back))
-        → IsConsistentBut N.node (N.table links.now) (M.sums sums.old) (front ++ place ∷ back) edge → IsConsistentTree (M.sums sums.new) h.tree }
+        → IsConsistentBut N.node (N.table links.now) (M.summaries summaries.old) (front ++ place ∷ back) edge → IsConsistentTree (M.summaries summaries.new) h.tree }
     ensures others { (root other : Option Place) (front back t : List Place) → Represents N.node (N.table links.now) root (front ++ place ∷ back)
         → Represents N.node (N.table links.now) other t → IsDisjoint (front ++ place ∷ back) t
-        → IsConsistentBut N.node (N.table links.now) (M.sums sums.old) t edge → IsConsistent N.node (N.table links.now) (M.sums sums.new) t }
+        → IsConsistentBut N.node (N.table links.now) (M.summaries summaries.old) t edge → IsConsistent N.node (N.table links.now) (M.summaries summaries.new) t }
     ensures beside { (root : Option Place) (front back : List Place) → Represents N.node (N.table links.now) root (front ++ place ∷ back)
-        → (inside : Place → Bool) → IsWrittenIn (M.sums sums.old) inside → IsIn inside edge
-        → (q : Place) → IsAbsent q (front ++ place ∷ back) → inside q ≡ false → IsSameAt (M.sums sums.old) (M.sums sums.new) q }
+        → (inside : Place → Bool) → IsWrittenIn (M.summaries summaries.old) inside → IsIn inside edge
+        → (q : Place) → IsAbsent q (front ++ place ∷ back) → inside q ≡ false → IsSameAt (M.summaries summaries.old) (M.summaries summaries.new) q }
 {
     let Some(edge) = edge else {
         return;
     };
     if !is_above(links, place, edge) {
-        invalidate_up(links, sums, edge);
+        invalidate_up(links, summaries, edge);
         return;
     }
-    climb(links, sums, place, edge);
+    climb(links, summaries, place, edge);
 }
 
-// Renews what the removal of the place has left stale below the edge, and what changes above. If the edge is the place itself, no member's
-// summary may be wrong.
-pub(crate) fn settle_without<N: NodeStore, M: RenewSums>(
+// Recomputes the summaries that the removal of the place has left stale below the edge, and those above that change. If the edge is the place
+// itself, the summary of every member is right or stale.
+pub(crate) fn settle_without<N: NodeStore, M: RecomputeSummaries>(
     links: &N,
-    sums: &mut M,
+    summaries: &mut M,
     place: Place,
     edge: Option<Place>,
 )
     requires member { (root : Option Place) × (s : List Place) × Represents N.node (N.table links.now) root s × IsEdgeOf edge place s }
-    requires covered { (q : Place) → IsNode N.node (N.table links.now) q → M.Covers sums.old q }
-    ensures covers { (q : Place) → M.Covers sums.old q → M.Covers sums.new q }
-    ensures join { (M.sums sums.new).join ≡ (M.sums sums.old).join }
+    requires covered { (q : Place) → IsNode N.node (N.table links.now) q → M.Covers summaries.old q }
+    ensures covers { (q : Place) → M.Covers summaries.old q → M.Covers summaries.new q }
+    ensures join { (M.summaries summaries.new).join ≡ (M.summaries summaries.old).join }
     ensures consistent { (root : Option Place) (s : List Place) → Represents N.node (N.table links.now) root s → IsEdgeOf edge place s → IsAbsent place s
-        → IsConsistentBut N.node (N.table links.now) (M.sums sums.old) s edge → IsConsistent N.node (N.table links.now) (M.sums sums.new) s }
+        → IsConsistentBut N.node (N.table links.now) (M.summaries summaries.old) s edge → IsConsistent N.node (N.table links.now) (M.summaries summaries.new) s }
     ensures others { (root other : Option Place) (s t : List Place) → Represents N.node (N.table links.now) root s → IsEdgeOf edge place s
         → Represents N.node (N.table links.now) other t → IsDisjoint s t → IsAbsent place t
-        → IsConsistentBut N.node (N.table links.now) (M.sums sums.old) t edge → IsConsistent N.node (N.table links.now) (M.sums sums.new) t }
+        → IsConsistentBut N.node (N.table links.now) (M.summaries summaries.old) t edge → IsConsistent N.node (N.table links.now) (M.summaries summaries.new) t }
     ensures beside { (root : Option Place) (s : List Place) → Represents N.node (N.table links.now) root s → IsEdgeOf edge place s
-        → (q : Place) → IsAbsent q s → IsSameAt (M.sums sums.old) (M.sums sums.new) q }
+        → (q : Place) → IsAbsent q s → IsSameAt (M.summaries summaries.old) (M.summaries summaries.new) q }
 {
     let Some(highest) = edge else {
         return;
@@ -219,5 +227,5 @@ pub(crate) fn settle_without<N: NodeStore, M: RenewSums>(
     if is_at(Some(highest), place) {
         return;
     }
-    climb_on(links, sums, highest);
+    climb_on(links, summaries, highest);
 }

@@ -1,20 +1,21 @@
-//! How many members stand at each place and below.
+//! The number of members in each subtree.
 //!
 //! ```text
-//! let mut summed = Summed { links, sums: Counts::new(alloc) };
-//! summed.sums.cover(1000)?;
+//! let mut summed = Summed { links, summaries: Counts::new(alloc) };
+//! summed.summaries.cover(1000)?;
 //! ```
 
 ghost use Rattle.std.specs.Prelude.{◌≡◌, IfSome};
 
-use crate::sum_table::{Joins, SumTable};
+use crate::sum_table::{SumTable, Summarize};
 use std::alloc::Global;
 
-/// A count beside each place: of the members that stand there and below.
+/// A count beside each place: the number of members in the subtree there.
 pub type Counts<A = Global> = SumTable<(), u64, A>;
 
-/// Nothing stands at a place, and each member counts as one. A count stays at `u64::MAX` where it would exceed that.
-impl Joins<u64> for () {
+/// Places have no value of their own, and each member counts as one. A count that would exceed `u64::MAX` is
+/// `u64::MAX`.
+impl Summarize<u64> for () {
     ghost use Rattle.ic_augmented.specs.Changes.{Rejoins};
     ghost use Rattle.ic_augmented.specs.Counts.{counted};
     ghost use Rattle.std.proofs.Common.{refl};
@@ -37,10 +38,14 @@ impl Joins<u64> for () {
     fn rejoin(self, was: u64, from: u64, to: u64) -> Option<u64>
         ensures { IfSome result (Rejoins (counted self) from to was) }
     {
-        was.checked_add(to.checked_sub(from)?)
+        // At the most there may be more members than it tells.
+        if was == u64::MAX {
+            return None;
+        }
+        was.checked_sub(from)?.checked_add(to)
     }
 
-    // A member that comes in changes each count above it, so a test would only cost time.
+    // An inserted member changes each count above it, so a test whether they differ would only cost time.
     #[inline]
     fn is_same(a: &u64, b: &u64) -> bool {
         let _ = a;

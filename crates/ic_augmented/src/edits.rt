@@ -1,4 +1,4 @@
-//! Summaries renewed after edits of a tree, or with one.
+//! Calls that recompute summaries after edits of a tree, and edits that recompute them.
 //!
 //! ```text
 //! tree.insert_keyed(&mut summed, object)?;
@@ -16,27 +16,27 @@ ghost use Rattle.ic_rbtree.specs.Insertion.{IsInsertPos, Attaches};
 ghost use Rattle.ic_rbtree.specs.Kept.{TellsEnds, IsBelow};
 ghost use Rattle.ic_rbtree.specs.Transplants.{TakesAway};
 ghost use Rattle.ic_rbtree.specs.Tree.{head_of, root_in};
-ghost use Rattle.ic_augmented.specs.Summed.{links_of, sums_of};
+ghost use Rattle.ic_augmented.specs.Summed.{links_of, summaries_of};
 ghost use Rattle.ic_augmented.specs.Consistent.{IsSameAt, RepresentsConsistent, RepresentsSummed};
 ghost use Rattle.ic_augmented.specs.Fresh.{ChangesOnlyInTree, RepresentsFresh};
 
 use crate::climb::{settle, settle_without};
 use crate::marking::{attach_marking, unlink_marking};
 use crate::stale::{invalidate_up, refresh_below, refresh_path};
+use crate::summaries::RecomputeSummaries;
 use crate::summed::Summed;
-use crate::sums::RenewSums;
 use ic_link_ops::Side;
 use ic_rbtree::{NodeStore, RBTree, TreeHead};
 use ic_unsafe_ref::Place;
 use std::marker::Brand;
 
-/// Puts `place` in, as [`RBTree::attach`] does, and renews the stale summaries of the tree: then it is summed.
+/// Inserts `place`, as [`RBTree::attach`] does, and recomputes the stale summaries of the tree. The tree is summed then.
 ///
-/// It does what `RBTree::attach` and [`refresh`] do, and is faster: the summaries above the place are renewed as far as they change, each by what has
-/// changed below. Each fresh summary of another tree in the table stays right, and it stays fresh where those of this tree were written below its own
-/// members, as they are in a tree that is summed. It requires what `RBTree::attach` requires, that the links represent a
-/// tree with this hole, and that there is room for a summary at each linked place. O(log n + v) for v summaries that were stale before.
-pub fn attach_fresh<A, E: TreeHead, N: NodeStore, M: RenewSums>(
+/// It does what `RBTree::attach` and [`refresh`] do, and is faster: it recomputes the summaries above the place as far as they change, each from the
+/// changed one below. Each fresh summary of another tree in the table stays right. It also stays fresh if the summaries of this tree were written
+/// below its own members, as in a tree that is summed. It requires what `RBTree::attach` requires, that the links represent a tree with this hole,
+/// and that there is room for a summary at each linked place. O(log n + v) for v summaries that were stale before.
+pub fn attach_fresh<A, E: TreeHead, N: NodeStore, M: RecomputeSummaries>(
     tree: &mut RBTree<A, E>,
     summed: &mut Summed<N, M>,
     parent: Option<Place>,
@@ -46,101 +46,102 @@ pub fn attach_fresh<A, E: TreeHead, N: NodeStore, M: RenewSums>(
     requires safe { IsSafeBut N.node (N.table (links_of summed.old)) (root_in E.kept tree.old) place (Some place ∷ parent ∷ []) }
     requires hole { (gap : Cut) × IsNode N.node (N.table (links_of summed.old)) place × IsAbsent place (join gap)
         × Represents N.node (N.table (links_of summed.old)) (root_in E.kept tree.old) (join gap) × IsInsertPos N.node (N.table (links_of summed.old)) parent side gap }
-    requires covered { (q : Place) → IsNode N.node (N.table (links_of summed.old)) q → M.Covers (sums_of summed.old) q }
+    requires covered { (q : Place) → IsNode N.node (N.table (links_of summed.old)) q → M.Covers (summaries_of summed.old) q }
     ensures fresh { (gap : Cut) → IsNode N.node (N.table (links_of summed.old)) place → IsAbsent place (join gap)
-        → RepresentsConsistent N.node (M.sums (sums_of summed.old)) (N.table (links_of summed.old)) (root_in E.kept tree.old) (join gap)
+        → RepresentsConsistent N.node (M.summaries (summaries_of summed.old)) (N.table (links_of summed.old)) (root_in E.kept tree.old) (join gap)
         → IsInsertPos N.node (N.table (links_of summed.old)) parent side gap
-        → RepresentsFresh N.node (M.sums (sums_of summed.new)) (N.table (links_of summed.new)) (root_in E.kept tree.new) (insert gap place) }
+        → RepresentsFresh N.node (M.summaries (summaries_of summed.new)) (N.table (links_of summed.new)) (root_in E.kept tree.new) (insert gap place) }
     ensures attached { Attaches N.node (N.table (links_of summed.old)) (N.table (links_of summed.new)) (root_in E.kept tree.old) (root_in E.kept tree.new) parent side place }
     ensures ends { (gap : Cut) → IsBelow parent side gap → IsDistinct (join gap) → TellsEnds (E.kept (head_of tree.old)) (join gap)
         → TellsEnds (E.kept (head_of tree.new)) (insert gap place) }
     ensures linked { KeepsNodes N.node (N.table (links_of summed.old)) (N.table (links_of summed.new)) }
     ensures keeps_links { N.KeepsLinks (links_of summed.old) (links_of summed.new) }
-    ensures beside { ChangesOnlyInTree E.kept N.node N.table M.sums M.Covers (place ∷ []) (place ∷ []) tree.old tree.new summed.old summed.new }
+    ensures beside { ChangesOnlyInTree E.kept N.node N.table M.summaries M.Covers (place ∷ []) (place ∷ []) tree.old tree.new summed.old summed.new }
 {
-    invalidate_up(&summed.links, &mut summed.sums, place);
+    invalidate_up(&summed.links, &mut summed.summaries, place);
     let edge = attach_marking::<Brand, _, _, _, _>(tree, summed, parent, side, place);
-    settle(&summed.links, &mut summed.sums, place, edge);
+    settle(&summed.links, &mut summed.summaries, place, edge);
     let top = tree.root();
-    let _ = refresh_below(&summed.links, &mut summed.sums, top, None, 67);
+    let _ = refresh_below(&summed.links, &mut summed.summaries, top, None, 67);
 }
 
-/// Takes the member at `place` out, as [`RBTree::unlink`] does, and renews the stale summaries of the tree: then it is summed. The place stays
-/// linked, and its own summary is stale.
+/// Removes the member at `place`, as [`RBTree::unlink`] does, and recomputes the stale summaries of the tree. The tree is summed then. The place
+/// stays linked, and its own summary is stale.
 ///
-/// It does what `RBTree::unlink` and [`refresh`] do, and the summaries above are renewed as far as they change, each by what has changed below. Each
-/// fresh summary of another tree in the table stays right, and it stays fresh where those of this tree were written below its own members, as they
-/// are in a tree that is summed. It requires that the place is that of a member, and that there is room for a summary at each linked place.
-/// O(log n + v) for v summaries that were stale before.
-pub fn unlink_fresh<A, E: TreeHead, N: NodeStore, M: RenewSums>(
+/// It does what `RBTree::unlink` and [`refresh`] do, and recomputes the summaries above as far as they change, each from the changed one below. Each
+/// fresh summary of another tree in the table stays right. It also stays fresh if the summaries of this tree were written below its own members, as
+/// in a tree that is summed. It requires that the place is that of a member, and that there is room for a summary at each linked place. O(log n +
+/// v) for v summaries that were stale before.
+pub fn unlink_fresh<A, E: TreeHead, N: NodeStore, M: RecomputeSummaries>(
     tree: &mut RBTree<A, E>,
     summed: &mut Summed<N, M>,
     place: Place,
 )
     requires member { HasMember (Represents N.node (N.table (links_of summed.old)) (root_in E.kept tree.old)) place }
-    requires covered { (q : Place) → IsNode N.node (N.table (links_of summed.old)) q → M.Covers (sums_of summed.old) q }
+    requires covered { (q : Place) → IsNode N.node (N.table (links_of summed.old)) q → M.Covers (summaries_of summed.old) q }
     ensures fresh { (front back : List Place)
-        → RepresentsConsistent N.node (M.sums (sums_of summed.old)) (N.table (links_of summed.old)) (root_in E.kept tree.old) (front ++ place ∷ back)
-        → RepresentsFresh N.node (M.sums (sums_of summed.new)) (N.table (links_of summed.new)) (root_in E.kept tree.new) (front ++ back) }
-    ensures stale { (M.sums (sums_of summed.new)).fresh place ≡ None }
+        → RepresentsConsistent N.node (M.summaries (summaries_of summed.old)) (N.table (links_of summed.old)) (root_in E.kept tree.old) (front ++ place ∷ back)
+        → RepresentsFresh N.node (M.summaries (summaries_of summed.new)) (N.table (links_of summed.new)) (root_in E.kept tree.new) (front ++ back) }
+    ensures stale { (M.summaries (summaries_of summed.new)).fresh place ≡ None }
     ensures taken { TakesAway N.node (N.table (links_of summed.old)) (N.table (links_of summed.new)) (root_in E.kept tree.old) (root_in E.kept tree.new) place }
     ensures ends { (front back : List Place) → Represents N.node (N.table (links_of summed.old)) (root_in E.kept tree.old) (front ++ place ∷ back)
         → TellsEnds (E.kept (head_of tree.old)) (front ++ place ∷ back) → TellsEnds (E.kept (head_of tree.new)) (front ++ back) }
     ensures keeps_links { N.KeepsLinks (links_of summed.old) (links_of summed.new) }
-    ensures beside { ChangesOnlyInTree E.kept N.node N.table M.sums M.Covers [] [] tree.old tree.new summed.old summed.new }
+    ensures beside { ChangesOnlyInTree E.kept N.node N.table M.summaries M.Covers [] [] tree.old tree.new summed.old summed.new }
 {
     let edge = unlink_marking::<Brand, _, _, _, _>(tree, summed, place);
-    settle_without(&summed.links, &mut summed.sums, place, edge);
+    settle_without(&summed.links, &mut summed.summaries, place, edge);
     let top = tree.root();
-    let _ = refresh_below(&summed.links, &mut summed.sums, top, None, 67);
-    summed.sums.invalidate(place);
+    let _ = refresh_below(&summed.links, &mut summed.summaries, top, None, 67);
+    summed.summaries.invalidate(place);
 }
 
-/// Renews the stale summaries of the tree: then it is summed. The links stay, and so does all that is kept at places outside the tree.
+/// Recomputes the stale summaries of the tree. The tree is summed then. The links stay, and so does all that is stored at places outside
+/// the tree.
 ///
 /// It requires that the links represent a tree, and that there is room for a summary at each linked place. O(v) for v stale summaries.
-pub fn refresh<A, E: TreeHead, N: NodeStore, M: RenewSums>(
+pub fn refresh<A, E: TreeHead, N: NodeStore, M: RecomputeSummaries>(
     tree: &RBTree<A, E>,
     summed: &mut Summed<N, M>,
 )
     requires shown { (s : List Place) × Represents N.node (N.table (links_of summed.old)) (root_in E.kept tree.now) s }
-    requires covered { (q : Place) → IsNode N.node (N.table (links_of summed.old)) q → M.Covers (sums_of summed.old) q }
+    requires covered { (q : Place) → IsNode N.node (N.table (links_of summed.old)) q → M.Covers (summaries_of summed.old) q }
     ensures summed { (s : List Place)
-        → RepresentsConsistent N.node (M.sums (sums_of summed.old)) (N.table (links_of summed.old)) (root_in E.kept tree.now) s
-        → RepresentsSummed N.node (M.sums (sums_of summed.new)) (N.table (links_of summed.new)) (root_in E.kept tree.now) s }
+        → RepresentsConsistent N.node (M.summaries (summaries_of summed.old)) (N.table (links_of summed.old)) (root_in E.kept tree.now) s
+        → RepresentsSummed N.node (M.summaries (summaries_of summed.new)) (N.table (links_of summed.new)) (root_in E.kept tree.now) s }
     ensures consistent { (s : List Place)
-        → RepresentsConsistent N.node (M.sums (sums_of summed.old)) (N.table (links_of summed.old)) (root_in E.kept tree.now) s
-        → RepresentsConsistent N.node (M.sums (sums_of summed.new)) (N.table (links_of summed.new)) (root_in E.kept tree.now) s }
+        → RepresentsConsistent N.node (M.summaries (summaries_of summed.old)) (N.table (links_of summed.old)) (root_in E.kept tree.now) s
+        → RepresentsConsistent N.node (M.summaries (summaries_of summed.new)) (N.table (links_of summed.new)) (root_in E.kept tree.now) s }
     ensures others { (s : List Place) → Represents N.node (N.table (links_of summed.old)) (root_in E.kept tree.now) s → (q : Place) → IsAbsent q s
-        → IsSameAt (M.sums (sums_of summed.old)) (M.sums (sums_of summed.new)) q }
-    ensures join { (M.sums (sums_of summed.new)).join ≡ (M.sums (sums_of summed.old)).join }
-    ensures covers { (q : Place) → M.Covers (sums_of summed.old) q → M.Covers (sums_of summed.new) q }
+        → IsSameAt (M.summaries (summaries_of summed.old)) (M.summaries (summaries_of summed.new)) q }
+    ensures join { (M.summaries (summaries_of summed.new)).join ≡ (M.summaries (summaries_of summed.old)).join }
+    ensures covers { (q : Place) → M.Covers (summaries_of summed.old) q → M.Covers (summaries_of summed.new) q }
     ensures links { links_of summed.new ≡ links_of summed.old }
 {
     let root = tree.root();
-    let _ = refresh_below(&summed.links, &mut summed.sums, root, None, 67);
+    let _ = refresh_below(&summed.links, &mut summed.summaries, root, None, 67);
 }
 
-/// Renews the stale summaries of a tree from the member at `place` up: then it is summed. The links stay, and so does all that is kept at
-/// places outside the tree.
+/// Recomputes the stale summaries of a tree from the member at `place` upwards. The tree is summed then. The links stay, and so does all that
+/// is stored at places outside the tree.
 ///
-/// It does what [`refresh`] does, and is faster where what is stale stands at `place`, on the way from there to the root and beside that: after
-/// an insert of `place`. It requires that the place is that of a member, and that there is room for a summary at each linked place.
+/// It does what [`refresh`] does. It is faster if the stale summaries are at `place`, on the path from there to the root, and beside that path,
+/// as after an insert of `place`. It requires that the place is that of a member, and that there is room for a summary at each linked place.
 /// O(log n + v) for v stale summaries.
-pub fn propagate<N: NodeStore, M: RenewSums>(summed: &mut Summed<N, M>, place: Place)
+pub fn propagate<N: NodeStore, M: RecomputeSummaries>(summed: &mut Summed<N, M>, place: Place)
     requires member { (root : Option Place) × HasMember (Represents N.node (N.table (links_of summed.old)) root) place }
-    requires covered { (q : Place) → IsNode N.node (N.table (links_of summed.old)) q → M.Covers (sums_of summed.old) q }
+    requires covered { (q : Place) → IsNode N.node (N.table (links_of summed.old)) q → M.Covers (summaries_of summed.old) q }
     ensures summed { (root : Option Place) (front back : List Place)
-        → RepresentsConsistent N.node (M.sums (sums_of summed.old)) (N.table (links_of summed.old)) root (front ++ place ∷ back)
-        → RepresentsSummed N.node (M.sums (sums_of summed.new)) (N.table (links_of summed.new)) root (front ++ place ∷ back) }
+        → RepresentsConsistent N.node (M.summaries (summaries_of summed.old)) (N.table (links_of summed.old)) root (front ++ place ∷ back)
+        → RepresentsSummed N.node (M.summaries (summaries_of summed.new)) (N.table (links_of summed.new)) root (front ++ place ∷ back) }
     ensures consistent { (root : Option Place) (front back : List Place)
-        → RepresentsConsistent N.node (M.sums (sums_of summed.old)) (N.table (links_of summed.old)) root (front ++ place ∷ back)
-        → RepresentsConsistent N.node (M.sums (sums_of summed.new)) (N.table (links_of summed.new)) root (front ++ place ∷ back) }
+        → RepresentsConsistent N.node (M.summaries (summaries_of summed.old)) (N.table (links_of summed.old)) root (front ++ place ∷ back)
+        → RepresentsConsistent N.node (M.summaries (summaries_of summed.new)) (N.table (links_of summed.new)) root (front ++ place ∷ back) }
     ensures others { (root : Option Place) (front back : List Place) → Represents N.node (N.table (links_of summed.old)) root (front ++ place ∷ back)
-        → (q : Place) → IsAbsent q (front ++ place ∷ back) → IsSameAt (M.sums (sums_of summed.old)) (M.sums (sums_of summed.new)) q }
-    ensures join { (M.sums (sums_of summed.new)).join ≡ (M.sums (sums_of summed.old)).join }
-    ensures covers { (q : Place) → M.Covers (sums_of summed.old) q → M.Covers (sums_of summed.new) q }
+        → (q : Place) → IsAbsent q (front ++ place ∷ back) → IsSameAt (M.summaries (summaries_of summed.old)) (M.summaries (summaries_of summed.new)) q }
+    ensures join { (M.summaries (summaries_of summed.new)).join ≡ (M.summaries (summaries_of summed.old)).join }
+    ensures covers { (q : Place) → M.Covers (summaries_of summed.old) q → M.Covers (summaries_of summed.new) q }
     ensures links { links_of summed.new ≡ links_of summed.old }
 {
-    refresh_path(&summed.links, &mut summed.sums, place, 67);
+    refresh_path(&summed.links, &mut summed.summaries, place, 67);
 }

@@ -12,8 +12,8 @@ ghost use Rattle.ic_rbtree.specs.Height.{height};
 ghost use Rattle.ic_rbtree.specs.Tree.{root_in};
 ghost use Rattle.ic_augmented.specs.Consistent.{RepresentsSummed};
 ghost use Rattle.ic_augmented.specs.Greatest.{greatest, number_at, is_greater};
-ghost use Rattle.ic_augmented.specs.Summed.{links_of, sums_of};
-ghost use Rattle.ic_augmented.specs.Sums.{IsSummed};
+ghost use Rattle.ic_augmented.specs.Summed.{links_of, summaries_of};
+ghost use Rattle.ic_augmented.specs.Summaries.{IsSummed};
 
 use crate::greatest::Greatest;
 use crate::summed::Summed;
@@ -49,7 +49,7 @@ fn first_greater_below<N: NodeStore, A: Allocator>(
     first_greater_below(links, numbers, right, bound, turns - 1)
 }
 
-/// The first member whose number is greater than `bound`, whatever the order of the numbers is. It finds none where no number is greater. O(log n).
+/// The first member whose number is greater than `bound`, whatever the order of the numbers is; `None` if no number is greater. O(log n).
 ///
 /// It requires that the links represent a tree.
 pub fn first_greater<T, E: TreeHead, N: NodeStore, A: Allocator>(
@@ -59,8 +59,8 @@ pub fn first_greater<T, E: TreeHead, N: NodeStore, A: Allocator>(
 ) -> Option<Place>
     requires { (s : List Place) × Represents N.node (N.table (links_of summed.now)) (root_in E.kept tree.now) s }
     ensures { (s : List Place)
-        → RepresentsSummed N.node (greatest (sums_of summed.now)) (N.table (links_of summed.now)) (root_in E.kept tree.now) s
-        → result ≡ first (filter (is_greater (number_at (sums_of summed.now)) bound) s) }
+        → RepresentsSummed N.node (greatest (summaries_of summed.now)) (N.table (links_of summed.now)) (root_in E.kept tree.now) s
+        → result ≡ first (filter (is_greater (number_at (summaries_of summed.now)) bound) s) }
 {
-    first_greater_below(&summed.links, &summed.sums, tree.root(), bound, 67)
+    first_greater_below(&summed.links, &summed.summaries, tree.root(), bound, 67)
 }

@@ -1,4 +1,4 @@
-//! Members that come and leave with all summaries fresh.
+//! Inserts and removals of members that leave all summaries fresh.
 //!
 //! ```text
 //! insert_fresh(&mut tree, &mut summed, object)?;
@@ -14,35 +14,41 @@ ghost use Rattle.ic_rbtree.specs.Comparing.{compared, own_order};
 ghost use Rattle.ic_rbtree.specs.Kept.{RepresentsKept};
 ghost use Rattle.ic_rbtree.specs.Ordered.{InsertsInOrder};
 ghost use Rattle.ic_rbtree.specs.Tree.{head_of, root_in, adapter_of};
-ghost use Rattle.ic_augmented.specs.Summed.{links_of, sums_of};
+ghost use Rattle.ic_augmented.specs.Summed.{links_of, summaries_of};
 ghost use Rattle.ic_augmented.specs.Consistent.{RepresentsConsistent};
 ghost use Rattle.ic_augmented.specs.Fresh.{ChangesOnlyInTree, RepresentsFresh};
 
 use crate::edits::{attach_fresh, unlink_fresh};
+use crate::summaries::RecomputeSummaries;
 use crate::summed::Summed;
-use crate::sums::RenewSums;
 use ic_link_ops::rbtree::RBTreeOps;
 use ic_link_ops::{AlreadyLinked, LinkOps, LinkValues, Side};
 use ic_rbtree::{KeyAdapter, KeyProbe, RBTree, TreeHead};
 use ic_unsafe_ref::{UnsafeRef, Values};
 
-/// Inserts the object as [`RBTree::insert_keyed`] does, and renews the stale summaries of the tree: then it is summed.
+/// Inserts the object as [`RBTree::insert_keyed`] does, and recomputes the stale summaries of the tree. The tree is summed
+/// then.
 ///
-/// It does what `insert_keyed` and [`refresh`](crate::refresh) do, and is faster, but it descends also where the last member is kept. Each fresh
-/// summary of another tree in the table stays right. It requires that the object's place is covered, that the links represent a tree, and that there
-/// is room for a summary at each covered place. A refused object comes back, and the tree, its links and its summaries are as they were.
-/// O(log n + v) for v summaries that were stale before.
-pub fn insert_fresh<A: KeyAdapter, E: TreeHead, L: RBTreeOps + LinkValues<A::Value>, M: RenewSums>(
+/// It does what `insert_keyed` and [`refresh`](crate::refresh) do, and is faster, but it always descends, even if the tree stores its last member.
+/// Each fresh summary of another tree in the table stays right. It requires that the object's place is covered, that the links represent a tree,
+/// and that there is room for a summary at each covered place. If the link is refused, the object is returned, and the tree, its links and its
+/// summaries are as they were. O(log n + v) for v summaries that were stale before.
+pub fn insert_fresh<
+    A: KeyAdapter,
+    E: TreeHead,
+    L: RBTreeOps + LinkValues<A::Value>,
+    M: RecomputeSummaries,
+>(
     tree: &mut RBTree<A, E>,
     summed: &mut Summed<L, M>,
     object: UnsafeRef<A::Value>,
 ) -> Result<(), AlreadyLinked<A::Value>>
     requires covered { IsCovered (L.table (links_of summed.old)) object }
     requires shown { (s : List Place) × Represents L.node (L.table (links_of summed.old)) (root_in E.kept tree.old) s }
-    requires room { (q : Place) → IsCovered (L.table (links_of summed.old)) q → M.Covers (sums_of summed.old) q }
+    requires room { (q : Place) → IsCovered (L.table (links_of summed.old)) q → M.Covers (summaries_of summed.old) q }
     ensures inserted { (s : List Place)
-        → RepresentsConsistent L.node (M.sums (sums_of summed.old)) (L.table (links_of summed.old)) (root_in E.kept tree.old) s
-        → OnOk result (InsertsInOrder (RepresentsFresh L.node (M.sums (sums_of summed.new)))
+        → RepresentsConsistent L.node (M.summaries (summaries_of summed.old)) (L.table (links_of summed.old)) (root_in E.kept tree.old) s
+        → OnOk result (InsertsInOrder (RepresentsFresh L.node (M.summaries (summaries_of summed.new)))
         (compared (own_order A.Key.cmp (A.key_of (adapter_of tree.old)) (L.values (links_of summed.old)) object) (L.values (links_of summed.old)))
         (L.table (links_of summed.old)) (L.table (links_of summed.new)) (root_in E.kept tree.new) s object) }
     ensures kept { (s : List Place) → RepresentsKept E.kept L.node (L.table (links_of summed.old)) (head_of tree.old) s
@@ -50,9 +56,9 @@ pub fn insert_fresh<A: KeyAdapter, E: TreeHead, L: RBTreeOps + LinkValues<A::Val
         (compared (own_order A.Key.cmp (A.key_of (adapter_of tree.old)) (L.values (links_of summed.old)) object) (L.values (links_of summed.old)))
         (L.table (links_of summed.old)) (L.table (links_of summed.new)) (head_of tree.new) s object) }
     ensures acquired { OnOk result (L.Trace (links_of summed.old) (links_of summed.new) (acquires object ∷ [])) }
-    ensures beside { ChangesOnlyInTree E.kept L.node L.table M.sums M.Covers [] (object ∷ []) tree.old tree.new summed.old summed.new }
+    ensures beside { ChangesOnlyInTree E.kept L.node L.table M.summaries M.Covers [] (object ∷ []) tree.old tree.new summed.old summed.new }
     ensures refused { OnErr result (L.Refused (links_of summed.old) (links_of summed.new) object) }
-    ensures unchanged { IfErr result (λ refused. (refused.0 ≡ object) × (tree.new ≡ tree.old) × (sums_of summed.new ≡ sums_of summed.old)) }
+    ensures unchanged { IfErr result (λ refused. (refused.0 ≡ object) × (tree.new ≡ tree.old) × (summaries_of summed.new ≡ summaries_of summed.old)) }
 {
     let place = object.place();
     if !summed.links.acquire_link(place) {
@@ -66,29 +72,29 @@ pub fn insert_fresh<A: KeyAdapter, E: TreeHead, L: RBTreeOps + LinkValues<A::Val
     Ok(())
 }
 
-/// Takes the object off the tree as [`RBTree::remove`] does, and renews the stale summaries of the tree: then it is summed.
+/// Removes the object as [`RBTree::remove`] does, and recomputes the stale summaries of the tree. The tree is summed then.
 ///
-/// It does what `remove` and [`refresh`](crate::refresh) do, and the summaries above are renewed as far as they change. The summary of the object's
-/// place is stale then. Each fresh summary of another tree in the table stays right, and it stays fresh where those of this tree were written below
-/// its own members, as they are in a tree that is summed. It requires that the object is a member, and that there is room for a summary at each
+/// It does what `remove` and [`refresh`](crate::refresh) do, and recomputes the summaries above as far as they change. The summary of the object's
+/// place is stale then. Each fresh summary of another tree in the table stays right. It also stays fresh if the summaries of this tree were written
+/// below its own members, as in a tree that is summed. It requires that the object is a member, and that there is room for a summary at each
 /// covered place. O(log n + v) for v summaries that were stale before.
-pub fn remove_fresh<A: KeyAdapter, E: TreeHead, L: RBTreeOps, M: RenewSums>(
+pub fn remove_fresh<A: KeyAdapter, E: TreeHead, L: RBTreeOps, M: RecomputeSummaries>(
     tree: &mut RBTree<A, E>,
     summed: &mut Summed<L, M>,
     object: &UnsafeRef<A::Value>,
 )
     requires member { HasMember (Represents L.node (L.table (links_of summed.old)) (root_in E.kept tree.old)) object.now }
-    requires room { (q : Place) → IsCovered (L.table (links_of summed.old)) q → M.Covers (sums_of summed.old) q }
+    requires room { (q : Place) → IsCovered (L.table (links_of summed.old)) q → M.Covers (summaries_of summed.old) q }
     ensures removed { (front back : List Place)
-        → RepresentsConsistent L.node (M.sums (sums_of summed.old)) (L.table (links_of summed.old)) (root_in E.kept tree.old) (front ++ object.now ∷ back)
-        → RepresentsFresh L.node (M.sums (sums_of summed.new)) (L.table (links_of summed.new)) (root_in E.kept tree.new) (front ++ back) }
+        → RepresentsConsistent L.node (M.summaries (summaries_of summed.old)) (L.table (links_of summed.old)) (root_in E.kept tree.old) (front ++ object.now ∷ back)
+        → RepresentsFresh L.node (M.summaries (summaries_of summed.new)) (L.table (links_of summed.new)) (root_in E.kept tree.new) (front ++ back) }
     ensures kept { (front back : List Place) → RepresentsKept E.kept L.node (L.table (links_of summed.old)) (head_of tree.old) (front ++ object.now ∷ back)
         → RepresentsKept E.kept L.node (L.table (links_of summed.new)) (head_of tree.new) (front ++ back) }
-    ensures stale { (M.sums (sums_of summed.new)).fresh object.now ≡ None }
+    ensures stale { (M.summaries (summaries_of summed.new)).fresh object.now ≡ None }
     ensures released { L.Trace (links_of summed.old) (links_of summed.new) (releases object.now ∷ []) }
     ensures frame { (s : List Place) → Represents L.node (L.table (links_of summed.old)) (root_in E.kept tree.old) s
         → ChangesOnlyIn (L.table (links_of summed.old)) (L.table (links_of summed.new)) s }
-    ensures beside { ChangesOnlyInTree E.kept L.node L.table M.sums M.Covers [] [] tree.old tree.new summed.old summed.new }
+    ensures beside { ChangesOnlyInTree E.kept L.node L.table M.summaries M.Covers [] [] tree.old tree.new summed.old summed.new }
 {
     let place = object.place();
     unlink_fresh(tree, summed, place);

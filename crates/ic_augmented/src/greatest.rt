@@ -1,4 +1,4 @@
-//! A number beside each place, and the greatest at each place and below.
+//! A number beside each place, and the greatest number in each subtree.
 //!
 //! ```text
 //! set_value(&mut summed, place, 20); // the end of an interval, say, whose start is its key
@@ -8,10 +8,11 @@
 
 ghost use Rattle.std.specs.Prelude.{◌≡◌, max, IfSome};
 
-use crate::sum_table::{Joins, SumTable};
+use crate::sum_table::{SumTable, Summarize};
 use std::alloc::Global;
 
-/// A number beside each place, 0 until one is set, and the greatest there and below: the ends of intervals, say, or the lengths of regions.
+/// A number beside each place, 0 until one is set, and the greatest number in the subtree there: for example the ends of intervals, or the
+/// lengths of regions.
 pub type Greatest<A = Global> = SumTable<u64, u64, A>;
 
 // The greater of two numbers.
@@ -22,8 +23,8 @@ fn greater(a: u64, b: u64) -> u64
     if a < b { b } else { a }
 }
 
-/// Of numbers the greatest is kept.
-impl Joins<u64> for u64 {
+/// The summary of numbers is the greatest one.
+impl Summarize<u64> for u64 {
     ghost use Rattle.ic_augmented.specs.Changes.{Rejoins};
     ghost use Rattle.ic_augmented.specs.Greatest.{greatest_of};
     ghost use Rattle.ic_augmented.specs.GreatestLaws.{greatest_tells};

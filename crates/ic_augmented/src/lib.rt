@@ -1,7 +1,8 @@
-//! Red-black trees with a summary over each subtree, kept beside the links: how many members it has, the greatest
-//! of their numbers, or what you make of them.
+//! Red-black trees with a summary of each subtree, stored beside the links: how many members it has, the greatest of
+//! their numbers, or a summary of your own.
 //!
-//! An edit marks each summary as stale that may have changed, and `refresh` renews the stale ones. So several edits share one `refresh`.
+//! An edit marks each summary as stale that may have changed, and `refresh` recomputes the stale ones. So several edits can share one
+//! `refresh`.
 //!
 //! ```text
 //! tree.insert_keyed(&mut summed, object)?;
@@ -17,23 +18,23 @@ mod exceeding;
 mod fresh;
 mod greatest;
 mod marking;
-mod no_sums;
+mod no_summary;
 mod overlaps;
 mod pooled;
 mod ranks;
 mod stale;
 mod sum_table;
+mod summaries;
 mod summed;
-mod sums;
 
 pub use counts::Counts;
 pub use edits::{attach_fresh, propagate, refresh, unlink_fresh};
 pub use exceeding::first_greater;
 pub use fresh::{insert_fresh, remove_fresh};
 pub use greatest::Greatest;
-pub use no_sums::NoSums;
+pub use no_summary::NoSummary;
 pub use overlaps::{first_overlap, next_overlap};
 pub use ranks::{index_of, len, nth};
-pub use sum_table::{Cell, Joins, SumTable, set_value};
+pub use sum_table::{Cell, SumTable, Summarize, set_value};
+pub use summaries::{RecomputeSummaries, Summaries};
 pub use summed::Summed;
-pub use sums::{RenewSums, Sums};

@@ -1,5 +1,5 @@
-//! Links and summaries while one place is put in or taken out: what the surgery of a tree writes to, if the place above the stale summaries is to be
-//! told.
+//! Links and summaries during the insert or the removal of one place. A tree's edit writes to them, and they record the place above the stale
+//! summaries.
 //!
 //! ```text
 //! let edge = attach_marking(&mut tree, &mut summed, parent, side, place); // its summary is as it was
@@ -17,18 +17,18 @@ ghost use Rattle.ic_rbtree.specs.Tree.{head_of, root_in, adapter_of};
 ghost use Rattle.ic_augmented.specs.Beside.{IsWrittenIn, IsSameBeside, StaysInside};
 ghost use Rattle.ic_augmented.specs.Consistent.{IsConsistent, IsConsistentBut, KeepsEdge};
 ghost use Rattle.ic_augmented.specs.Marking.{links_in, MarksOnly};
-ghost use Rattle.ic_augmented.specs.Summed.{links_of, sums_of};
-ghost use Rattle.ic_augmented.specs.Sums.{WritesNoSummary};
+ghost use Rattle.ic_augmented.specs.Summed.{links_of, summaries_of};
+ghost use Rattle.ic_augmented.specs.Summaries.{WritesNoSummary};
 
 use crate::stale::invalidate_from;
+use crate::summaries::Summaries;
 use crate::summed::Summed;
-use crate::sums::Sums;
 use ic_link_ops::Side;
 use ic_rbtree::{Color, NodeStore, RBTree, TreeHead};
 use ic_unsafe_ref::Place;
 use std::marker::{Brand, PhantomData};
 
-/// The places at which an edit may write: its call picks them.
+/// The places at which an edit may write. Its caller chooses them.
 pub(crate) trait Fence {
     ghost inside: { Place → Bool };
 }
@@ -37,9 +37,10 @@ impl Fence for Brand {
     ghost inside = { λ q. true };
 }
 
-/// Links and summaries, and the place whose child was written and whose summary was left as it was, if there is one.
+/// Links and summaries, and the edge: the place, if any, whose child was written and whose summary was left as it was.
 ///
-/// A place outside the fence is seen as not linked. So what an edit requires of it, that it is linked where it writes, keeps the edit inside.
+/// A place outside the fence counts as not linked. An edit requires that each place which it writes is linked, so it writes only inside the
+/// fence.
 pub(crate) struct Marking<'a, N, M, F> {
     summed: &'a mut Summed<N, M>,
     edge: Option<Place>,
@@ -49,15 +50,15 @@ pub(crate) struct Marking<'a, N, M, F> {
 impl<'a, N, M, F> Marking<'a, N, M, F> {
     ghost use Rattle.ic_augmented.specs.Marking.{edge_in, Borrows};
 
-    // With no stale summary.
+    // Links and summaries with this edge, whose summary is unchanged.
     #[inline]
-    fn new(summed: &'a mut Summed<N, M>) -> Marking<'a, N, M, F>
+    fn new(summed: &'a mut Summed<N, M>, edge: Option<Place>) -> Marking<'a, N, M, F>
         ensures borrows { Borrows summed.entry result }
-        ensures edge { edge_in result ≡ None }
+        ensures edge { edge_in result ≡ edge }
     {
         Marking {
             summed,
-            edge: None,
+            edge,
             fence: PhantomData,
         }
     }
@@ -65,25 +66,26 @@ impl<'a, N, M, F> Marking<'a, N, M, F> {
 
 // `invalidate_from`, of links and summaries together.
 #[inline]
-fn invalidate_in<N: NodeStore, M: Sums>(
+fn invalidate_in<N: NodeStore, M: Summaries>(
     summed: &mut Summed<N, M>,
     edge: Option<Place>,
     place: Place,
 ) -> Option<Place>
-    ensures writable { ((M.sums (sums_of summed.new)).fresh place ≡ None) ⊎ (result ≡ Some place) }
-    ensures covers { (q : Place) → M.Covers (sums_of summed.old) q → M.Covers (sums_of summed.new) q }
-    ensures edge { KeepsEdge N.node (N.table (links_of summed.old)) (N.table (links_of summed.new)) (M.sums (sums_of summed.old)) (M.sums (sums_of summed.new)) edge result }
+    ensures writable { ((M.summaries (summaries_of summed.new)).fresh place ≡ None) ⊎ (result ≡ Some place) }
+    ensures covers { (q : Place) → M.Covers (summaries_of summed.old) q → M.Covers (summaries_of summed.new) q }
+    ensures edge { KeepsEdge N.node (N.table (links_of summed.old)) (N.table (links_of summed.new)) (M.summaries (summaries_of summed.old)) (M.summaries (summaries_of summed.new)) edge result }
     ensures beside { (inside : Place → Bool) → inside place ≡ true
-        → StaysInside (M.sums (sums_of summed.old)) (M.sums (sums_of summed.new)) edge result inside }
+        → StaysInside (M.summaries (summaries_of summed.old)) (M.summaries (summaries_of summed.new)) edge result inside }
     ensures links { links_of summed.new ≡ links_of summed.old }
 {
-    invalidate_from(&summed.links, &mut summed.sums, edge, place)
+    invalidate_from(&summed.links, &mut summed.summaries, edge, place)
 }
 
-/// Each write of a child below a fresh summary moves the edge to its place, and makes the summaries from the old edge up to there stale.
-impl<N: NodeStore, M: Sums, F: Fence> NodeStore for Marking<'_, N, M, F> {
+/// A write of a child of a place with a fresh summary moves the edge to this place, and makes the summaries from the old edge up to it
+/// stale.
+impl<N: NodeStore, M: Summaries, F: Fence> NodeStore for Marking<'_, N, M, F> {
     ghost use Rattle.ic_augmented.specs.Fences.{fenced, fenced_node};
-    ghost use Rattle.ic_augmented.specs.Marking.{sums_in, edge_in};
+    ghost use Rattle.ic_augmented.specs.Marking.{summaries_in, edge_in};
     ghost use Rattle.ic_augmented.specs.MarkLaws.{marks_still, marks_on, inside_still, inside_on};
     ghost use Rattle.std.proofs.Common.{refl, ap, ◌&&◌, ◌∙◌};
 
@@ -93,7 +95,7 @@ impl<N: NodeStore, M: Sums, F: Fence> NodeStore for Marking<'_, N, M, F> {
 
     ghost node = { fenced_node N.node };
 
-    ghost KeepsLinks = { MarksOnly N.KeepsLinks N.node N.table M.sums M.Covers F.inside };
+    ghost KeepsLinks = { MarksOnly N.KeepsLinks N.node N.table M.summaries M.Covers F.inside };
 
     #[inline]
     fn left(&self, place: Place) -> Option<Place> {
@@ -142,15 +144,15 @@ impl<N: NodeStore, M: Sums, F: Fence> NodeStore for Marking<'_, N, M, F> {
         self.summed.links.set_parent_and_color(place, parent, color);
     }
 
-    ghost keeps_links_still = { λ t. record { name = refl; keeps_links = N.keeps_links_still (links_in t); consistent = λ s h. h; marks = marks_still (M.sums (sums_in t)); beside = inside_still (M.sums (sums_in t)) (edge_in t) F.inside; covers = λ q h. h; join = refl } };
+    ghost keeps_links_still = { λ t. record { name = refl; keeps_links = N.keeps_links_still (links_in t); consistent = λ s h. h; marks = marks_still (M.summaries (summaries_in t)); beside = inside_still (M.summaries (summaries_in t)) (edge_in t) F.inside; covers = λ q h. h; join = refl } };
 
     ghost keeps_links_on = { λ a b c x y. record { name = y.name ∙ x.name; keeps_links = N.keeps_links_on (links_in a) (links_in b) (links_in c) x.keeps_links y.keeps_links; consistent = λ s h. y.consistent s (x.consistent s h); marks = marks_on x.marks y.marks; beside = inside_on (edge_in a) (edge_in b) (edge_in c) F.inside x.marks x.beside y.beside; covers = λ q h. y.covers q (x.covers q h); join = y.join ∙ x.join } };
 
     ghost keeps_links_keeps = { λ old new x q. ap (λ is. F.inside q && is) (N.keeps_links_keeps (links_in old) (links_in new) x.keeps_links q) };
 }
 
-// Puts the place in, as `RBTree::attach` does. Inside the fence stand the tree and the place, and nothing outside it is written.
-fn attach_inside<F: Fence, A, E: TreeHead, N: NodeStore, M: Sums>(
+// Inserts the place, as `RBTree::attach` does. The tree and the place are inside the fence, and nothing outside it is written.
+fn attach_inside<F: Fence, A, E: TreeHead, N: NodeStore, M: Summaries>(
     tree: &mut RBTree<A, E>,
     marking: &mut Marking<'_, N, M, F>,
     parent: Option<Place>,
@@ -162,15 +164,16 @@ fn attach_inside<F: Fence, A, E: TreeHead, N: NodeStore, M: Sums>(
     ensures attached { Attaches N.node (N.table (links_in marking.old)) (N.table (links_in marking.new)) (root_in E.kept tree.old) (root_in E.kept tree.new) parent side place }
     ensures ends { (gap : Cut) → IsBelow parent side gap → IsDistinct (join gap) → TellsEnds (E.kept (head_of tree.old)) (join gap)
         → TellsEnds (E.kept (head_of tree.new)) (insert gap place) }
-    ensures keeps_links { MarksOnly N.KeepsLinks N.node N.table M.sums M.Covers F.inside marking.old marking.new }
+    ensures keeps_links { MarksOnly N.KeepsLinks N.node N.table M.summaries M.Covers F.inside marking.old marking.new }
     ensures adapter { adapter_of tree.new ≡ adapter_of tree.old }
 {
     tree.attach(marking, parent, side, place);
 }
 
-// Puts the place in, as `RBTree::attach` does, and tells the edge: above the stale summaries, with one that is as it was and may be wrong.
-// What no place inside the fence leads to stays the same.
-pub(crate) fn attach_marking<F: Fence, A, E: TreeHead, N: NodeStore, M: Sums>(
+// Inserts the place, as `RBTree::attach` does, and returns the edge. It is above the stale summaries, and its own summary is unchanged and
+// may be wrong. Places to which no place inside the fence leads stay the same. At first the edge is the parent, whose child is written in
+// any case.
+pub(crate) fn attach_marking<F: Fence, A, E: TreeHead, N: NodeStore, M: Summaries>(
     tree: &mut RBTree<A, E>,
     summed: &mut Summed<N, M>,
     parent: Option<Place>,
@@ -184,16 +187,16 @@ pub(crate) fn attach_marking<F: Fence, A, E: TreeHead, N: NodeStore, M: Sums>(
         → TellsEnds (E.kept (head_of tree.new)) (insert gap place) }
     ensures linked { KeepsNodes N.node (N.table (links_of summed.old)) (N.table (links_of summed.new)) }
     ensures keeps_links { N.KeepsLinks (links_of summed.old) (links_of summed.new) }
-    ensures consistent { (s : List Place) → IsConsistent N.node (N.table (links_of summed.old)) (M.sums (sums_of summed.old)) s
-        → IsConsistentBut N.node (N.table (links_of summed.new)) (M.sums (sums_of summed.new)) s result }
-    ensures marks { WritesNoSummary (M.sums (sums_of summed.old)) (M.sums (sums_of summed.new)) }
+    ensures consistent { (s : List Place) → IsConsistent N.node (N.table (links_of summed.old)) (M.summaries (summaries_of summed.old)) s
+        → IsConsistentBut N.node (N.table (links_of summed.new)) (M.summaries (summaries_of summed.new)) s result }
+    ensures marks { WritesNoSummary (M.summaries (summaries_of summed.old)) (M.summaries (summaries_of summed.new)) }
     ensures inside { IsIn F.inside result }
-    ensures beside { IsWrittenIn (M.sums (sums_of summed.old)) F.inside → IsSameBeside (M.sums (sums_of summed.old)) (M.sums (sums_of summed.new)) F.inside }
-    ensures join { (M.sums (sums_of summed.new)).join ≡ (M.sums (sums_of summed.old)).join }
-    ensures covers { (q : Place) → M.Covers (sums_of summed.old) q → M.Covers (sums_of summed.new) q }
+    ensures beside { IsWrittenIn (M.summaries (summaries_of summed.old)) F.inside → IsSameBeside (M.summaries (summaries_of summed.old)) (M.summaries (summaries_of summed.new)) F.inside }
+    ensures join { (M.summaries (summaries_of summed.new)).join ≡ (M.summaries (summaries_of summed.old)).join }
+    ensures covers { (q : Place) → M.Covers (summaries_of summed.old) q → M.Covers (summaries_of summed.new) q }
     ensures adapter { adapter_of tree.new ≡ adapter_of tree.old }
 {
-    let mut marking: Marking<'_, N, M, F> = Marking::new(summed);
+    let mut marking: Marking<'_, N, M, F> = Marking::new(summed, parent);
     attach_inside(tree, &mut marking, parent, side, place);
     let Marking {
         summed: _,
@@ -203,8 +206,8 @@ pub(crate) fn attach_marking<F: Fence, A, E: TreeHead, N: NodeStore, M: Sums>(
     edge
 }
 
-// Takes the member out, as `RBTree::unlink` does. Inside the fence stands the tree, and nothing outside it is written.
-fn unlink_inside<F: Fence, A, E: TreeHead, N: NodeStore, M: Sums>(
+// Removes the member, as `RBTree::unlink` does. The tree is inside the fence, and nothing outside it is written.
+fn unlink_inside<F: Fence, A, E: TreeHead, N: NodeStore, M: Summaries>(
     tree: &mut RBTree<A, E>,
     marking: &mut Marking<'_, N, M, F>,
     place: Place,
@@ -214,15 +217,15 @@ fn unlink_inside<F: Fence, A, E: TreeHead, N: NodeStore, M: Sums>(
     ensures taken { TakesAway N.node (N.table (links_in marking.old)) (N.table (links_in marking.new)) (root_in E.kept tree.old) (root_in E.kept tree.new) place }
     ensures ends { (front back : List Place) → Represents N.node (N.table (links_in marking.old)) (root_in E.kept tree.old) (front ++ place ∷ back)
         → TellsEnds (E.kept (head_of tree.old)) (front ++ place ∷ back) → TellsEnds (E.kept (head_of tree.new)) (front ++ back) }
-    ensures keeps_links { MarksOnly N.KeepsLinks N.node N.table M.sums M.Covers F.inside marking.old marking.new }
+    ensures keeps_links { MarksOnly N.KeepsLinks N.node N.table M.summaries M.Covers F.inside marking.old marking.new }
     ensures adapter { adapter_of tree.new ≡ adapter_of tree.old }
 {
     tree.unlink(marking, place);
 }
 
-// Takes the member out, as `RBTree::unlink` does, and tells the edge: above the stale summaries, with one that is as it was and may be wrong.
-// What no place inside the fence leads to stays the same.
-pub(crate) fn unlink_marking<F: Fence, A, E: TreeHead, N: NodeStore, M: Sums>(
+// Removes the member, as `RBTree::unlink` does, and returns the edge. It is above the stale summaries, and its own summary is unchanged and
+// may be wrong. Places to which no place inside the fence leads stay the same.
+pub(crate) fn unlink_marking<F: Fence, A, E: TreeHead, N: NodeStore, M: Summaries>(
     tree: &mut RBTree<A, E>,
     summed: &mut Summed<N, M>,
     place: Place,
@@ -234,16 +237,16 @@ pub(crate) fn unlink_marking<F: Fence, A, E: TreeHead, N: NodeStore, M: Sums>(
         → TellsEnds (E.kept (head_of tree.old)) (front ++ place ∷ back) → TellsEnds (E.kept (head_of tree.new)) (front ++ back) }
     ensures linked { KeepsNodes N.node (N.table (links_of summed.old)) (N.table (links_of summed.new)) }
     ensures keeps_links { N.KeepsLinks (links_of summed.old) (links_of summed.new) }
-    ensures consistent { (s : List Place) → IsConsistent N.node (N.table (links_of summed.old)) (M.sums (sums_of summed.old)) s
-        → IsConsistentBut N.node (N.table (links_of summed.new)) (M.sums (sums_of summed.new)) s result }
-    ensures marks { WritesNoSummary (M.sums (sums_of summed.old)) (M.sums (sums_of summed.new)) }
+    ensures consistent { (s : List Place) → IsConsistent N.node (N.table (links_of summed.old)) (M.summaries (summaries_of summed.old)) s
+        → IsConsistentBut N.node (N.table (links_of summed.new)) (M.summaries (summaries_of summed.new)) s result }
+    ensures marks { WritesNoSummary (M.summaries (summaries_of summed.old)) (M.summaries (summaries_of summed.new)) }
     ensures inside { IsIn F.inside result }
-    ensures beside { IsWrittenIn (M.sums (sums_of summed.old)) F.inside → IsSameBeside (M.sums (sums_of summed.old)) (M.sums (sums_of summed.new)) F.inside }
-    ensures join { (M.sums (sums_of summed.new)).join ≡ (M.sums (sums_of summed.old)).join }
-    ensures covers { (q : Place) → M.Covers (sums_of summed.old) q → M.Covers (sums_of summed.new) q }
+    ensures beside { IsWrittenIn (M.summaries (summaries_of summed.old)) F.inside → IsSameBeside (M.summaries (summaries_of summed.old)) (M.summaries (summaries_of summed.new)) F.inside }
+    ensures join { (M.summaries (summaries_of summed.new)).join ≡ (M.summaries (summaries_of summed.old)).join }
+    ensures covers { (q : Place) → M.Covers (summaries_of summed.old) q → M.Covers (summaries_of summed.new) q }
     ensures adapter { adapter_of tree.new ≡ adapter_of tree.old }
 {
-    let mut marked: Marking<'_, N, M, F> = Marking::new(summed);
+    let mut marked: Marking<'_, N, M, F> = Marking::new(summed, None);
     unlink_inside(tree, &mut marked, place);
     let Marking {
         summed: _,

@@ -18,8 +18,8 @@ ghost use Rattle.ic_augmented.specs.Consistent.{RepresentsSummed};
 ghost use Rattle.ic_augmented.specs.Greatest.{greatest, number_at};
 ghost use Rattle.ic_augmented.specs.Intervals.{start_in, overlaps};
 ghost use Rattle.ic_augmented.specs.Subtrees.{IsSubtree};
-ghost use Rattle.ic_augmented.specs.Summed.{links_of, sums_of};
-ghost use Rattle.ic_augmented.specs.Sums.{IsSummed};
+ghost use Rattle.ic_augmented.specs.Summed.{links_of, summaries_of};
+ghost use Rattle.ic_augmented.specs.Summaries.{IsSummed};
 
 use crate::greatest::Greatest;
 use crate::ranks::is_at;
@@ -63,9 +63,9 @@ fn first_overlap_below<N: NodeStore, O: Values<u64>, A: Allocator>(
 
 /// The first member whose interval overlaps `[from, to)`: it starts before `to`, and ends after `from`.
 ///
-/// The end of each interval is the number at its place in the summaries, and its start the number that `starts` has for it, by which the tree is
-/// in order. It requires that the links represent a
-/// tree with a start at each member. It finds none where no member overlaps. O(log n).
+/// The end of each interval is the number at its place in the summaries. Its start is the number that `starts` has for it, and the tree is in
+/// order of the starts. It requires that the links represent a tree with a start at each member. It returns `None` if no member overlaps. O(log
+/// n).
 pub fn first_overlap<T, E: TreeHead, N: NodeStore, O: Values<u64>, A: Allocator>(
     tree: &RBTree<T, E>,
     summed: &Summed<N, Greatest<A>>,
@@ -75,13 +75,13 @@ pub fn first_overlap<T, E: TreeHead, N: NodeStore, O: Values<u64>, A: Allocator>
 ) -> Option<Place>
     requires { (s : List Place) × Represents N.node (N.table (links_of summed.now)) (root_in E.kept tree.now) s × ArePlaced (O.values starts.now) s }
     ensures { (s : List Place)
-        → RepresentsSummed N.node (greatest (sums_of summed.now)) (N.table (links_of summed.now)) (root_in E.kept tree.now) s
+        → RepresentsSummed N.node (greatest (summaries_of summed.now)) (N.table (links_of summed.now)) (root_in E.kept tree.now) s
         → IsSorted nat_cmp (map (start_in (O.values starts.now)) s)
-        → result ≡ first (filter (overlaps (start_in (O.values starts.now)) (number_at (sums_of summed.now)) from to) s) }
+        → result ≡ first (filter (overlaps (start_in (O.values starts.now)) (number_at (summaries_of summed.now)) from to) s) }
 {
     first_overlap_below(
         &summed.links,
-        &summed.sums,
+        &summed.summaries,
         starts,
         tree.root(),
         from,
@@ -127,8 +127,8 @@ fn first_overlap_after<N: NodeStore, O: Values<u64>, A: Allocator>(
 
 /// The first member after the one at `place` whose interval overlaps `[from, to)`.
 ///
-/// It requires that the place is that of a member of a tree, whichever, that is in the order of starts and has one at each member. It finds none
-/// where no member after overlaps. So `first_overlap`, and then this until it finds none, give all that overlap, in order. O(log n).
+/// It requires that the place is that of a member of some tree in the order of starts, with a start at each member. It returns `None` if no
+/// later member overlaps. To get all members that overlap, in order, call `first_overlap`, and then this call until it returns `None`. O(log n).
 pub fn next_overlap<N: NodeStore, O: Values<u64>, A: Allocator>(
     summed: &Summed<N, Greatest<A>>,
     starts: &O,
@@ -139,14 +139,14 @@ pub fn next_overlap<N: NodeStore, O: Values<u64>, A: Allocator>(
     requires { (root : Option Place) × (front back : List Place)
         × Represents N.node (N.table (links_of summed.now)) root (front ++ place ∷ back) × ArePlaced (O.values starts.now) (front ++ place ∷ back) }
     ensures { (root : Option Place) (front back : List Place)
-        → RepresentsSummed N.node (greatest (sums_of summed.now)) (N.table (links_of summed.now)) root (front ++ place ∷ back)
+        → RepresentsSummed N.node (greatest (summaries_of summed.now)) (N.table (links_of summed.now)) root (front ++ place ∷ back)
         → IsSorted nat_cmp (map (start_in (O.values starts.now)) (front ++ place ∷ back))
-        → result ≡ first (filter (overlaps (start_in (O.values starts.now)) (number_at (sums_of summed.now)) from to) back) }
+        → result ≡ first (filter (overlaps (start_in (O.values starts.now)) (number_at (summaries_of summed.now)) from to) back) }
 {
     let links = &summed.links;
     let right = links.right(place);
-    if from < summed.sums.total(right) {
-        return first_overlap_below(links, &summed.sums, starts, right, from, to, 67);
+    if from < summed.summaries.total(right) {
+        return first_overlap_below(links, &summed.summaries, starts, right, from, to, 67);
     }
-    first_overlap_after(links, &summed.sums, starts, place, from, to, 67)
+    first_overlap_after(links, &summed.summaries, starts, place, from, to, 67)
 }

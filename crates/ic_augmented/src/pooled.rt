@@ -1,4 +1,4 @@
-//! Trees with summaries over the objects of a pool: room for both comes with each object.
+//! Trees with summaries over the objects of a pool. The pool makes room for the link and the summary of each object.
 //!
 //! ```text
 //! let object = pool.place(value)?; // `pool.links` are `Summed`, with room for its link and its summary
@@ -6,9 +6,9 @@
 //! tree.insert(&mut pool.links, &pool.objects, object)?; // after the members whose keys are not greater
 //! ```
 
-ghost use Rattle.ic_augmented.specs.Summed.{links_of, sums_of};
+ghost use Rattle.ic_augmented.specs.Summed.{links_of, summaries_of};
 
-use crate::sum_table::{Joins, SumTable};
+use crate::sum_table::{SumTable, Summarize};
 use crate::summed::Summed;
 use ic_link_ops::CoverError;
 use ic_pool::Tables;
@@ -17,7 +17,8 @@ use std::alloc::Allocator;
 use std::cmp::min;
 
 /// Links and summaries that grow together. A place that is covered has room for its link and for its summary, and it is free if it is not linked.
-impl<L: Tables, V: Joins<S>, S: Copy + Drop, A: Allocator> Tables for Summed<L, SumTable<V, S, A>> {
+impl<L: Tables, V: Summarize<S>, S: Copy + Drop, A: Allocator> Tables
+    for Summed<L, SumTable<V, S, A>> {
     ghost use Rattle.std.specs.Prelude.{◌<◌, min, refl};
     ghost use Rattle.ic_unsafe_ref.specs.Places.{index_of};
     ghost use Rattle.ic_augmented.specs.SumTables.{room_of};
@@ -25,7 +26,7 @@ impl<L: Tables, V: Joins<S>, S: Copy + Drop, A: Allocator> Tables for Summed<L, 
 
     ghost most = { min L.most 4294967296 };
 
-    ghost Covers = { λ t place. L.Covers (links_of t) place × (index_of place < room_of (sums_of t)) };
+    ghost Covers = { λ t place. L.Covers (links_of t) place × (index_of place < room_of (summaries_of t)) };
 
     ghost IsFree = { λ t place. L.IsFree (links_of t) place };
 
@@ -41,7 +42,7 @@ impl<L: Tables, V: Joins<S>, S: Copy + Drop, A: Allocator> Tables for Summed<L, 
             return Err(CoverError::TooManyPlaces);
         }
         self.links.cover(count)?;
-        self.sums.cover(count)
+        self.summaries.cover(count)
     }
 
     ghost keeps_room = { λ old new place keeps covers. (L.keeps_room (links_of old) (links_of new) place keeps.links covers.0, keeps.room place covers.1) };

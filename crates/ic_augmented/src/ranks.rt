@@ -1,4 +1,4 @@
-//! How many members a tree has, the one at a position, and the position of one.
+//! The number of a tree's members, the member at a position, and the position of a member.
 //!
 //! ```text
 //! nth(&tree, &summed, len(&tree, &summed) / 2) // the median
@@ -15,9 +15,9 @@ ghost use Rattle.ic_link_ops.specs.Walk.{is_end};
 ghost use Rattle.ic_rbtree.specs.Height.{height};
 ghost use Rattle.ic_rbtree.specs.Tree.{root_in};
 ghost use Rattle.ic_augmented.specs.Counts.{counts};
-ghost use Rattle.ic_augmented.specs.Sums.{IsSummed};
+ghost use Rattle.ic_augmented.specs.Summaries.{IsSummed};
 ghost use Rattle.ic_augmented.specs.Subtrees.{IsSubtree};
-ghost use Rattle.ic_augmented.specs.Summed.{links_of, sums_of};
+ghost use Rattle.ic_augmented.specs.Summed.{links_of, summaries_of};
 ghost use Rattle.ic_augmented.specs.Consistent.{RepresentsSummed};
 
 use crate::counts::Counts;
@@ -33,23 +33,23 @@ pub fn len<T, E: TreeHead, N: NodeStore, A: Allocator>(
     summed: &Summed<N, Counts<A>>,
 ) -> u64
     ensures { (s : List Place)
-        → RepresentsSummed N.node (counts (sums_of summed.now)) (N.table (links_of summed.now)) (root_in E.kept tree.now) s
+        → RepresentsSummed N.node (counts (summaries_of summed.now)) (N.table (links_of summed.now)) (root_in E.kept tree.now) s
         → result ≡ length s }
 {
-    summed.sums.total(tree.root())
+    summed.summaries.total(tree.root())
 }
 
 // The member at a position of the subtree at a place.
 fn nth_below<N: NodeStore, A: Allocator>(
     links: &N,
-    sums: &Counts<A>,
+    summaries: &Counts<A>,
     place: Option<Place>,
     position: u64,
     turns: u32,
 ) -> Option<Place>
     requires { (u : Option Place) × (t : Tree) × IsTree N.node (Table.entry (N.table links.now)) u t × (place ≡ top t) }
     ensures { (u : Option Place) (t : Tree) → IsTree N.node (Table.entry (N.table links.now)) u t → place ≡ top t
-        → IsSummed (counts sums.now) u t → length (in_order t) ≤ 8589934591 → height t ≤ turns
+        → IsSummed (counts summaries.now) u t → length (in_order t) ≤ 8589934591 → height t ≤ turns
         → result ≡ slice_get (in_order t) position }
 {
     let here = place?;
@@ -57,29 +57,29 @@ fn nth_below<N: NodeStore, A: Allocator>(
         return None;
     }
     let left = links.left(here);
-    let before = sums.total(left);
+    let before = summaries.total(left);
     if position < before {
-        return nth_below(links, sums, left, position, turns - 1);
+        return nth_below(links, summaries, left, position, turns - 1);
     }
     if position == before {
         return Some(here);
     }
     let right = links.right(here);
-    nth_below(links, sums, right, position - before - 1, turns - 1)
+    nth_below(links, summaries, right, position - before - 1, turns - 1)
 }
 
-/// The member at a position, counted from 0, `None` from the tree's length on. O(log n).
+/// The member at a position, counted from 0; `None` if the position is not less than the number of members. O(log n).
 pub fn nth<T, E: TreeHead, N: NodeStore, A: Allocator>(
     tree: &RBTree<T, E>,
     summed: &Summed<N, Counts<A>>,
     position: u64,
 ) -> Option<Place>
-    requires { (s : List Place) × RepresentsSummed N.node (counts (sums_of summed.now)) (N.table (links_of summed.now)) (root_in E.kept tree.now) s }
+    requires { (s : List Place) × RepresentsSummed N.node (counts (summaries_of summed.now)) (N.table (links_of summed.now)) (root_in E.kept tree.now) s }
     ensures { (s : List Place)
-        → RepresentsSummed N.node (counts (sums_of summed.now)) (N.table (links_of summed.now)) (root_in E.kept tree.now) s
+        → RepresentsSummed N.node (counts (summaries_of summed.now)) (N.table (links_of summed.now)) (root_in E.kept tree.now) s
         → result ≡ slice_get s position }
 {
-    nth_below(&summed.links, &summed.sums, tree.root(), position, 67)
+    nth_below(&summed.links, &summed.summaries, tree.root(), position, 67)
 }
 
 // Whether `end` is `place`.
@@ -93,15 +93,15 @@ pub(crate) fn is_at(end: Option<Place>, place: Place) -> bool
     }
 }
 
-// How many members stand before the subtree at a place.
+// How many members are before the subtree at a place.
 fn count_before<N: NodeStore, A: Allocator>(
     links: &N,
-    sums: &Counts<A>,
+    summaries: &Counts<A>,
     place: Place,
     turns: u32,
 ) -> u64
     requires { (fs : List Frame) × (t : Tree) × IsSubtree N.node (N.table links.now) fs t × (top t ≡ Some place) }
-    ensures { (fs : List Frame) (t : Tree) → IsSubtree N.node (N.table links.now) fs t → IsSummed (counts sums.now) None (plug fs t)
+    ensures { (fs : List Frame) (t : Tree) → IsSubtree N.node (N.table links.now) fs t → IsSummed (counts summaries.now) None (plug fs t)
         → top t ≡ Some place → length fs ≤ turns → result ≡ length (before fs) }
 {
     if turns == 0 {
@@ -110,23 +110,23 @@ fn count_before<N: NodeStore, A: Allocator>(
     let Some(above) = links.parent(place) else {
         return 0;
     };
-    let before = count_before(links, sums, above, turns - 1);
+    let before = count_before(links, summaries, above, turns - 1);
     if !is_at(links.right(above), place) {
         return before;
     }
-    let beside = sums.total(links.left(above));
+    let beside = summaries.total(links.left(above));
     before.saturating_add(beside).saturating_add(1)
 }
 
-/// The position of the member at `place`: how many members stand before it.
+/// The position of the member at `place`: how many members are before it.
 ///
-/// It requires that the place is that of a member of a tree, whichever, and tells its position if the tree is summed. O(log n).
+/// It requires that the place is that of a member of some tree. The result is its position if the tree is summed. O(log n).
 pub fn index_of<N: NodeStore, A: Allocator>(summed: &Summed<N, Counts<A>>, place: Place) -> u64
     requires { (root : Option Place) × HasMember (Represents N.node (N.table (links_of summed.now)) root) place }
     ensures { (root : Option Place) (front back : List Place)
-        → RepresentsSummed N.node (counts (sums_of summed.now)) (N.table (links_of summed.now)) root (front ++ place ∷ back)
+        → RepresentsSummed N.node (counts (summaries_of summed.now)) (N.table (links_of summed.now)) root (front ++ place ∷ back)
         → result ≡ length front }
 {
-    let before = count_before(&summed.links, &summed.sums, place, 67);
-    before.saturating_add(summed.sums.total(summed.links.left(place)))
+    let before = count_before(&summed.links, &summed.summaries, place, 67);
+    before.saturating_add(summed.summaries.total(summed.links.left(place)))
 }

@@ -1,4 +1,4 @@
-//! A value and a summary beside each place, in one `Vec`: the summaries of whatever values can be joined.
+//! A value and a summary beside each place, in one `Vec`, for all values whose summaries can be joined.
 //!
 //! ```text
 //! let mut lengths = Greatest::new(alloc); // the values are numbers, and each summary is the greatest
@@ -13,34 +13,36 @@ ghost use Rattle.ic_augmented.specs.Beside.{IsWrittenWithin};
 ghost use Rattle.ic_augmented.specs.Changes.{Rejoins};
 ghost use Rattle.ic_augmented.specs.Consistent.{IsConsistent, IsSameAt};
 ghost use Rattle.ic_augmented.specs.SumTables.{joined, room_of, value_of};
-ghost use Rattle.ic_augmented.specs.Summed.{links_of, sums_of};
-ghost use Rattle.ic_augmented.specs.Sums.{seen, Writes};
+ghost use Rattle.ic_augmented.specs.Summed.{links_of, summaries_of};
+ghost use Rattle.ic_augmented.specs.Summaries.{seen, Writes};
 
 use crate::stale::invalidate_up;
+use crate::summaries::{RecomputeSummaries, Summaries};
 use crate::summed::Summed;
-use crate::sums::{RenewSums, Sums};
 use ic_link_ops::{CoverError, PlaceWord};
 use ic_rbtree::NodeStore;
 use ic_unsafe_ref::Place;
 use std::alloc::{AllocError, Allocator, Global};
 
-/// Values of which summaries are made: the summary of a subtree is what its root's value makes of those of the two subtrees below.
-pub trait Joins<S>: Copy + Drop {
-    // The value of a place to which no call has given one.
+/// Values with summaries: the summary of a subtree is computed from its root's value and the summaries of the two subtrees below.
+pub trait Summarize<S>: Copy + Drop {
+    // The value of a place until one is set.
     ghost initial: { Self };
 
-    // The summary of a subtree whose root has this value, of those on the left and on the right.
+    // The summary of a subtree, from its root's value and the summaries on the left and on the right.
     ghost join: { Self → Option S → Option S → S };
 
-    /// The value that stands at a place until one is set.
+    /// The value of a place until one is set.
     fn initial() -> Self
         ensures { result ≡ initial };
 
-    /// The summary of a subtree whose root has this value, of those on its left and on its right, `None` where there is no member.
+    /// The summary of a subtree, from its root's value and the summaries on its left and on its right, which are `None` for a side
+    /// without members.
     fn join(self, left: Option<S>, right: Option<S>) -> S
         ensures { result ≡ join self left right };
 
-    /// What the summary `was` becomes where that of the subtree on one side was `from` and is `to`, `None` where these alone do not tell it.
+    /// The new summary, given that it `was` this one and that the summary on one side changed from `from` to `to`; `None` if these alone do
+    /// not determine it.
     fn rejoin(self, was: S, from: S, to: S) -> Option<S>
         ensures { IfSome result (Rejoins (join self) from to was) };
 
@@ -48,11 +50,12 @@ pub trait Joins<S>: Copy + Drop {
     fn is_same(a: &S, b: &S) -> bool
         ensures { IsTrue result → a.now ≡ b.now };
 
-    // The law: the summaries tell the value.
+    // The law: the summaries determine the value.
     ghost tells: { (x y : Self) → ((a b : Option S) → join x a b ≡ join y a b) → x ≡ y };
 }
 
-/// What is kept at a place: its value, the summary of the subtree there, none where that is stale, and the parent that the place had.
+/// What the table stores at a place: its value, the summary of the subtree there, none if it is stale, and the parent that the place
+/// had.
 ///
 /// A copy of a cell belongs to no place, so it has the initial value and no summary.
 #[derive(Drop)]
@@ -62,7 +65,7 @@ pub struct Cell<V, S> {
     upper: PlaceWord,
 }
 
-impl<V: Joins<S>, S: Drop> Cell<V, S> {
+impl<V: Summarize<S>, S: Drop> Cell<V, S> {
     ghost use Rattle.ic_augmented.specs.SumTables.{blank};
 
     fn blank() -> Cell<V, S>
@@ -76,7 +79,7 @@ impl<V: Joins<S>, S: Drop> Cell<V, S> {
     }
 }
 
-impl<V: Joins<S>, S: Drop> Clone for Cell<V, S> {
+impl<V: Summarize<S>, S: Drop> Clone for Cell<V, S> {
     ghost use Rattle.ic_augmented.specs.SumTables.{blank};
 
     ghost is_clone = { λ _ copy. copy ≡ blank V.initial };
@@ -95,10 +98,10 @@ pub struct SumTable<V, S, A: Allocator = Global> {
     pub(crate) cells: Vec<Cell<V, S>, A>,
 }
 
-impl<V: Joins<S>, S: Copy + Drop, A: Allocator> SumTable<V, S, A> {
+impl<V: Summarize<S>, S: Copy + Drop, A: Allocator> SumTable<V, S, A> {
     ghost use Rattle.ic_augmented.specs.SumTables.{joined, room_of, value_of};
 
-    /// A table that has room for no place. It takes no memory.
+    /// A table that has room for no place. It takes no memory. O(1).
     pub fn new(alloc: A) -> SumTable<V, S, A>
         ensures { room_of result ≡ 0 }
     {
@@ -109,8 +112,8 @@ impl<V: Joins<S>, S: Copy + Drop, A: Allocator> SumTable<V, S, A> {
 
     /// Makes room for the first `count` places. Those that are new have the initial value and no summary.
     ///
-    /// It is refused above 4,294,967,296 places, and where no memory is found; then there is the room that there was. All values and summaries
-    /// stay, and where `count` is smaller than what there is room for, nothing changes. At most one request for memory.
+    /// It is refused if `count` is above 4,294,967,296, or if there is no memory; then the room is as it was. All values and summaries stay.
+    /// If there is already room for `count` places, nothing changes. At most one request for memory. O(n) in the places that are new.
     pub fn cover(&mut self, count: usize) -> Result<(), CoverError>
         ensures too_many { (result ≡ Err CoverError.TooManyPlaces) ↔ 4294967296 < count }
         ensures covers { OnOk result (room_of self.new ≡ max (room_of self.old) count) }
@@ -131,7 +134,7 @@ impl<V: Joins<S>, S: Copy + Drop, A: Allocator> SumTable<V, S, A> {
         }
     }
 
-    /// The value at `place`, the initial one where there is no room for the place. O(1).
+    /// The value at `place`, the initial one if there is no room for the place. O(1).
     #[inline]
     pub fn value(&self, place: Place) -> V
         ensures { result ≡ value_of V.initial self.now place }
@@ -144,7 +147,7 @@ impl<V: Joins<S>, S: Copy + Drop, A: Allocator> SumTable<V, S, A> {
         }
     }
 
-    /// The summary at this end of the tree and below, as is kept there, `None` where that is stale and where there is no member. O(1).
+    /// The stored summary of the subtree at this end, `None` if it is stale or there is no member. O(1).
     #[inline]
     pub fn summary(&self, end: Option<Place>) -> Option<S>
         ensures { result ≡ seen (joined V.join V.initial self.now) end }
@@ -159,10 +162,10 @@ impl<V: Joins<S>, S: Copy + Drop, A: Allocator> SumTable<V, S, A> {
     }
 }
 
-impl<V: Joins<u64>, A: Allocator> SumTable<V, u64, A> {
+impl<V: Summarize<u64>, A: Allocator> SumTable<V, u64, A> {
     ghost use Rattle.ic_augmented.specs.SumTables.{joined, or_zero};
 
-    /// The number that is kept of this end of the tree and below, 0 where that is stale and where there is no member. O(1).
+    /// The stored number of the subtree at this end, 0 if it is stale or there is no member. O(1).
     #[inline]
     pub fn total(&self, end: Option<Place>) -> u64
         ensures { result ≡ or_zero (seen (joined V.join V.initial self.now) end) }
@@ -171,13 +174,13 @@ impl<V: Joins<u64>, A: Allocator> SumTable<V, u64, A> {
     }
 }
 
-impl<V: Joins<S>, S: Copy + Drop, A: Allocator> Sums for SumTable<V, S, A> {
+impl<V: Summarize<S>, S: Copy + Drop, A: Allocator> Summaries for SumTable<V, S, A> {
     ghost use Rattle.ic_augmented.specs.SumTables.{joined, room_of, is_kept};
     ghost use Rattle.std.specs.List.{sum_by};
 
     type Summary = S;
 
-    ghost sums = { joined V.join V.initial };
+    ghost summaries = { joined V.join V.initial };
 
     ghost Covers = { λ t p. index_of p < room_of t };
 
@@ -208,7 +211,7 @@ impl<V: Joins<S>, S: Copy + Drop, A: Allocator> Sums for SumTable<V, S, A> {
     }
 }
 
-impl<V: Joins<S>, S: Copy + Drop, A: Allocator> RenewSums for SumTable<V, S, A> {
+impl<V: Summarize<S>, S: Copy + Drop, A: Allocator> RecomputeSummaries for SumTable<V, S, A> {
     #[inline]
     fn adopt(&mut self, place: Place, upper: Option<Place>) -> Option<S> {
         let index = place.index();
@@ -230,9 +233,12 @@ impl<V: Joins<S>, S: Copy + Drop, A: Allocator> RenewSums for SumTable<V, S, A> 
         let cell = &self.cells[index];
         let was = cell.summary?;
         let is = cell.value.rejoin(was, from, to)?;
-        let renewed = &mut self.cells[index];
-        renewed.summary = Some(is);
-        renewed.upper = PlaceWord::of(upper);
+        let recomputed = &mut self.cells[index];
+        // no write of the mark that it is fresh
+        if let Some(summary) = &mut recomputed.summary {
+            *summary = is;
+        }
+        recomputed.upper = PlaceWord::of(upper);
         Some((was, is))
     }
 
@@ -257,27 +263,27 @@ impl<V: Joins<S>, S: Copy + Drop, A: Allocator> RenewSums for SumTable<V, S, A> 
     }
 }
 
-/// Sets the value at `place`, and makes the summaries stale that it changes.
+/// Sets the value at `place`, and makes the summaries stale that depend on it.
 ///
-/// It requires that there is room for the place. Each fresh summary stays right, of every tree in the table, and stays fresh outside the tree of
-/// the place, where that tree's summaries were written below its own members, as they are in a tree that is summed. O(log n).
-pub fn set_value<N: NodeStore, V: Joins<S>, S: Copy + Drop, A: Allocator>(
+/// It requires that there is room for the place. Each fresh summary of every tree in the table stays right. Outside the tree of the place it
+/// also stays fresh, if that tree's summaries were written below its own members, as in a tree that is summed. O(log n).
+pub fn set_value<N: NodeStore, V: Summarize<S>, S: Copy + Drop, A: Allocator>(
     summed: &mut Summed<N, SumTable<V, S, A>>,
     place: Place,
     value: V,
 )
-    requires covered { index_of place < room_of (sums_of summed.old) }
-    ensures set { value_of V.initial (sums_of summed.new) place ≡ value }
-    ensures values { (q : Place) → q ≢ place → value_of V.initial (sums_of summed.new) q ≡ value_of V.initial (sums_of summed.old) q }
+    requires covered { index_of place < room_of (summaries_of summed.old) }
+    ensures set { value_of V.initial (summaries_of summed.new) place ≡ value }
+    ensures values { (q : Place) → q ≢ place → value_of V.initial (summaries_of summed.new) q ≡ value_of V.initial (summaries_of summed.old) q }
     ensures consistent { (s : List Place)
-        → IsConsistent N.node (N.table (links_of summed.old)) (joined V.join V.initial (sums_of summed.old)) s
-        → IsConsistent N.node (N.table (links_of summed.new)) (joined V.join V.initial (sums_of summed.new)) s }
-    ensures same { (s : List Place) → 1 ≤ times_in place s → IsWrittenWithin (joined V.join V.initial (sums_of summed.old)) s
-        → (q : Place) → IsAbsent q s → IsSameAt (joined V.join V.initial (sums_of summed.old)) (joined V.join V.initial (sums_of summed.new)) q }
-    ensures covers { (q : Place) → index_of q < room_of (sums_of summed.old) → index_of q < room_of (sums_of summed.new) }
+        → IsConsistent N.node (N.table (links_of summed.old)) (joined V.join V.initial (summaries_of summed.old)) s
+        → IsConsistent N.node (N.table (links_of summed.new)) (joined V.join V.initial (summaries_of summed.new)) s }
+    ensures same { (s : List Place) → 1 ≤ times_in place s → IsWrittenWithin (joined V.join V.initial (summaries_of summed.old)) s
+        → (q : Place) → IsAbsent q s → IsSameAt (joined V.join V.initial (summaries_of summed.old)) (joined V.join V.initial (summaries_of summed.new)) q }
+    ensures covers { (q : Place) → index_of q < room_of (summaries_of summed.old) → index_of q < room_of (summaries_of summed.new) }
     ensures links { links_of summed.new ≡ links_of summed.old }
 {
-    invalidate_up(&summed.links, &mut summed.sums, place);
-    let cell = &mut summed.sums.cells[place.index()];
+    invalidate_up(&summed.links, &mut summed.summaries, place);
+    let cell = &mut summed.summaries.cells[place.index()];
     cell.value = value;
 }

@@ -1,14 +1,14 @@
 //! Links and summaries together: a table of tree links like any other.
 //!
 //! ```text
-//! let mut summed = Summed { links, sums };
+//! let mut summed = Summed { links, summaries };
 //! tree.insert_keyed(&mut summed, object)?; // marks summaries as stale
 //! ```
 
-ghost use Rattle.ic_augmented.specs.Summed.{links_of, sums_of};
+ghost use Rattle.ic_augmented.specs.Summed.{links_of, summaries_of};
 
 use crate::stale::invalidate_up;
-use crate::sums::Sums;
+use crate::summaries::Summaries;
 use ic_link_ops::rbtree::RBTreeOps;
 use ic_link_ops::{Color, LinkOps, LinkValues};
 use ic_unsafe_ref::{Place, Values};
@@ -17,11 +17,11 @@ use ic_unsafe_ref::{Place, Values};
 #[derive(Drop)]
 pub struct Summed<N, M> {
     pub links: N,
-    pub sums: M,
+    pub summaries: M,
 }
 
-/// A link that is acquired or released makes the summary of its place stale, and those above.
-impl<L: RBTreeOps, M: Sums> LinkOps for Summed<L, M> {
+/// If a link is acquired or released, the summary of its place and those above become stale.
+impl<L: RBTreeOps, M: Summaries> LinkOps for Summed<L, M> {
     ghost use Rattle.std.specs.Prelude.{◌≡◌, [], ◌++◌};
     ghost use Rattle.ic_augmented.specs.MarkLaws.{marks_still, marks_on};
     ghost use Rattle.ic_augmented.specs.StepLaws.{right_still, right_on};
@@ -36,32 +36,32 @@ impl<L: RBTreeOps, M: Sums> LinkOps for Summed<L, M> {
 
     ghost CanName = { L.CanName };
 
-    ghost Trace = { TraceSummed L.Trace L.node L.table M.sums M.Covers };
+    ghost Trace = { TraceSummed L.Trace L.node L.table M.summaries M.Covers };
 
-    ghost Refused = { λ old new place. L.Refused (links_of old) (links_of new) place × (sums_of new ≡ sums_of old) };
+    ghost Refused = { λ old new place. L.Refused (links_of old) (links_of new) place × (summaries_of new ≡ summaries_of old) };
 
     #[inline]
     fn acquire_link(&mut self, place: Place) -> bool {
         if !self.links.acquire_link(place) {
             return false;
         }
-        invalidate_up(&self.links, &mut self.sums, place);
+        invalidate_up(&self.links, &mut self.summaries, place);
         true
     }
 
     #[inline]
     fn release_link(&mut self, place: Place) {
         self.links.release_link(place);
-        invalidate_up(&self.links, &mut self.sums, place);
+        invalidate_up(&self.links, &mut self.summaries, place);
     }
 
     ghost linked_is_covered = { λ t place is. L.linked_is_covered (links_of t) place is };
 
     ghost covered_has_name = { λ t place covered. L.covered_has_name (links_of t) place covered };
 
-    ghost does_nothing = { λ t. record { links = L.does_nothing (links_of t); right = right_still L.node (L.table (links_of t)) (M.sums (sums_of t)); marks = marks_still (M.sums (sums_of t)); covers = λ q h. h; join = refl } };
+    ghost does_nothing = { λ t. record { links = L.does_nothing (links_of t); right = right_still L.node (L.table (links_of t)) (M.summaries (summaries_of t)); marks = marks_still (M.summaries (summaries_of t)); covers = λ q h. h; join = refl } };
 
-    ghost does_on = { λ a b c s t x y. record { links = L.does_on (links_of a) (links_of b) (links_of c) s t x.links y.links; right = right_on L.node (L.table (links_of a)) (L.table (links_of b)) (L.table (links_of c)) (M.sums (sums_of a)) (M.sums (sums_of b)) (M.sums (sums_of c)) s t x.right y.right; marks = marks_on x.marks y.marks; covers = λ q h. y.covers q (x.covers q h); join = y.join ∙ x.join } };
+    ghost does_on = { λ a b c s t x y. record { links = L.does_on (links_of a) (links_of b) (links_of c) s t x.links y.links; right = right_on L.node (L.table (links_of a)) (L.table (links_of b)) (L.table (links_of c)) (M.summaries (summaries_of a)) (M.summaries (summaries_of b)) (M.summaries (summaries_of c)) s t x.right y.right; marks = marks_on x.marks y.marks; covers = λ q h. y.covers q (x.covers q h); join = y.join ∙ x.join } };
 
     ghost does_replay = { λ old new s x. L.does_replay (links_of old) (links_of new) s x.links };
 
@@ -69,7 +69,7 @@ impl<L: RBTreeOps, M: Sums> LinkOps for Summed<L, M> {
 }
 
 /// Each write of a child makes the summaries above it stale.
-impl<L: RBTreeOps, M: Sums> RBTreeOps for Summed<L, M> {
+impl<L: RBTreeOps, M: Summaries> RBTreeOps for Summed<L, M> {
     ghost node = { L.node };
 
     #[inline]
@@ -94,13 +94,13 @@ impl<L: RBTreeOps, M: Sums> RBTreeOps for Summed<L, M> {
 
     #[inline]
     fn set_left(&mut self, place: Place, left: Option<Place>) {
-        invalidate_up(&self.links, &mut self.sums, place);
+        invalidate_up(&self.links, &mut self.summaries, place);
         self.links.set_left(place, left);
     }
 
     #[inline]
     fn set_right(&mut self, place: Place, right: Option<Place>) {
-        invalidate_up(&self.links, &mut self.sums, place);
+        invalidate_up(&self.links, &mut self.summaries, place);
         self.links.set_right(place, right);
     }
 
@@ -132,14 +132,14 @@ impl<V, L: Values<V>, M> Values<V> for Summed<L, M> {
     }
 }
 
-/// A value that is set makes the summary of its place stale, and those above.
-impl<V, L: RBTreeOps + LinkValues<V>, M: Sums> LinkValues<V> for Summed<L, M> {
+/// If a value is set, the summary of its place and those above become stale.
+impl<V, L: RBTreeOps + LinkValues<V>, M: Summaries> LinkValues<V> for Summed<L, M> {
     ghost LinksAlike = { L.LinksAlike };
 
     #[inline]
     fn set_value(&mut self, place: Place, value: V) {
         self.links.set_value(place, value);
-        invalidate_up(&self.links, &mut self.sums, place);
+        invalidate_up(&self.links, &mut self.summaries, place);
     }
 
     ghost covered_has_value = { λ t place covered. L.covered_has_value (links_of t) place covered };

@@ -35,8 +35,8 @@ module _ {E W : Type 0} {between : E → Option Place → Option Place → Type 
   next_is {t} front back {p} shown is_prev is = is ∙ ap (step (t.entry p)) is_prev ∙ leads _ _ _ (represents_middle front back shown)
 
   -- what stands after a position, on a member that is told apart
-  pub after_on : {t : Table E} {list : ListHead W} {current behind : Option Place} → ((gap : Cut) → RepresentsChain between kept t list (join gap) → IsAfter gap current → IsBefore gap behind)
-      → (front back : List Place) (p : Place) → RepresentsChain between kept t list (front ++ p ∷ back) → current ≡ Some p → behind ≡ first back
+  pub after_on : {t : Table E} {list : ListHead W} {current following : Option Place} → ((gap : Cut) → RepresentsChain between kept t list (join gap) → IsAfter gap current → IsBefore gap following)
+      → (front back : List Place) (p : Place) → RepresentsChain between kept t list (front ++ p ∷ back) → current ≡ Some p → following ≡ first back
   after_on says front back p shown on =
       says (record { front = front ++ p ∷ []; back = back }) (rw (append_assoc front (p ∷ []) back) shown) (on ∙ sym (last_of_push front p))
 

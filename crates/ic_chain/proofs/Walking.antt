@@ -20,16 +20,16 @@ last_after p {q} [] e = absurd (none_not q (sym e))
 last_after p (x ∷ r) e = refl
 
 -- WHAT IS TOLD of a last member: a place is it,
-pub told_some : (keeps : Bool) (behind : Option Place) {p : Place} {last : Option Place} → KnowsLast keeps (Some p) behind last → Some p ≡ last
-told_some keeps behind (inl e) = e
-told_some true behind (inr e) = e
-told_some false behind {p} (inr e) = absurd (none_not p (sym e.0))
+pub told_some : (keeps : Bool) (after : Option Place) {p : Place} {last : Option Place} → KnowsLast keeps (Some p) after last → Some p ≡ last
+told_some keeps after (inl e) = e
+told_some true after (inr e) = e
+told_some false after {p} (inr e) = absurd (none_not p (sym e.0))
 
 -- and where none is told of a list that has one, the kind keeps none, and nothing is to stand after
-pub told_none : (keeps : Bool) (behind : Option Place) (x : Place) (t : List Place) → KnowsLast keeps None behind (last (x ∷ t)) → (keeps ≡ false) × (behind ≡ None)
-told_none keeps behind x t (inl e) = absurd (last_some x t (sym e))
-told_none true behind x t (inr e) = absurd (last_some x t (sym e))
-told_none false behind x t (inr e) = (refl, e.1)
+pub told_none : (keeps : Bool) (after : Option Place) (x : Place) (t : List Place) → KnowsLast keeps None after (last (x ∷ t)) → (keeps ≡ false) × (after ≡ None)
+told_none keeps after x t (inl e) = absurd (last_some x t (sym e))
+told_none true after x t (inr e) = absurd (last_some x t (sym e))
+told_none false after x t (inr e) = (refl, e.1)
 
 -- then nothing is turned: neither before what would stand there, nor after the last member
 pub turned_nowhere : {E : Type 0} {between : E → Option Place → Option Place → Type 0} {old new : Place → E} {at from to to' : Option Place} → at ≡ None
@@ -179,7 +179,7 @@ module _ {K T L O E : Type 0} (keeps : Bool) (between : E → Option Place → O
     -- and from the back, by the neighbor on the other side of what is after
     pub steps_back_more : (back : E → Option Place → Option Place) → ((e : E) (b a : Option Place) → between e b a → back e a ≡ b) → keeps ≡ true → (t : Iter K T L O) (p : Place) (prev : Option Place)
         → CanWalk keeps between table values t → t.tail ≡ Some p → is_end t.head p ≡ false
-        → prev ≡ back ((table t.links.now).entry p) t.behind → StepsBack t (record t { tail = prev; behind = Some p }) p
+        → prev ≡ back ((table t.links.now).entry p) t.after → StepsBack t (record t { tail = prev; after = Some p }) p
     steps_back_more back leads_back closed t p prev can at end is_prev =
         let r = stretch_less back leads_back (rw at at (at_end closed can.1.0 can.1.1)) (is_end_no t.head p end) in
         record {

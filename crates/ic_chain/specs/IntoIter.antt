@@ -1,4 +1,4 @@
--- What clauses see of a walk that takes the members off.
+-- A walk that removes the members, as contracts see it.
 use Rattle.std.specs.Prelude.{Option, None, List}
 use Rattle.ic_link_ops.specs.Prelude.{Place, Table}
 use Rattle.ic_link_ops.specs.Taking.{Taking}
@@ -7,10 +7,10 @@ use Rattle.ic_link_ops.specs.Chains.{ListHead}
 use Rattle.ic_chain.specs.declared.into_iter.IntoIter.{IntoIter}
 
 module _ {K T L W P : Type 0} where
-  -- what it has left of the list, and its table
+  -- what remains of the list, and the walk's table
   abbrev pub rest_of : IntoIter K T L W P → Taking L (ListHead W)
   rest_of t = record { head = t.list; links = t.links }
 
-  -- the members that it has not given out yet, as the entries lead through them
+  -- the members that the walk has not returned yet, in the order of the entries
   abbrev pub members_left : {E : Type 0} → (E → Option Place → Option Place) → (L → Table E) → IntoIter K T L W P → List Place
   members_left step table t = walked step (table t.links.now) None t.list.head None

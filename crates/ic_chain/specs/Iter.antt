@@ -1,4 +1,4 @@
--- What clauses see of a walk over a list's objects.
+-- A walk over a list's objects, as contracts see it.
 use Rattle.std.specs.Prelude.{Bool, Option, List}
 use Rattle.ic_link_ops.specs.Prelude.{Place, Objects, last, Table, ArePlaced, values_at}
 use Rattle.ic_link_ops.specs.Chains.{IsStretch}
@@ -8,20 +8,20 @@ use Rattle.ic_chain.specs.declared.iter.Iter.{Iter}
 
 -- `values`: the values by place
 module _ {K T L O E : Type 0} (step : E → Option Place → Option Place) (table : L → Table E) (values : O → Objects T) where
-  -- the members that the walk has not given out yet
+  -- the members that the walk has not returned yet
   abbrev pub rest_of : Iter K T L O → List Place
   rest_of t = walked step (table t.links.now) t.before t.head t.tail
 
-  -- the objects that it has not given out yet
+  -- the objects that the walk has not returned yet
   abbrev pub objects_left : Iter K T L O → List T
   objects_left t = values_at (values t.objects.now) (rest_of t)
 
--- `keeps_last`: lists of the kind keep their last member
+-- `keeps_last`: lists of the kind store their last member
 module _ {K T L O E : Type 0} (keeps_last : Bool) (between : E → Option Place → Option Place → Type 0) (table : L → Table E) (values : O → Objects T) where
-  -- what is left are these members, a part of a chain
+  -- these members remain, and they are a part of a chain
   abbrev pub IsLeft : Iter K T L O → List Place → Type 0
-  IsLeft t w = IsStretch between (table t.links.now).entry t.before t.head (last w) t.behind w × WalkEnds keeps_last t.tail t.behind (last w)
+  IsLeft t w = IsStretch between (table t.links.now).entry t.before t.head (last w) t.after w × WalkEnds keeps_last t.tail t.after (last w)
 
-  -- there are such members, all of them placed
+  -- some sequence of members remains, maybe the empty one, and all of them are placed
   abbrev pub CanWalk : Iter K T L O → Type 0
   CanWalk t = (w : List Place) × IsLeft t w × ArePlaced (values t.objects.now) w

@@ -1,4 +1,4 @@
--- What clauses see of a list and the table of its links that are borrowed together.
+-- A list and the table of its links that are borrowed together, as contracts see them.
 use Rattle.std.specs.Prelude.{◌≡◌}
 use Rattle.ic_chain.specs.declared.lent_list.LentList.{LentList}
 

@@ -1,12 +1,13 @@
--- What a cut leaves of a list's own words.
+-- A list's own words after a cut.
 use Rattle.std.specs.Prelude.{◌≡◌, Option, None}
 use Rattle.ic_unsafe_ref.specs.declared.place.Place.{Place}
 use Rattle.ic_link_ops.specs.Chains.{ListHead, TurnsTail, end_of}
 
--- THE LISTS' OWN WORDS after a cut between `before` and `behind`: the list begins as it did, unless nothing stands before the cut, and ends with
--- `before`. What is handed out begins with `behind`, and ends as the list did, unless nothing stands after the cut
-pub record SplitsEnds {W : Type 0} (kept : Option Place → W) (old new rest : ListHead W) (before behind : Option Place) : Type 0 where
+-- THE LISTS' OWN WORDS after a cut between `before` and `after`. The list that is kept begins as before, or is empty if no member is before the
+-- cut, and ends with `before`. The list that is returned begins with `after`, and ends as the old list did, or is empty if no member is after
+-- the cut
+pub record SplitsEnds {W : Type 0} (kept : Option Place → W) (old new rest : ListHead W) (before after : Option Place) : Type 0 where
   pub head : new.head ≡ end_of before None old.head
   pub tail : new.tail ≡ kept before
-  pub rest_head : rest.head ≡ behind
-  pub rest_tail : TurnsTail kept old.tail rest.tail behind None
+  pub rest_head : rest.head ≡ after
+  pub rest_tail : TurnsTail kept old.tail rest.tail after None

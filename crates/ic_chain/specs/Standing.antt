@@ -1,15 +1,15 @@
--- Where a cursor of a list of any kind stands, and what its position keeps.
+-- The position of a cursor of a list of any kind, and what the position stores.
 use Rattle.std.specs.Prelude.{◌≡◌, Option, Some, List, ◌∷◌, ◌++◌}
 use Rattle.ic_link_ops.specs.Prelude.{Place, Cut, join, first, last, IsAfter, Table}
 
--- p is a member of what is represented, and `prev` stands before it, none at the front
+-- p is a member of the represented sequence, and `prev` is before it, none at the front
 pub record HasMemberAfter (shows : List Place → Type 0) (p : Place) (prev : Option Place) : Type 0 where
   pub front : List Place
   pub back : List Place
   pub shown : shows (front ++ p ∷ back)
   pub neighbor : prev ≡ last front
 
--- p is a member of what is represented, and `next` stands after it, none at the back
+-- p is a member of the represented sequence, and `next` is after it, none at the back
 pub record HasMemberBefore (shows : List Place → Type 0) (p : Place) (next : Option Place) : Type 0 where
   pub front : List Place
   pub back : List Place
@@ -17,9 +17,10 @@ pub record HasMemberBefore (shows : List Place → Type 0) (p : Place) (next : O
   pub neighbor : next ≡ first back
 
 -- `Represents`: which sequence a table represents for a list. `member at`: the member that the position is on, none at null. `CachesNext at q`:
--- what is kept in the position may stand for q after it
+-- what the position stores is right if q is after it
 module _ {L E H P : Type 0} (Represents : Table E → H → List Place → Type 0) (table : L → Table E) (member : P → Option Place) (CachesNext : P → Option Place → Type 0) where
-  -- THE POSITION STANDS: it is one of what the table represents for the list, and on a member it keeps what stands after
+  -- THE POSITION IS VALID: it is null or on a member of the sequence that the table represents for the list, and on a
+  -- member it stores what its kind needs about the place after
   pub record IsValidAt (links : L) (list : H) (at : P) : Type 0 where
     pub gap : Cut
     pub shown : Represents (table links) list (join gap)

@@ -1,4 +1,4 @@
-//! The cursors of a list: one that reads, one that edits, and one that edits and keeps the list.
+//! The cursors of a list: one that reads, one that edits, and one that edits and owns the list.
 //!
 //! ```text
 //! let mut cursor = list.front(&links); // on the first member
@@ -25,7 +25,7 @@ use ic_cursors::{Cursor, CursorMut, CursorOwning};
 use ic_link_ops::LinkOps;
 use ic_unsafe_ref::{Place, UnsafeRef};
 
-// The place of a neighbor that the caller tells.
+// The place of a neighbor that the caller passes.
 #[inline]
 fn place_of<T>(object: Option<UnsafeRef<T>>) -> Option<Place>
     ensures { result ≡ object }
@@ -39,7 +39,7 @@ fn place_of<T>(object: Option<UnsafeRef<T>>) -> Option<Place>
 impl<K: ListKind, T> Chain<K, T> {
     ghost use Rattle.ic_cursors.specs.Cursor.{list_of, links_of, position, IsValid};
 
-    /// A cursor at null.
+    /// A cursor at null. O(1).
     #[inline]
     pub fn cursor<'a, L: LinkOps>(&'a self, links: &'a L) -> Cursor<'a, Chain<K, T>, L>
     where
@@ -54,7 +54,7 @@ impl<K: ListKind, T> Chain<K, T> {
         Cursor::new(self, links, at)
     }
 
-    /// A cursor on the first member, null in an empty list.
+    /// A cursor on the first member, null in an empty list. O(1).
     #[inline]
     pub fn front<'a, L: LinkOps>(&'a self, links: &'a L) -> Cursor<'a, Chain<K, T>, L>
     where
@@ -74,7 +74,7 @@ impl<K: ListKind, T> Chain<K, T> {
 impl<K: DoubleEnded, T> Chain<K, T> {
     ghost use Rattle.ic_cursors.specs.Cursor.{list_of, links_of, position, IsValid};
 
-    /// A cursor on the last member, null in an empty list.
+    /// A cursor on the last member, null in an empty list. O(1).
     #[inline]
     pub fn back<'a, L: LinkOps>(&'a self, links: &'a L) -> Cursor<'a, Chain<K, T>, L>
     where
@@ -93,7 +93,7 @@ impl<K: DoubleEnded, T> Chain<K, T> {
 impl<K: NamesNext, T> Chain<K, T> {
     ghost use Rattle.ic_cursors.specs.Cursor.{list_of, links_of, position, IsValid};
 
-    /// A cursor on the object, which has to be a member. O(1): it reads no entry.
+    /// A cursor on the object. It requires that the object is a member. O(1): it reads no entry.
     #[inline]
     pub fn cursor_from_ptr<'a, L: LinkOps>(
         &'a self,
@@ -162,7 +162,7 @@ impl<K: Reversible, T> Chain<K, T> {
 impl<K: ListKind, T> Chain<K, T> {
     ghost use Rattle.ic_cursors.specs.CursorMut.{position, IsBorrowed, IsValid};
 
-    /// A cursor at null that edits.
+    /// A cursor at null that edits. O(1).
     #[inline]
     pub fn cursor_mut<'a, L: LinkOps>(
         &'a mut self,
@@ -179,7 +179,7 @@ impl<K: ListKind, T> Chain<K, T> {
         CursorMut::new(self, links, at)
     }
 
-    /// A cursor that edits, on the first member, null in an empty list.
+    /// A cursor that edits, on the first member, null in an empty list. O(1).
     #[inline]
     pub fn front_mut<'a, L: LinkOps>(
         &'a mut self,
@@ -201,7 +201,7 @@ impl<K: ListKind, T> Chain<K, T> {
 impl<K: DoubleEnded, T> Chain<K, T> {
     ghost use Rattle.ic_cursors.specs.CursorMut.{position, IsBorrowed, IsValid};
 
-    /// A cursor that edits, on the last member, null in an empty list.
+    /// A cursor that edits, on the last member, null in an empty list. O(1).
     #[inline]
     pub fn back_mut<'a, L: LinkOps>(&'a mut self, links: &'a mut L) -> CursorMut<'a, Chain<K, T>, L>
     where
@@ -219,7 +219,7 @@ impl<K: DoubleEnded, T> Chain<K, T> {
 impl<K: NamesNext, T> Chain<K, T> {
     ghost use Rattle.ic_cursors.specs.CursorMut.{position, IsBorrowed, IsValid};
 
-    /// A cursor that edits, on the object, which has to be a member. O(1): it reads no entry.
+    /// A cursor that edits, on the object. It requires that the object is a member. O(1): it reads no entry.
     #[inline]
     pub fn cursor_mut_from_ptr<'a, L: LinkOps>(
         &'a mut self,
@@ -285,7 +285,7 @@ impl<K: Reversible, T> Chain<K, T> {
 impl<K: ListKind, T> Chain<K, T> {
     ghost use Rattle.ic_cursors.specs.CursorOwning.{list_of, place_of, position, IsValid};
 
-    /// A cursor at null that keeps the list. It reads no table.
+    /// A cursor at null that owns the list. It reads no table. O(1).
     #[inline]
     pub fn cursor_owning(self) -> CursorOwning<Chain<K, T>>
         ensures list { list_of result ≡ self }
@@ -296,7 +296,7 @@ impl<K: ListKind, T> Chain<K, T> {
         CursorOwning::new(self, at)
     }
 
-    /// A cursor that keeps the list, on the first member, null in an empty list.
+    /// A cursor that owns the list, on the first member, null in an empty list. O(1).
     #[inline]
     pub fn front_owning<L: LinkOps>(self, links: &L) -> CursorOwning<Chain<K, T>>
     where
@@ -315,7 +315,7 @@ impl<K: ListKind, T> Chain<K, T> {
 impl<K: DoubleEnded, T> Chain<K, T> {
     ghost use Rattle.ic_cursors.specs.CursorOwning.{list_of, place_of, position, IsValid};
 
-    /// A cursor that keeps the list, on the last member, null in an empty list.
+    /// A cursor that owns the list, on the last member, null in an empty list. O(1).
     #[inline]
     pub fn back_owning<L: LinkOps>(self, links: &L) -> CursorOwning<Chain<K, T>>
     where
@@ -334,7 +334,7 @@ impl<K: DoubleEnded, T> Chain<K, T> {
 impl<K: NamesNext, T> Chain<K, T> {
     ghost use Rattle.ic_cursors.specs.CursorOwning.{list_of, place_of, position, IsValid};
 
-    /// A cursor that keeps the list, on the object, which has to be a member. O(1): it reads no entry.
+    /// A cursor that owns the list, on the object. It requires that the object is a member. O(1): it reads no entry.
     #[inline]
     pub fn cursor_owning_from_ptr<L: LinkOps>(
         self,
@@ -357,7 +357,7 @@ impl<K: NamesNext, T> Chain<K, T> {
 impl<K: Reversible, T> Chain<K, T> {
     ghost use Rattle.ic_cursors.specs.CursorOwning.{list_of, place_of, position, IsValid};
 
-    /// A cursor that keeps the list, on the object. It requires that the object is a member, and that `prev` is the one before it, `None` at
+    /// A cursor that owns the list, on the object. It requires that the object is a member, and that `prev` is the one before it, `None` at
     /// the front. O(1): one reading of an entry.
     #[inline]
     pub fn cursor_owning_from_ptr_and_prev<L: LinkOps>(
@@ -377,7 +377,7 @@ impl<K: Reversible, T> Chain<K, T> {
         CursorOwning::new(self, at)
     }
 
-    /// A cursor that keeps the list, on the object. It requires that the object is a member, and that `next` is the one after it, `None` at the
+    /// A cursor that owns the list, on the object. It requires that the object is a member, and that `next` is the one after it, `None` at the
     /// back. O(1): it reads no entry.
     #[inline]
     pub fn cursor_owning_from_ptr_and_next<L: LinkOps>(

@@ -1,7 +1,7 @@
-//! What a list of any kind gives the cursors: moves and edits at a position.
+//! What a list of any kind implements for cursors: moves and edits at a position.
 //!
-//! "After" is the gap after the position's member, or the first gap at null; "before" is the gap before it, or
-//! the last gap at null. An edit after the position leaves it with the place that stands there then. What each does, the traits say.
+//! "After" is the gap after the position's member, or the first gap at null; "before" is the gap before it, or the last gap at null.
+//! After an edit after the position, the position stores the place that follows it then. The traits document what each call does.
 
 ghost use Rattle.std.specs.Prelude.{◌≡◌, List, ⊤};
 ghost use Rattle.ic_link_ops.specs.Sequences.{Cut, join, IsAfter, IsBefore};
@@ -37,12 +37,12 @@ impl<K: ListKind, T> Collection for Chain<K, T> {
     }
 }
 
-// The neighbors of a position, for edits. A cursor's step asks for the end of a list out of line, since it comes to null once a round; an
-// edit is made at null as often as anywhere.
+// The neighbors of a position, for edits. A cursor's step calls a function that is not inlined to read the end of a list, since it comes
+// to null once a round. Edits are often made at null, so they read the end inline.
 impl<K: ListKind, T> Chain<K, T> {
-    // What stands after the position: at null the first member.
+    // The member after the position; the first member at null.
     #[inline]
-    fn behind<L: LinkOps>(&self, links: &L, at: &K::Position) -> Option<Place>
+    fn after<L: LinkOps>(&self, links: &L, at: &K::Position) -> Option<Place>
     where
         K: ForwardLinks<L>,
         requires { IsValidAt (RepresentsChain K.Between K.kept) L.table K.Position.member K.Position.CachesNext links.now self.now at.now }
@@ -54,9 +54,11 @@ impl<K: ListKind, T> Chain<K, T> {
         }
     }
 
-    /// The position on the member `current`, `None` for null, before which `prev` stands, as a cursor of the list keeps it.
+    /// The position on the member `current`, or at null if that is `None`, with `prev` before it, in the form that a cursor
+    /// of the list stores.
     ///
-    /// It requires that they are neighbors, if the kind reads the member's entry. O(1): at most one reading.
+    /// If the kind reads the member's entry, it requires that `prev` is the member's neighbor. O(1): at most one
+    /// reading.
     #[inline]
     pub fn position_at<L: LinkOps>(
         &self,
@@ -80,7 +82,7 @@ impl<K: ListKind, T> Chain<K, T> {
 }
 
 impl<K: DoubleEnded, T> Chain<K, T> {
-    // What stands before the position: at null the last member.
+    // The member before the position; the last member at null.
     #[inline]
     fn before<L: LinkOps>(&self, links: &L, at: &K::Position) -> Option<Place>
     where
@@ -91,8 +93,8 @@ impl<K: DoubleEnded, T> Chain<K, T> {
         match at.get() {
             None => self.last(),
             Some(place) => {
-                let behind = K::next_at(links, place, at);
-                K::prev(links, place, behind)
+                let after = K::next_at(links, place, at);
+                K::prev(links, place, after)
             }
         }
     }
@@ -108,15 +110,15 @@ impl<T, L: LinkOps, K: ForwardLinks<L>> CursorOps<L> for Chain<K, T> {
         let current = at.get();
         match current {
             None => self.position_at(links, current, self.head_from_null()),
-            Some(_) => self.position_at(links, current, self.behind(links, at)),
+            Some(_) => self.position_at(links, current, self.after(links, at)),
         }
     }
 
     #[inline]
     fn insert_after_at(&mut self, links: &mut L, at: &mut K::Position, object: Place) -> bool {
         let current = at.get();
-        let behind = self.behind(&*links, at);
-        if !self.insert_between(links, current, object, behind) {
+        let after = self.after(&*links, at);
+        if !self.insert_between(links, current, object, after) {
             return false;
         }
         *at = ListPosition::of(current, Some(object));
@@ -128,10 +130,10 @@ impl<T, L: LinkOps, K: SingleEnded + ForwardLinks<L>> ForwardOnly<L> for Chain<K
     #[inline]
     fn remove_next_at(&mut self, links: &mut L, at: &mut K::Position) -> Option<Place> {
         let current = at.get();
-        let place = self.behind(&*links, at)?;
-        let behind = K::next(&*links, place, current);
-        self.unlink(links, current, place, behind);
-        *at = ListPosition::of(current, behind);
+        let place = self.after(&*links, at)?;
+        let after = K::next(&*links, place, current);
+        self.unlink(links, current, place, after);
+        *at = ListPosition::of(current, after);
         Some(place)
     }
 
@@ -143,12 +145,12 @@ impl<T, L: LinkOps, K: SingleEnded + ForwardLinks<L>> ForwardOnly<L> for Chain<K
         object: Place,
     ) -> (Option<Place>, bool) {
         let current = at.get();
-        let next = self.behind(&*links, at);
+        let next = self.after(&*links, at);
         let Some(out) = next else {
             return (None, false);
         };
-        let behind = K::next(&*links, out, current);
-        if !self.replace(links, current, out, object, behind) {
+        let after = K::next(&*links, out, current);
+        if !self.replace(links, current, out, object, after) {
             return (next, false);
         }
         *at = ListPosition::of(current, Some(object));
@@ -180,9 +182,9 @@ impl<T, L: LinkOps, K: DoubleEnded + BidirectionalLinks<L>> Bidirectional<L> for
     fn remove_at(&mut self, links: &mut L, at: &mut K::Position) -> Option<Place> {
         let place = at.get()?;
         let before = self.before(&*links, at);
-        let behind = self.behind(&*links, at);
-        self.unlink(links, before, place, behind);
-        *at = self.position_at(&*links, before, behind);
+        let after = self.after(&*links, at);
+        self.unlink(links, before, place, after);
+        *at = self.position_at(&*links, before, after);
         Some(place)
     }
 
@@ -192,11 +194,11 @@ impl<T, L: LinkOps, K: DoubleEnded + BidirectionalLinks<L>> Bidirectional<L> for
             return false;
         };
         let before = self.before(&*links, at);
-        let behind = self.behind(&*links, at);
-        if !self.replace(links, before, out, object, behind) {
+        let after = self.after(&*links, at);
+        if !self.replace(links, before, out, object, after) {
             return false;
         }
-        *at = ListPosition::of(Some(object), behind);
+        *at = ListPosition::of(Some(object), after);
         true
     }
 }
@@ -205,18 +207,18 @@ impl<T, L: LinkOps, K: ForwardLinks<L>> Splice<L> for Chain<K, T> {
     #[inline]
     fn splice_after_at(&mut self, links: &mut L, at: &mut K::Position, given: Chain<K, T>) {
         let current = at.get();
-        let behind = self.behind(&*links, at);
+        let after = self.after(&*links, at);
         let first = given.first();
-        let last = given.last_before(&*links, behind);
-        self.splice_between(links, current, given, last, behind);
-        *at = ListPosition::of(current, first.or(behind));
+        let last = given.last_before(&*links, after);
+        self.splice_between(links, current, given, last, after);
+        *at = ListPosition::of(current, first.or(after));
     }
 
     #[inline]
     fn split_after_at(&mut self, links: &mut L, at: &mut K::Position) -> Chain<K, T> {
         let current = at.get();
-        let behind = self.behind(&*links, at);
-        let rest = self.split_between(links, current, behind);
+        let after = self.after(&*links, at);
+        let rest = self.split_between(links, current, after);
         *at = ListPosition::of(current, None);
         rest
     }

@@ -1,4 +1,4 @@
-//! A walk that takes the members off.
+//! A walk that removes the members.
 //!
 //! ```text
 //! let mut rest = list.into_iter(&mut links);
@@ -17,11 +17,11 @@ use crate::kind::{BidirectionalLinks, DoubleEnded, ForwardLinks, ListKind};
 use ic_link_ops::LinkOps;
 use ic_unsafe_ref::UnsafeRef;
 
-/// The members of a list that are not given out yet: from the front by `next`, and where the kind leads back from the back by
-/// `next_back`.
+/// A walk that removes and returns the members of a list: `next` takes the first, and `next_back` the last, if the kind's
+/// entries lead back.
 ///
-/// Each member that is given out is unlinked, and no other. If the walk is dropped, the rest stays linked: call
-/// [`finish`](Self::finish) to unlink it.
+/// The walk unlinks each member that it returns, and no other. If the walk is dropped, the remaining members stay
+/// linked: call [`finish`](Self::finish) to unlink them.
 pub struct IntoIter<'a, K: ListKind, T, L> {
     list: Chain<K, T>,
     links: &'a mut L,
@@ -46,7 +46,7 @@ impl<'a, T, L: LinkOps, K: ForwardLinks<L>> Iterator for IntoIter<'a, K, T, L> {
 
     ghost remaining = { item_count (members_left K.step L.table) };
 
-    /// Takes the next object off the list. O(1).
+    /// Removes the first remaining member and returns it, or `None` if none is left. O(1).
     #[inline]
     fn next(&mut self) -> Option<UnsafeRef<T>> {
         self.list.pop_front(self.links)
@@ -61,7 +61,7 @@ impl<'a, T, L: LinkOps, K: DoubleEnded + BidirectionalLinks<L>> DoubleEndedItera
 
     ghost next_back_gives = { λ s r t. TakesLast (RepresentsChain K.Between K.kept) L.table L.Trace (rest_of s) r (rest_of t) };
 
-    /// Takes the next object from the back off the list. O(1).
+    /// Removes the last remaining member and returns it, or `None` if none is left. O(1).
     #[inline]
     fn next_back(&mut self) -> Option<UnsafeRef<T>> {
         self.list.pop_back(self.links)
@@ -71,7 +71,7 @@ impl<'a, T, L: LinkOps, K: DoubleEnded + BidirectionalLinks<L>> DoubleEndedItera
 impl<'a, T, L: LinkOps, K: ForwardLinks<L>> IntoIter<'a, K, T, L> {
     ghost use Rattle.ic_chain.specs.IntoIter.{rest_of};
 
-    /// The table, as the walk has changed it so far.
+    /// The table in its current state. O(1).
     #[inline]
     pub fn links(&self) -> &L
         ensures { result.now ≡ self.now.links.now }
@@ -79,7 +79,7 @@ impl<'a, T, L: LinkOps, K: ForwardLinks<L>> IntoIter<'a, K, T, L> {
         self.links
     }
 
-    /// Unlinks the members that were not given out. One step for each of them, and no memory.
+    /// Unlinks the members that the walk has not returned. One step for each of them, and no memory. O(n).
     pub fn finish(self)
         requires can_take { CanTake (RepresentsChain K.Between K.kept) L.table (rest_of self) }
         ensures released { (w : List Place) → Leaves (RepresentsChain K.Between K.kept) L.table (rest_of self.entry) w
@@ -93,7 +93,7 @@ impl<'a, T, L: LinkOps, K: ForwardLinks<L>> IntoIter<'a, K, T, L> {
 }
 
 impl<K: ListKind, T> Chain<K, T> {
-    /// A walk that takes the members off. O(1): nothing is unlinked yet.
+    /// A walk that removes the members. O(1): nothing is unlinked yet.
     pub fn into_iter<'a, L: LinkOps>(self, links: &'a mut L) -> IntoIter<'a, K, T, L>
     where
         K: ForwardLinks<L>,

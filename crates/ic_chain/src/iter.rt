@@ -20,11 +20,11 @@ use ic_unsafe_ref::{Objects, Place, Values};
 use std::alloc::AllocError;
 use std::marker::PhantomData;
 
-/// The objects of a list that are not given out yet: from the front by `next`, and where the kind keeps both ends and leads back, from the
-/// back by `next_back`.
+/// A walk over the objects of a list: `next` returns them from the front, and `next_back` from the back if the kind stores both ends and
+/// its entries lead back.
 ///
-/// It keeps the two ends of what is left and the places beyond them. When the two ends meet, both are exhausted. A kind that keeps no last
-/// member is walked until nothing follows.
+/// The walk stores the two ends of the remaining members and the places beyond them. When the two ends meet, both are exhausted. In a list
+/// that does not store its last member, the walk ends if no member follows.
 pub struct Iter<'a, K, T, L, O = Objects<T>> {
     links: &'a L,
     objects: &'a O,
@@ -33,7 +33,7 @@ pub struct Iter<'a, K, T, L, O = Objects<T>> {
     before: Option<Place>,
     head: Option<Place>,
     tail: Option<Place>,
-    behind: Option<Place>,
+    after: Option<Place>,
 }
 
 impl<K, T, L, O> Drop for Iter<'_, K, T, L, O> {
@@ -46,7 +46,7 @@ impl<K, T, L, O> Drop for Iter<'_, K, T, L, O> {
             before: _,
             head: _,
             tail: _,
-            behind: _,
+            after: _,
         } = self;
     }
 }
@@ -74,7 +74,7 @@ impl<'a, K: ForwardLinks<L>, T, L: LinkOps, O: Values<T>> Iterator for Iter<'a, 
 
     ghost remaining = { item_count (objects_left K.step L.table O.values) };
 
-    /// The next object. O(1): one reading of an entry, and one look-up of the object.
+    /// The next object, or `None` if none is left. O(1): one reading of an entry, and one look-up of the object.
     fn next(&mut self) -> Option<&'a T> {
         let place = self.head?;
         let objects: &'a O = self.objects;
@@ -98,7 +98,7 @@ impl<'a, K: DoubleEnded + BidirectionalLinks<L>, T, L: LinkOps, O: Values<T>> Do
 
     ghost next_back_gives = { GivesLast (objects_left K.step L.table O.values) };
 
-    /// The next object from the back. O(1), as `next`.
+    /// The next object from the back, or `None` if none is left. O(1), as `next`.
     fn next_back(&mut self) -> Option<&'a T> {
         let place = self.tail?;
         let objects: &'a O = self.objects;
@@ -107,8 +107,8 @@ impl<'a, K: DoubleEnded + BidirectionalLinks<L>, T, L: LinkOps, O: Values<T>> Do
             self.head = None;
             self.tail = None;
         } else {
-            self.tail = K::prev(self.links, place, self.behind);
-            self.behind = Some(place);
+            self.tail = K::prev(self.links, place, self.after);
+            self.after = Some(place);
         }
         Some(value)
     }
@@ -129,7 +129,7 @@ impl<K, T, L, O> Clone for Iter<'_, K, T, L, O> {
             before: self.before,
             head: self.head,
             tail: self.tail,
-            behind: self.behind,
+            after: self.after,
         })
     }
 }
@@ -137,8 +137,8 @@ impl<K, T, L, O> Clone for Iter<'_, K, T, L, O> {
 impl<K: ListKind, T> Chain<K, T> {
     ghost use Rattle.ic_chain.specs.Iter.{objects_left, CanWalk};
 
-    /// A walk over the objects of the list: from the front, and from the back too where the kind keeps both ends and leads back. It requires
-    /// that all members are placed.
+    /// A walk over the objects of the list: from the front, and also from the back if the kind stores both ends and its entries lead back.
+    /// It requires that all members are placed. O(1).
     pub fn iter<'a, L: LinkOps, O: Values<T>>(
         &self,
         links: &'a L,
@@ -159,7 +159,7 @@ impl<K: ListKind, T> Chain<K, T> {
             before: None,
             head: self.first(),
             tail: self.kept_last(),
-            behind: None,
+            after: None,
         }
     }
     /// A value that prints the objects of the list, in order: `{:?}` writes `[10, 20]`, and `{:#?}` writes each object on lines of its own.

@@ -1,14 +1,15 @@
-//! What follows of several calls of a list together, each law as the contract of a function.
+//! What follows from several calls of a list together. Each law is the contract of a function.
 //!
 //! ```text
 //! split_then_splice::<DoublyLinked, LinkOps>(); // split, and spliced again, the list is what it was
 //! ```
 //!
-//! `split_then_splice` and the two pushes and pops have an empty body, since their clause is the law. It speaks of what the calls say, and the
-//! caller makes these: a proof has the law where the caller names it. The other laws make their calls.
+//! `split_then_splice` and the two laws of pushes and pops have an empty body: their clause is about the results of calls that the caller
+//! makes. Call such a function where your proof needs its law. The other laws make their calls themselves.
 //!
-//! What holds of collections of every kind stands with the tables, as lemmas for proofs (`CollectionLaws` of `ic_link_ops`): every
-//! table represents nothing for a new collection, no table represents two sequences for one, and an edit leaves all others.
+//! Laws of collections of every kind are lemmas for proofs (`CollectionLaws` of `ic_link_ops`): every table represents the empty
+//! sequence for a new collection, no table represents two sequences for one collection, and an edit leaves all other collections
+//! as they were.
 
 ghost use Rattle.std.specs.Prelude.{◌≡◌, List, [], ◌∷◌, None, IsTrue};
 ghost use Rattle.ic_link_ops.specs.Prelude.{Place, insert, remove, at_front, at_back, first, last, but_last, IsCovered, ChangesOnlyIn, acquires};
@@ -22,10 +23,11 @@ use ic_cursors::{Bidirectional, Cursor};
 use ic_link_ops::LinkOps;
 use ic_unsafe_ref::{Place, UnsafeRef};
 
-/// Moves a cursor of any kind that leads both ways from null on and back again, then back and on, and returns where it was: at the front
-/// and at the back.
+/// Moves a cursor from null to the next member and back, then to the previous member and back. It returns the two members: the first and
+/// the last.
 ///
-/// It is at null again. Of an empty collection both are `None`. It requires that the cursor is at null, and stands.
+/// The cursor is at null again. Both results are `None` for an empty collection. It requires that the cursor is valid
+/// and at null, and a kind whose cursors move in both directions.
 pub fn null_there_and_back<C: Bidirectional<L>, L: LinkOps>(
     cursor: &mut Cursor<'_, C, L>,
 ) -> (Option<Place>, Option<Place>)
@@ -50,24 +52,25 @@ pub fn null_there_and_back<C: Bidirectional<L>, L: LinkOps>(
     (front, back)
 }
 
-/// The law of a split and a splice: what is handed out after a position and spliced in there again leaves the list as it was.
+/// The law of a split and a splice: if a list is split after a position, and the removed members are spliced in there again,
+/// the list is as it was.
 ///
 /// It holds over any table.
 ///
-/// It speaks of what `split_after` and `splice_after` say, and makes no call. The two parts of the split are represented and share no
-/// member, so that the one may be spliced into the other (`apart`). Of such a splice the clause `kept` of `splice_after` says that what the
-/// cursor keeps is right.
+/// It is about the results of `split_after` and `splice_after`, and makes no call. The table represents both parts of the split, and they
+/// share no member, so one may be spliced into the other (`apart`). The clause `kept` of `splice_after` states that the cursor is valid
+/// after such a splice.
 pub fn split_then_splice<K: ForwardLinks<L>, L: LinkOps>()
     ensures apart { SplitsApart (RepresentsChain K.Between K.kept) L.table L.Trace }
     ensures as_it_was { SplitThenSplice (RepresentsChain K.Between K.kept) L.table L.Trace }
 {}
 
-/// Puts one object at the front of two lists of two fields, of whatever kinds, and returns true, since both take it.
+/// Inserts one object at the front of two lists of two fields, of any kinds, and returns true, since both accept it.
 ///
-/// A link in one field is none in the other. O(1).
+/// A link in one field is not a link in the other. O(1).
 ///
 /// It requires that both tables cover the object's place, that neither refuses it, and that each represents a sequence. A plain table refuses only
-/// what is linked in it.
+/// a place that is linked in it.
 pub fn fields_are_apart<K: ForwardLinks<L>, J: ForwardLinks<M>, T, L: LinkOps, M: LinkOps>(
     first: &mut Chain<K, T>,
     first_links: &mut L,
@@ -102,15 +105,17 @@ pub fn fields_are_apart<K: ForwardLinks<L>, J: ForwardLinks<M>, T, L: LinkOps, M
     in_first && in_second
 }
 
-/// The law of a push and a pop at the front: what `push_front` accepted is what `pop_front` returns, and all is as it was.
+/// The law of a push and a pop at the front: `pop_front` returns the object that `push_front` accepted, and all is as it
+/// was.
 ///
-/// The list and the linked places are as they were, and so is every other list, over any table. It speaks of what the two calls say, and
-/// makes none.
+/// The list, the linked places and every other list are as they were, over any table. The law is about the results of the two calls, and
+/// makes no call.
 pub fn push_then_pop_front<K: ForwardLinks<L>, L: LinkOps>()
     ensures { PushThenPop (RepresentsChain K.Between K.kept) L.table L.Trace L.linked at_front first (λ s. remove (at_front s)) }
 {}
 
-/// The law of a push and a pop at the back: what `push_back` accepted is what `pop_back` returns, and all is as it was.
+/// The law of a push and a pop at the back: `pop_back` returns the object that `push_back` accepted, and all is as it
+/// was.
 pub fn push_then_pop<K: DoubleEnded + BidirectionalLinks<L>, L: LinkOps>()
     ensures { PushThenPop (RepresentsChain K.Between K.kept) L.table L.Trace L.linked at_back last but_last }
 {}

@@ -1,4 +1,4 @@
-//! A list and the table of its links, which a scope borrows together: the form for a loop of many calls.
+//! A list and the table of its links, borrowed together for a loop of many calls.
 //!
 //! ```text
 //! fn run_all<L: LinkedListOps>(list: &mut LinkedList<Job>, links: &mut L) {
@@ -20,9 +20,10 @@ use ic_unsafe_ref::UnsafeRef;
 
 /// A list and the table of its links, for as long as both are borrowed.
 ///
-/// In a loop over it no call reads again where the list begins, as each call over a list after a reference does. Over a view of the
-/// links ([`LentTable`](ic_link_ops::LentTable)) no call reads again where these are kept, either. When it goes out of scope, the list has
-/// what it showed last. A function that takes it by `&mut` makes all other calls on its fields: `lent.list.cursor_mut(lent.links)`.
+/// Each call over `&mut Chain` reads the list's ends from memory; in a loop over a `LentList` they can stay in registers. Over a view of
+/// the links ([`LentTable`](ic_link_ops::LentTable)) no call reads the address of the links again either. When the `LentList` goes out of
+/// scope, the list has its current members. A function that takes a `LentList` by `&mut` makes all other calls on its fields:
+/// `lent.list.cursor_mut(lent.links)`.
 pub struct LentList<'a, K: ListKind, T, L> {
     home: &'a mut Chain<K, T>,
     /// The list.
@@ -32,7 +33,7 @@ pub struct LentList<'a, K: ListKind, T, L> {
 }
 
 impl<K: ListKind, T, L> Drop for LentList<'_, K, T, L> {
-    /// Gives the list back.
+    /// Writes the ends back to the borrowed list.
     #[inline]
     fn drop(self)
         ensures list { self.exit.0.now ≡ self.entry.list }
@@ -50,7 +51,8 @@ impl<K: ListKind, T, L> Drop for LentList<'_, K, T, L> {
 impl<K: ListKind, T> Chain<K, T> {
     /// Borrows the list together with the table of its links. O(1).
     ///
-    /// The list has what it represents once it is dropped, or at [`LentList::finish`]. Until then it is empty.
+    /// The borrowed list gets its members back when the `LentList` is dropped, or by [`LentList::finish`]. Until then
+    /// it is empty.
     #[inline]
     pub fn lend<'a, L>(&'a mut self, links: &'a mut L) -> LentList<'a, K, T, L>
         ensures list { result.list ≡ self.old }
@@ -68,7 +70,7 @@ impl<K: ListKind, T> Chain<K, T> {
 }
 
 impl<K: ListKind, T, L> LentList<'_, K, T, L> {
-    /// Ends the borrow: the list has what this showed. The same as to drop it. O(1).
+    /// Ends the borrow, and gives the borrowed list its members back, as a drop does. O(1).
     #[inline]
     pub fn finish(self)
         ensures list { self.exit.0.now ≡ self.entry.list }
@@ -79,7 +81,7 @@ impl<K: ListKind, T, L> LentList<'_, K, T, L> {
 impl<T, L: LinkOps, K: ForwardLinks<L>> LentList<'_, K, T, L> {
     ghost use Rattle.ic_chain.specs.LentLists.{SameLoans};
 
-    /// Puts the object at the front of the list, as [`Chain::push_front`] does.
+    /// Inserts the object at the front of the list, as [`Chain::push_front`] does. O(1).
     #[inline]
     pub fn push_front(&mut self, object: UnsafeRef<T>) -> Result<(), AlreadyLinked<T>>
         requires covered { IsCovered (L.table self.old.links.now) object }
@@ -95,7 +97,7 @@ impl<T, L: LinkOps, K: ForwardLinks<L>> LentList<'_, K, T, L> {
         self.list.push_front(self.links, object)
     }
 
-    /// Takes the object at the front off the list, as [`Chain::pop_front`] does.
+    /// Removes the object at the front of the list, as [`Chain::pop_front`] does. O(1).
     #[inline]
     pub fn pop_front(&mut self) -> Option<UnsafeRef<T>>
         requires shown { RepresentsSomeChain K.Between K.kept (L.table self.old.links.now) self.old.list }
@@ -113,7 +115,7 @@ impl<T, L: LinkOps, K: ForwardLinks<L>> LentList<'_, K, T, L> {
 impl<T, L: LinkOps, K: DoubleEnded + ForwardLinks<L>> LentList<'_, K, T, L> {
     ghost use Rattle.ic_chain.specs.LentLists.{SameLoans};
 
-    /// Puts the object at the back of the list, as [`Chain::push_back`] does.
+    /// Inserts the object at the back of the list, as [`Chain::push_back`] does. O(1).
     #[inline]
     pub fn push_back(&mut self, object: UnsafeRef<T>) -> Result<(), AlreadyLinked<T>>
         requires covered { IsCovered (L.table self.old.links.now) object }
@@ -133,7 +135,7 @@ impl<T, L: LinkOps, K: DoubleEnded + ForwardLinks<L>> LentList<'_, K, T, L> {
 impl<T, L: LinkOps, K: DoubleEnded + BidirectionalLinks<L>> LentList<'_, K, T, L> {
     ghost use Rattle.ic_chain.specs.LentLists.{SameLoans};
 
-    /// Takes the object at the back off the list, as [`Chain::pop_back`] does.
+    /// Removes the object at the back of the list, as [`Chain::pop_back`] does. O(1).
     #[inline]
     pub fn pop_back(&mut self) -> Option<UnsafeRef<T>>
         requires shown { RepresentsSomeChain K.Between K.kept (L.table self.old.links.now) self.old.list }
@@ -151,7 +153,7 @@ impl<T, L: LinkOps, K: DoubleEnded + BidirectionalLinks<L>> LentList<'_, K, T, L
 impl<T, L: LinkOps, K: DoubleEnded + NamesBoth<L>> LentList<'_, K, T, L> {
     ghost use Rattle.ic_chain.specs.LentLists.{SameLoans};
 
-    /// Takes the object, which has to be a member, off the list, as [`Chain::remove`] does.
+    /// Removes the object, which has to be a member, from the list, as [`Chain::remove`] does. O(1).
     #[inline]
     pub fn remove(&mut self, object: &UnsafeRef<T>)
         requires member { HasMember (RepresentsChain K.Between K.kept (L.table self.old.links.now) self.old.list) object.now }
@@ -164,7 +166,7 @@ impl<T, L: LinkOps, K: DoubleEnded + NamesBoth<L>> LentList<'_, K, T, L> {
         self.list.remove(self.links, object);
     }
 
-    /// Puts the object, which has to be a member, after all others, as [`Chain::move_to_back`] does.
+    /// Moves the object, which has to be a member, after all others, as [`Chain::move_to_back`] does. O(1).
     #[inline]
     pub fn move_to_back(&mut self, object: &UnsafeRef<T>)
         requires member { HasMember (RepresentsChain K.Between K.kept (L.table self.old.links.now) self.old.list) object.now }
@@ -177,7 +179,7 @@ impl<T, L: LinkOps, K: DoubleEnded + NamesBoth<L>> LentList<'_, K, T, L> {
         self.list.move_to_back(self.links, object);
     }
 
-    /// Puts the object, which has to be a member, before all others, as [`Chain::move_to_front`] does.
+    /// Moves the object, which has to be a member, before all others, as [`Chain::move_to_front`] does. O(1).
     #[inline]
     pub fn move_to_front(&mut self, object: &UnsafeRef<T>)
         requires member { HasMember (RepresentsChain K.Between K.kept (L.table self.old.links.now) self.old.list) object.now }

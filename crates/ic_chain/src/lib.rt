@@ -1,8 +1,8 @@
 //! A list over a table of links, written once for every kind: doubly linked, singly linked and XOR lists.
 //!
 //! Each operation takes the table of the link field. Linking takes no memory, and one object can be in lists of several fields.
-//! [`Chain`] has all calls. What a kind is, its crate says by the traits of this one: which words a list keeps ([`ListKind`]), and how
-//! the links of a table are read and written ([`ForwardLinks`], [`BidirectionalLinks`]).
+//! [`Chain`] has all calls. The crate of a kind implements the traits of this one: which words a list stores ([`ListKind`]), and how
+//! it reads and writes the links of a table ([`ForwardLinks`], [`BidirectionalLinks`]).
 //!
 //! ```text
 //! pub type LinkedList<T> = Chain<DoublyLinked, T>;
@@ -13,12 +13,12 @@
 //! let taken = list.pop_front(&mut links); // the first
 //! ```
 //!
-//! A cursor is on a member, or at null, which stands between the last and the first. `Cursor` reads. `CursorMut` edits: it
-//! inserts, removes, replaces, splices and splits, each in O(1). `CursorOwning` edits too, and keeps its list, so it can stand in a
-//! structure; it is handed the table at each call. [`Iter`] lends the objects, and [`IntoIter`] takes the members off.
+//! A cursor is on a member, or at null, which is between the last member and the first. `Cursor` reads. `CursorMut` edits: it
+//! inserts, removes, replaces, splices and splits, each in O(1). `CursorOwning` edits too, and owns its list, so a struct can
+//! contain it; each of its calls takes the table. [`Iter`] lends the objects, and [`IntoIter`] removes the members.
 //!
-//! Who keeps lists in words of his own makes a list of what he keeps, makes one edit by the layer under these calls, and reads the list
-//! again. That layer requires only that the places which it writes are linked.
+//! You may store lists in words of your own. For an edit, make a `Chain` of the words, call the layer under these calls, and store
+//! the words that the `Chain` has then. That layer requires only that the places which it writes are linked.
 //!
 //! ```text
 //! let mut list: LinkedList<Job> = Chain::from_ends(first, last);

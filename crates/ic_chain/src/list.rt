@@ -20,9 +20,9 @@ use ic_unsafe_ref::{Place, UnsafeRef};
 use std::marker::{Model, PhantomData};
 use std::mem;
 
-/// A list of objects, of whatever kind: it keeps its first member, and what its kind keeps of the last one.
+/// A list of objects, of any kind. It stores its first member, and what its kind stores about the last one.
 ///
-/// A clause sees these. Which sequence the list has is what the table represents for them.
+/// Contracts see these two. The list has the sequence that the table represents for them.
 pub struct Chain<K: ListKind, T> {
     head: PlaceWord,
     tail: K::Tail,
@@ -59,17 +59,17 @@ impl<K: ListKind, T> Default for Chain<K, T> {
 }
 
 impl<K: ListKind, T> Chain<K, T> {
-    /// An empty list: every table represents the empty sequence for it.
+    /// An empty list: every table represents the empty sequence for it. O(1).
     pub fn new() -> Chain<K, T>
         ensures { result ≡ empty_list K.kept }
     {
         Chain::from_ends(None, None)
     }
 
-    /// The list with these ends, for who keeps the ends of his lists himself. O(1).
+    /// The list with these ends, for callers who store the ends of their lists themselves. O(1).
     ///
-    /// It requires nothing of them: which sequence the list has, if any, is what a table represents for it. [`Chain::first`] reads the first again,
-    /// and [`Chain::last`] the last, if the kind keeps it.
+    /// It requires nothing of them: the list has the sequence, if any, that a table represents for it. [`Chain::first`] returns the first end, and
+    /// [`Chain::last`] the last, if the kind stores it.
     #[inline]
     pub fn from_ends(first: Option<Place>, last: Option<Place>) -> Chain<K, T>
         ensures { result ≡ list_head first (K.kept last) }
@@ -82,7 +82,7 @@ impl<K: ListKind, T> Chain<K, T> {
         }
     }
 
-    /// Whether the list has no members. It reads no links.
+    /// Whether the list has no members. It reads no links. O(1).
     #[inline]
     pub fn is_empty(&self) -> bool
         ensures { IsTrue result ↔ (self.now.head ≡ None) }
@@ -98,8 +98,8 @@ impl<K: ListKind, T> Chain<K, T> {
         self.head.get()
     }
 
-    // The first member, as a cursor comes to it from null, once a round. Called and not inlined, so that a step from a member
-    // is a load by itself.
+    // The first member, for a cursor that moves from null. This happens once a round, so the call is not inlined, and a step
+    // from a member is one load.
     #[cold]
     #[inline(never)]
     pub(crate) fn head_from_null(&self) -> Option<Place>
@@ -108,7 +108,7 @@ impl<K: ListKind, T> Chain<K, T> {
         self.first()
     }
 
-    // The last member as it is kept, `None` where the kind keeps none.
+    // The last member according to what is stored, `None` if the kind does not store it.
     #[inline]
     pub(crate) fn kept_last(&self) -> Option<Place>
         ensures { result ≡ K.kept_last self.now.tail }
@@ -118,9 +118,10 @@ impl<K: ListKind, T> Chain<K, T> {
 }
 
 impl<K: SingleEnded, T> Chain<K, T> {
-    /// The list with this first place, for who keeps the first place of his lists himself. O(1).
+    /// The list with this first place, for callers who store the first place of their lists themselves. O(1).
     ///
-    /// It requires nothing of it: which sequence the list has, if any, is what a table represents for it. [`Chain::first`] reads it again.
+    /// It requires nothing of the place: the list has the sequence, if any, that a table represents for it. [`Chain::first`] returns the
+    /// place.
     #[inline]
     pub fn from_front(first: Option<Place>) -> Chain<K, T>
         ensures { result ≡ list_head first (K.kept None) }
@@ -130,9 +131,10 @@ impl<K: SingleEnded, T> Chain<K, T> {
 }
 
 impl<K: ListKind, T> Chain<K, T> {
-    /// Puts the object at the front of the list, unless its link is refused. O(1), and it takes no memory.
+    /// Inserts the object at the front of the list, unless its link is refused. O(1), and it takes no memory.
     ///
-    /// It requires and returns what [`Chain::push_back`] does. Good for stacks, and for what was used last.
+    /// It requires and returns what [`Chain::push_back`] does. Good for stacks, and for lists in the order of the last
+    /// use.
     #[inline]
     pub fn push_front<L: LinkOps>(
         &mut self,
@@ -159,7 +161,7 @@ impl<K: ListKind, T> Chain<K, T> {
         Ok(())
     }
 
-    /// Takes the object at the front off the list and returns it, or `None` if the list is empty. O(1).
+    /// Removes the object at the front of the list and returns it, or `None` if the list is empty. O(1).
     #[inline]
     pub fn pop_front<L: LinkOps>(&mut self, links: &mut L) -> Option<UnsafeRef<T>>
     where
@@ -175,27 +177,29 @@ impl<K: ListKind, T> Chain<K, T> {
             → ChangesOnlyIn (L.table links.old) (L.table links.new) s }
     {
         let front = self.first()?;
-        let behind = K::next(&*links, front, None);
-        self.unlink(links, None, front, behind);
+        let after = K::next(&*links, front, None);
+        self.unlink(links, None, front, after);
         Some(UnsafeRef::new(front))
     }
 
-    // The last member, after which `behind` is to stand: as it is kept, or found by a walk, unless nothing is to stand there.
+    // The last member, which gets `after` after it: as the list stores it, or found by a walk. If `after` is `None`, no
+    // walk is made.
     #[inline]
-    pub(crate) fn last_before<L: LinkOps>(&self, links: &L, behind: Option<Place>) -> Option<Place>
+    pub(crate) fn last_before<L: LinkOps>(&self, links: &L, after: Option<Place>) -> Option<Place>
     where
         K: ForwardLinks<L>,
         requires { RepresentsSomeChain K.Between K.kept (L.table links.now) self.now }
-        ensures { (s : List Place) → RepresentsChain K.Between K.kept (L.table links.now) self.now s → KnowsLast K.keeps_last result behind (last s) }
+        ensures { (s : List Place) → RepresentsChain K.Between K.kept (L.table links.now) self.now s → KnowsLast K.keeps_last result after (last s) }
     {
         if K::keeps_last() {
             return self.kept_last();
         }
-        behind?;
+        after?;
         last_from::<K, L>(links, self.first()?)
     }
 
-    // Puts the object where the member `out` is, between the same neighbors, and unlinks that one. Answers whether its link was acquired.
+    // Links the object instead of the member `out`, between the same neighbors, and unlinks `out`. Returns whether the object's link was
+    // acquired.
     #[inline]
     pub(crate) fn replace<L: LinkOps>(
         &mut self,
@@ -203,94 +207,95 @@ impl<K: ListKind, T> Chain<K, T> {
         before: Option<Place>,
         out: Place,
         object: Place,
-        behind: Option<Place>,
+        after: Option<Place>,
     ) -> bool
     where
         K: ForwardLinks<L>,
         requires covered { IsCovered (L.table links.old) object }
         requires shown { (front back : List Place) × RepresentsChain K.Between K.kept (L.table links.old) self.old (front ++ out ∷ back)
-            × (before ≡ last front) × (behind ≡ first back) }
+            × (before ≡ last front) × (after ≡ first back) }
         ensures replaced { (front back : List Place) → RepresentsChain K.Between K.kept (L.table links.old) self.old (front ++ out ∷ back)
-            → before ≡ last front → behind ≡ first back
+            → before ≡ last front → after ≡ first back
             → OnTrue result (RepresentsChain K.Between K.kept (L.table links.new) self.new (front ++ object ∷ back)) }
         ensures exchanged { OnTrue result (L.Trace links.old links.new (acquires object ∷ releases out ∷ [])) }
         ensures refused { OnFalse result (L.Refused links.old links.new object) }
         ensures unchanged { OnFalse result (self.new ≡ self.old) }
         ensures frame { (front back : List Place) → RepresentsChain K.Between K.kept (L.table links.old) self.old (front ++ out ∷ back)
-            → before ≡ last front → behind ≡ first back
+            → before ≡ last front → after ≡ first back
             → OnTrue result (ChangesOnlyIn (L.table links.old) (L.table links.new) (object ∷ front ++ out ∷ back)) }
     {
         if !links.acquire_link(object) {
             return false;
         }
-        self.replace_linked(links, before, out, object, behind);
+        self.replace_linked(links, before, out, object, after);
         links.release_link(out);
         true
     }
 
-    // Takes the member out from between its two neighbors and unlinks it.
+    // Removes the member from between its two neighbors and unlinks it.
     #[inline]
     pub(crate) fn unlink<L: LinkOps>(
         &mut self,
         links: &mut L,
         before: Option<Place>,
         place: Place,
-        behind: Option<Place>,
+        after: Option<Place>,
     )
     where
         K: ForwardLinks<L>,
         requires shown { (front back : List Place) × RepresentsChain K.Between K.kept (L.table links.old) self.old (front ++ place ∷ back)
-            × (before ≡ last front) × (behind ≡ first back) }
+            × (before ≡ last front) × (after ≡ first back) }
         ensures removed { (front back : List Place) → RepresentsChain K.Between K.kept (L.table links.old) self.old (front ++ place ∷ back)
-            → before ≡ last front → behind ≡ first back
+            → before ≡ last front → after ≡ first back
             → RepresentsChain K.Between K.kept (L.table links.new) self.new (front ++ back) }
         ensures released { L.Trace links.old links.new (releases place ∷ []) }
         ensures frame { (front back : List Place) → RepresentsChain K.Between K.kept (L.table links.old) self.old (front ++ place ∷ back)
-            → before ≡ last front → behind ≡ first back
+            → before ≡ last front → after ≡ first back
             → ChangesOnlyIn (L.table links.old) (L.table links.new) (front ++ place ∷ back) }
     {
-        self.bypass(links, before, place, behind);
+        self.bypass(links, before, place, after);
         links.release_link(place);
     }
 
-    /// Puts the place into the gap between two neighbors, and returns whether its link was acquired. O(1), and it takes no memory.
+    /// Inserts the place into the gap between two neighbors, and returns whether its link was acquired. O(1), and it takes no
+    /// memory.
     ///
-    /// It requires that the place is covered, and that the neighbors stand beside one gap, `None` beyond an end. Where its link is refused
-    /// the list is as it was.
+    /// It requires that the place is covered, and that the neighbors are on both sides of one gap, `None` beyond an end. If the link is
+    /// refused, the list is as it was.
     #[inline]
     pub fn insert_between<L: LinkOps>(
         &mut self,
         links: &mut L,
         before: Option<Place>,
         place: Place,
-        behind: Option<Place>,
+        after: Option<Place>,
     ) -> bool
     where
         K: ForwardLinks<L>,
         requires covered { IsCovered (L.table links.old) place }
         requires shown { (gap : Cut) × RepresentsChain K.Between K.kept (L.table links.old) self.old (join gap)
-            × IsAfter gap before × IsBefore gap behind }
+            × IsAfter gap before × IsBefore gap after }
         ensures inserted { (gap : Cut) → RepresentsChain K.Between K.kept (L.table links.old) self.old (join gap)
-            → IsAfter gap before → IsBefore gap behind → OnTrue result (Inserts (RepresentsChain K.Between K.kept)
+            → IsAfter gap before → IsBefore gap after → OnTrue result (Inserts (RepresentsChain K.Between K.kept)
             (L.table links.old) (L.table links.new) self.new gap place) }
         ensures acquired { OnTrue result (L.Trace links.old links.new (acquires place ∷ [])) }
         ensures refused { OnFalse result (L.Refused links.old links.new place) }
         ensures unchanged { OnFalse result (self.new ≡ self.old) }
         ensures frame { (gap : Cut) → RepresentsChain K.Between K.kept (L.table links.old) self.old (join gap)
-            → IsAfter gap before → IsBefore gap behind
+            → IsAfter gap before → IsBefore gap after
             → ChangesOnlyIn (L.table links.old) (L.table links.new) (place ∷ join gap) }
     {
-        if !K::link_between(links, place, before, behind) {
+        if !K::link_between(links, place, before, after) {
             return false;
         }
         let inserted = Some(place);
-        set_next_or_head::<K, L>(links, &mut self.head, before, behind, inserted);
-        set_prev_or_tail::<K, L>(links, &mut self.tail, behind, before, inserted);
+        set_next_or_head::<K, L>(links, &mut self.head, before, after, inserted);
+        set_prev_or_tail::<K, L>(links, &mut self.tail, after, before, inserted);
         true
     }
 }
 
-// The calls of lists that keep their last member.
+// The calls of lists that store their last member.
 impl<K: DoubleEnded, T> Chain<K, T> {
     /// The last member, `None` in an empty list. It reads no links. O(1).
     #[inline]
@@ -300,7 +305,7 @@ impl<K: DoubleEnded, T> Chain<K, T> {
         self.kept_last()
     }
 
-    // The last member, as a cursor comes to it from null, once a round. Called and not inlined.
+    // The last member, for a cursor that moves from null. This happens once a round, so the call is not inlined.
     #[cold]
     #[inline(never)]
     pub(crate) fn last_from_null(&self) -> Option<Place>
@@ -309,10 +314,10 @@ impl<K: DoubleEnded, T> Chain<K, T> {
         self.last()
     }
 
-    /// Puts the object at the back of the list, unless its link is refused. O(1), and it takes no memory.
+    /// Inserts the object at the back of the list, unless its link is refused. O(1), and it takes no memory.
     ///
-    /// It requires that the object's place is covered. A refused object comes back, and the list is as it was: over a plain
-    /// table that is so exactly if the object is linked in this field.
+    /// It requires that the object's place is covered. If the link is refused, the object is returned and the list is as it
+    /// was. A plain table refuses the link exactly if the object is linked in this field.
     #[inline]
     pub fn push_back<L: LinkOps>(
         &mut self,
@@ -339,7 +344,7 @@ impl<K: DoubleEnded, T> Chain<K, T> {
         Ok(())
     }
 
-    /// Takes the object at the back off the list and returns it, or `None` if the list is empty. O(1).
+    /// Removes the object at the back of the list and returns it, or `None` if the list is empty. O(1).
     #[inline]
     pub fn pop_back<L: LinkOps>(&mut self, links: &mut L) -> Option<UnsafeRef<T>>
     where
@@ -361,43 +366,44 @@ impl<K: DoubleEnded, T> Chain<K, T> {
     }
 }
 
-// The layer under the calls above, for who keeps lists in words of his own and tests them himself: none of these requires that
-// the table represents a sequence.
+// The layer under the calls above, for callers who store lists in words of their own and test them themselves: none of these
+// calls requires that the table represents a sequence.
 impl<K: ListKind, T> Chain<K, T> {
-    /// Puts a place that is linked already between two neighbors. O(1).
+    /// Inserts a place that is linked already between two neighbors. O(1).
     ///
-    /// It requires only that the places which it writes are linked: this one, and the neighbors that there are.
+    /// It requires only that the places which it writes are linked: this one, and those neighbors that are not `None`.
     #[inline]
     pub fn insert_linked<L: LinkOps>(
         &mut self,
         links: &mut L,
         before: Option<Place>,
         place: Place,
-        behind: Option<Place>,
+        after: Option<Place>,
     )
     where
         K: ForwardLinks<L>,
         requires held { IsLinked L.linked (L.table links.old) place }
         requires before { (q : Place) → before ≡ Some q → IsLinked L.linked (L.table links.old) q }
-        requires behind { K.NamesPrev → (q : Place) → behind ≡ Some q → IsLinked L.linked (L.table links.old) q }
-        requires next { IsNameable L.CanName behind }
+        requires after { K.NamesPrev → (q : Place) → after ≡ Some q → IsLinked L.linked (L.table links.old) q }
+        requires next { IsNameable L.CanName after }
         ensures shows { (front back : List Place) → RepresentsChain K.Between K.kept (L.table links.old) self.old (front ++ back)
-            → before ≡ last front → behind ≡ first back → IsAbsent place (front ++ back)
+            → before ≡ last front → after ≡ first back → IsAbsent place (front ++ back)
             → RepresentsChain K.Between K.kept (L.table links.new) self.new (front ++ place ∷ back) }
-        ensures ends { TurnsEnds K.kept self.old self.new before behind (Some place) (Some place) }
+        ensures ends { TurnsEnds K.kept self.old self.new before after (Some place) (Some place) }
         ensures trace_stays { L.Trace links.old links.new [] }
         ensures extent { (L.table links.new).extent ≡ (L.table links.old).extent }
-        ensures others { (q : Place) → before ≢ Some q → q ≢ place → (K.NamesPrev → behind ≢ Some q)
+        ensures others { (q : Place) → before ≢ Some q → q ≢ place → (K.NamesPrev → after ≢ Some q)
             → (L.table links.new).entry q ≡ (L.table links.old).entry q }
     {
-        set_next_or_head::<K, L>(links, &mut self.head, before, behind, Some(place));
-        set_prev_or_tail::<K, L>(links, &mut self.tail, behind, before, Some(place));
-        K::set_neighbors(links, place, before, behind);
+        set_next_or_head::<K, L>(links, &mut self.head, before, after, Some(place));
+        set_prev_or_tail::<K, L>(links, &mut self.tail, after, before, Some(place));
+        K::set_neighbors(links, place, before, after);
     }
 
-    /// Puts a place that is linked already where the member `out` is, between the same neighbors. O(1).
+    /// Replaces the member `out` by a place that is linked already, between the same neighbors. O(1).
     ///
-    /// It requires only that the places which it writes are linked: this one, and the neighbors that there are. The member stays linked.
+    /// It requires only that the places which it writes are linked: this one, and those neighbors that are not `None`. The member stays
+    /// linked.
     #[inline]
     pub fn replace_linked<L: LinkOps>(
         &mut self,
@@ -405,64 +411,65 @@ impl<K: ListKind, T> Chain<K, T> {
         before: Option<Place>,
         out: Place,
         place: Place,
-        behind: Option<Place>,
+        after: Option<Place>,
     )
     where
         K: ForwardLinks<L>,
         requires held { IsLinked L.linked (L.table links.old) place }
         requires before { (q : Place) → before ≡ Some q → IsLinked L.linked (L.table links.old) q }
-        requires behind { K.NamesPrev → (q : Place) → behind ≡ Some q → IsLinked L.linked (L.table links.old) q }
-        requires next { IsNameable L.CanName behind }
+        requires after { K.NamesPrev → (q : Place) → after ≡ Some q → IsLinked L.linked (L.table links.old) q }
+        requires next { IsNameable L.CanName after }
         requires out { IsNameable L.CanName (Some out) }
         ensures shows { (front back : List Place) → RepresentsChain K.Between K.kept (L.table links.old) self.old (front ++ out ∷ back)
-            → before ≡ last front → behind ≡ first back → IsAbsent place (front ++ out ∷ back)
+            → before ≡ last front → after ≡ first back → IsAbsent place (front ++ out ∷ back)
             → RepresentsChain K.Between K.kept (L.table links.new) self.new (front ++ place ∷ back) }
-        ensures ends { TurnsEnds K.kept self.old self.new before behind (Some place) (Some place) }
+        ensures ends { TurnsEnds K.kept self.old self.new before after (Some place) (Some place) }
         ensures trace_stays { L.Trace links.old links.new [] }
         ensures extent { (L.table links.new).extent ≡ (L.table links.old).extent }
-        ensures others { (q : Place) → before ≢ Some q → q ≢ place → (K.NamesPrev → behind ≢ Some q)
+        ensures others { (q : Place) → before ≢ Some q → q ≢ place → (K.NamesPrev → after ≢ Some q)
             → (L.table links.new).entry q ≡ (L.table links.old).entry q }
     {
         set_next_or_head::<K, L>(links, &mut self.head, before, Some(out), Some(place));
-        set_prev_or_tail::<K, L>(links, &mut self.tail, behind, Some(out), Some(place));
-        K::set_neighbors(links, place, before, behind);
+        set_prev_or_tail::<K, L>(links, &mut self.tail, after, Some(out), Some(place));
+        K::set_neighbors(links, place, before, after);
     }
 
-    /// Takes the member `out` out from between its two neighbors. O(1).
+    /// Removes the member `out` from between its two neighbors. O(1).
     ///
-    /// It requires only that both are linked, where they are places. They, or an end where there is none, are turned to each other. The member
-    /// stays linked: unlink it by the table's `release_link`.
+    /// It requires only that the neighbors that are not `None` are linked. Each neighbor then names the other one; instead of a neighbor that
+    /// is `None`, the list's end is set. The member stays linked: unlink it by the table's `release_link`.
     #[inline]
     pub fn bypass<L: LinkOps>(
         &mut self,
         links: &mut L,
         before: Option<Place>,
         out: Place,
-        behind: Option<Place>,
+        after: Option<Place>,
     )
     where
         K: ForwardLinks<L>,
         requires before { (q : Place) → before ≡ Some q → IsLinked L.linked (L.table links.old) q }
-        requires behind { K.NamesPrev → (q : Place) → behind ≡ Some q → IsLinked L.linked (L.table links.old) q }
-        requires next { IsNameable L.CanName behind }
+        requires after { K.NamesPrev → (q : Place) → after ≡ Some q → IsLinked L.linked (L.table links.old) q }
+        requires next { IsNameable L.CanName after }
         requires out { IsNameable L.CanName (Some out) }
         ensures shows { (front back : List Place) → RepresentsChain K.Between K.kept (L.table links.old) self.old (front ++ out ∷ back)
-            → before ≡ last front → behind ≡ first back
+            → before ≡ last front → after ≡ first back
             → RepresentsChain K.Between K.kept (L.table links.new) self.new (front ++ back) }
-        ensures ends { TurnsEnds K.kept self.old self.new before behind behind before }
+        ensures ends { TurnsEnds K.kept self.old self.new before after after before }
         ensures trace_stays { L.Trace links.old links.new [] }
         ensures extent { (L.table links.new).extent ≡ (L.table links.old).extent }
-        ensures others { (q : Place) → before ≢ Some q → (K.NamesPrev → behind ≢ Some q)
+        ensures others { (q : Place) → before ≢ Some q → (K.NamesPrev → after ≢ Some q)
             → (L.table links.new).entry q ≡ (L.table links.old).entry q }
     {
-        set_next_or_head::<K, L>(links, &mut self.head, before, Some(out), behind);
-        set_prev_or_tail::<K, L>(links, &mut self.tail, behind, Some(out), before);
+        set_next_or_head::<K, L>(links, &mut self.head, before, Some(out), after);
+        set_prev_or_tail::<K, L>(links, &mut self.tail, after, Some(out), before);
     }
 
-    /// Puts all of the given list, whose last member is `end`, between two neighbors. O(1). An empty list changes nothing.
+    /// Inserts all members of the given list, whose last member is `end`, between two neighbors. O(1). An empty list
+    /// changes nothing.
     ///
-    /// It requires only that the places which it writes are linked: both neighbors and both ends of the given list, where they are places. Where
-    /// the kind keeps no last member and nothing stands after, `end` can be `None`.
+    /// It requires only that the places which it writes are linked: both neighbors and both ends of the given list, as far as they are not
+    /// `None`. If the kind does not store the last member and there is no neighbor after, `end` can be `None`.
     #[inline]
     pub fn splice_between<L: LinkOps>(
         &mut self,
@@ -470,67 +477,68 @@ impl<K: ListKind, T> Chain<K, T> {
         before: Option<Place>,
         given: Chain<K, T>,
         end: Option<Place>,
-        behind: Option<Place>,
+        after: Option<Place>,
     )
     where
         K: ForwardLinks<L>,
         requires before { (q : Place) → before ≡ Some q → IsLinked L.linked (L.table links.old) q }
-        requires behind { K.NamesPrev → (q : Place) → behind ≡ Some q → IsLinked L.linked (L.table links.old) q }
-        requires next { IsNameable L.CanName behind }
+        requires after { K.NamesPrev → (q : Place) → after ≡ Some q → IsLinked L.linked (L.table links.old) q }
+        requires next { IsNameable L.CanName after }
         requires given { IsNameable L.CanName given.head }
         requires first { K.NamesPrev → (q : Place) → given.head ≡ Some q → IsLinked L.linked (L.table links.old) q }
         requires end { (q : Place) → end ≡ Some q → IsLinked L.linked (L.table links.old) q }
         ensures spliced { (gap : Cut) (t : List Place) → RepresentsChain K.Between K.kept (L.table links.old) self.old (join gap)
-            → IsAfter gap before → IsBefore gap behind → RepresentsChain K.Between K.kept (L.table links.old) given t
-            → KnowsLast K.keeps_last end behind (last t) → IsDisjoint t (join gap) → Splices (RepresentsChain K.Between K.kept)
+            → IsAfter gap before → IsBefore gap after → RepresentsChain K.Between K.kept (L.table links.old) given t
+            → KnowsLast K.keeps_last end after (last t) → IsDisjoint t (join gap) → Splices (RepresentsChain K.Between K.kept)
             (L.table links.old) (L.table links.new) self.new gap t }
         ensures nothing { given.head ≡ None → (self.new ≡ self.old) × (links.new ≡ links.old) }
-        ensures ends { (first : Place) → given.head ≡ Some first → TurnsEnds K.kept self.old self.new before behind (Some first) end }
+        ensures ends { (first : Place) → given.head ≡ Some first → TurnsEnds K.kept self.old self.new before after (Some first) end }
         ensures trace_stays { L.Trace links.old links.new [] }
         ensures extent { (L.table links.new).extent ≡ (L.table links.old).extent }
-        ensures others { (q : Place) → before ≢ Some q → (K.NamesPrev → behind ≢ Some q) → (K.NamesPrev → given.head ≢ Some q)
+        ensures others { (q : Place) → before ≢ Some q → (K.NamesPrev → after ≢ Some q) → (K.NamesPrev → given.head ≢ Some q)
             → end ≢ Some q → (L.table links.new).entry q ≡ (L.table links.old).entry q }
     {
         let Some(first) = given.first() else {
             return;
         };
-        set_next_or_head::<K, L>(links, &mut self.head, before, behind, Some(first));
-        set_prev_or_tail::<K, L>(links, &mut self.tail, behind, before, end);
+        set_next_or_head::<K, L>(links, &mut self.head, before, after, Some(first));
+        set_prev_or_tail::<K, L>(links, &mut self.tail, after, before, end);
         K::set_prev(links, first, None, before);
         match end {
-            Some(end) => K::set_next(links, end, None, behind),
+            Some(end) => K::set_next(links, end, None, after),
             None => {}
         }
     }
 
-    /// Cuts the list between two neighbors: it keeps what is before the cut, and the rest is handed out. O(1).
+    /// Cuts the list between two neighbors: the list keeps the members before the cut, and the rest are returned as a
+    /// list. O(1).
     ///
-    /// It requires only that both are linked, where they are places.
+    /// It requires only that the neighbors that are not `None` are linked.
     #[inline]
     pub fn split_between<L: LinkOps>(
         &mut self,
         links: &mut L,
         before: Option<Place>,
-        behind: Option<Place>,
+        after: Option<Place>,
     ) -> Chain<K, T>
     where
         K: ForwardLinks<L>,
         requires before { (q : Place) → before ≡ Some q → IsLinked L.linked (L.table links.old) q }
-        requires behind { K.NamesPrev → (q : Place) → behind ≡ Some q → IsLinked L.linked (L.table links.old) q }
-        requires next { IsNameable L.CanName behind }
+        requires after { K.NamesPrev → (q : Place) → after ≡ Some q → IsLinked L.linked (L.table links.old) q }
+        requires next { IsNameable L.CanName after }
         ensures split { (gap : Cut) → RepresentsChain K.Between K.kept (L.table links.old) self.old (join gap)
-            → IsAfter gap before → IsBefore gap behind → Splits (RepresentsChain K.Between K.kept)
+            → IsAfter gap before → IsBefore gap after → Splits (RepresentsChain K.Between K.kept)
             (L.table links.old) (L.table links.new) self.new result gap.front gap.back }
-        ensures ends { SplitsEnds K.kept self.old self.new result before behind }
+        ensures ends { SplitsEnds K.kept self.old self.new result before after }
         ensures trace_stays { L.Trace links.old links.new [] }
         ensures extent { (L.table links.new).extent ≡ (L.table links.old).extent }
-        ensures others { (q : Place) → before ≢ Some q → (K.NamesPrev → behind ≢ Some q)
+        ensures others { (q : Place) → before ≢ Some q → (K.NamesPrev → after ≢ Some q)
             → (L.table links.new).entry q ≡ (L.table links.old).entry q }
     {
-        set_next_or_head::<K, L>(links, &mut self.head, before, behind, None);
-        set_prev_or_tail::<K, L>(links, &mut self.tail, behind, before, None);
+        set_next_or_head::<K, L>(links, &mut self.head, before, after, None);
+        set_prev_or_tail::<K, L>(links, &mut self.tail, after, before, None);
         Chain {
-            head: PlaceWord::of(behind),
+            head: PlaceWord::of(after),
             tail: mem::replace(&mut self.tail, K::keep(before)),
             of: PhantomData,
             kind: PhantomData,

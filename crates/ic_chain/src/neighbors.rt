@@ -1,4 +1,4 @@
-//! What writes a neighbor, or an end of the list where there is none; and what finds the last member.
+//! Functions that set a neighbor, or an end of the list if there is no neighbor, and one that finds the last member.
 
 ghost use Rattle.std.specs.Prelude.{◌≡◌, ◌≢◌, Option, Some, None, List, []};
 ghost use Rattle.ic_link_ops.specs.Prelude.{Place, last, IsLinked, IsNameable};
@@ -9,7 +9,7 @@ use crate::kind::ForwardLinks;
 use ic_link_ops::{LinkOps, PlaceWord};
 use ic_unsafe_ref::Place;
 
-/// After `place` stands `next` now, where `from` stood. Where there is no such place, `next` is the list's head.
+/// Sets the place after `place` to `next`; it was `from`. If `place` is `None`, `next` becomes the list's first member.
 #[inline]
 pub(crate) fn set_next_or_head<K: ForwardLinks<L>, L: LinkOps>(
     links: &mut L,
@@ -32,7 +32,7 @@ pub(crate) fn set_next_or_head<K: ForwardLinks<L>, L: LinkOps>(
     }
 }
 
-/// Before `place` stands `prev` now, where `from` stood. Where there is no such place, `prev` is the list's last member.
+/// Sets the place before `place` to `prev`; it was `from`. If `place` is `None`, `prev` becomes the list's last member.
 #[inline]
 pub(crate) fn set_prev_or_tail<K: ForwardLinks<L>, L: LinkOps>(
     links: &mut L,
@@ -56,7 +56,7 @@ pub(crate) fn set_prev_or_tail<K: ForwardLinks<L>, L: LinkOps>(
     }
 }
 
-/// The last member of a list with this first one. One reading for each member.
+/// The last member of the list with this first member. One reading for each member.
 pub(crate) fn last_from<K: ForwardLinks<L>, L: LinkOps>(links: &L, first: Place) -> Option<Place>
     requires rest { (s : List Place) × IsStretch K.Between (L.table links.now).entry None (Some first) (last s) None s }
     ensures { (s : List Place) → IsStretch K.Between (L.table links.now).entry None (Some first) (last s) None s → result ≡ last s }

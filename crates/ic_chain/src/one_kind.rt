@@ -1,4 +1,4 @@
-//! Calls of some kinds alone, and lists that are made of kept words.
+//! Calls of some kinds alone.
 
 ghost use Rattle.std.specs.Prelude.{◌≡◌, ◌++◌, ◌∷◌, List, []};
 ghost use Rattle.ic_link_ops.specs.Prelude.{Place, IsLinked, ChangesOnlyIn, HasMember, releases};
@@ -10,7 +10,7 @@ use ic_link_ops::LinkOps;
 use ic_unsafe_ref::{Place, UnsafeRef};
 
 impl<K: ListKind, T> Chain<K, T> {
-    /// Takes the object, which has to be a member, off the list. O(1).
+    /// Removes the object, which has to be a member, from the list. O(1).
     ///
     /// The other members stay in their order, and so does every other list of the table.
     #[inline]
@@ -26,15 +26,15 @@ impl<K: ListKind, T> Chain<K, T> {
     {
         let place = object.place();
         let before = K::prev(&*links, place, None);
-        let behind = K::next(&*links, place, before);
-        self.unlink(links, before, place, behind);
+        let after = K::next(&*links, place, before);
+        self.unlink(links, before, place, after);
     }
 }
 
 impl<K: DoubleEnded, T> Chain<K, T> {
-    /// Puts the object, which has to be a member, after all others. O(1), and it takes no memory.
+    /// Moves the object, which has to be a member, after all others. O(1), and it takes no memory.
     ///
-    /// The others keep their order. The object stays linked, so that no table can refuse it, and no other thread sees it unlinked.
+    /// The others keep their order. The object stays linked, so no table can refuse it, and no other thread sees it unlinked.
     #[inline]
     pub fn move_to_back<L: LinkOps>(&mut self, links: &mut L, object: &UnsafeRef<T>)
     where
@@ -52,9 +52,9 @@ impl<K: DoubleEnded, T> Chain<K, T> {
         self.insert_linked(links, last, place, None);
     }
 
-    /// Puts the object, which has to be a member, before all others. O(1), and it takes no memory.
+    /// Moves the object, which has to be a member, before all others. O(1), and it takes no memory.
     ///
-    /// The others keep their order, and the object stays linked, as by [`Chain::move_to_back`].
+    /// The others keep their order, and the object stays linked, as in [`Chain::move_to_back`].
     #[inline]
     pub fn move_to_front<L: LinkOps>(&mut self, links: &mut L, object: &UnsafeRef<T>)
     where
@@ -72,7 +72,7 @@ impl<K: DoubleEnded, T> Chain<K, T> {
         self.insert_linked(links, None, place, first);
     }
 
-    // Takes the member out from between its neighbors. It stays linked.
+    // Removes the member from between its neighbors. It stays linked.
     #[inline]
     fn detach<L: LinkOps>(&mut self, links: &mut L, place: Place)
     where
@@ -86,13 +86,13 @@ impl<K: DoubleEnded, T> Chain<K, T> {
             → ChangesOnlyIn (L.table links.old) (L.table links.new) s }
     {
         let before = K::prev(&*links, place, None);
-        let behind = K::next(&*links, place, before);
-        self.bypass(links, before, place, behind);
+        let after = K::next(&*links, place, before);
+        self.bypass(links, before, place, after);
     }
 }
 
 impl<K: Reversible, T> Chain<K, T> {
-    /// Turns the list round. O(1): its two ends change places, and no entry is written.
+    /// Reverses the list. O(1): its two ends are exchanged, and no entry is written.
     #[inline]
     pub fn reverse(&mut self)
         ensures { self.new ≡ list_head (K.kept_last self.old.tail) (K.kept self.old.head) }

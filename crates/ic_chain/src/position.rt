@@ -1,4 +1,4 @@
-//! What a cursor keeps of a position: the member that it is on, and what its kind needs beside.
+//! What a cursor stores of a position: the member that it is on, and what its kind needs besides.
 //!
 //! ```text
 //! let at: K::Position = ListPosition::of(Some(place), next);
@@ -12,26 +12,26 @@ use ic_cursors::Position;
 use ic_link_ops::PlaceWord;
 use ic_unsafe_ref::Place;
 
-/// A position, and what is kept in it of the place after it.
+/// A position, and what it stores about the place after it.
 pub trait ListPosition: Position {
-    // What is kept may stand for this place after it.
+    // What the position stores is right if this is the place after it.
     ghost CachesNext: { Self → Option Place → Type 0 };
 
-    // Null.
+    // The position at null.
     ghost null: { Self };
 
-    /// Null.
+    /// The position at null.
     fn null() -> Self
         ensures null { result ≡ null }
         ensures on { Self.member result ≡ None };
 
-    /// On this place, `None` for null, with that place after it.
+    /// The position on this place, `None` for null, with that place after it.
     fn of(current: Option<Place>, next: Option<Place>) -> Self
         ensures on { Self.member result ≡ current }
         ensures caches { CachesNext result next };
 }
 
-// The place alone, of which the entry tells what stands after.
+// A position that stores its place alone, since the entry names the place after.
 impl ListPosition for PlaceWord {
     ghost CachesNext = { λ at next. ⊤ };
 

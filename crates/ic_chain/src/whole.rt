@@ -35,9 +35,9 @@ impl<K: ListKind, T> Chain<K, T> {
         false
     }
 
-    /// Takes all objects off the list: each member is unlinked, and the list is empty.
+    /// Removes all objects from the list: each member is unlinked, and the list is empty.
     ///
-    /// One step for each member, and no memory. Lists that share no member with this one stay.
+    /// One step for each member, and no memory. Lists that share no member with this one stay as they are. O(n).
     pub fn clear<L: LinkOps>(&mut self, links: &mut L)
     where
         K: ForwardLinks<L>,
@@ -59,7 +59,7 @@ impl<K: ListKind, T> Chain<K, T> {
         }
     }
 
-    /// Takes all objects off a list that is given up. What [`clear`](Self::clear) says of the table holds here as well.
+    /// Removes all objects from a list and consumes the list. The table changes as in [`clear`](Self::clear). O(n).
     pub fn dispose<L: LinkOps>(self, links: &mut L)
     where
         K: ForwardLinks<L>,
@@ -76,8 +76,8 @@ impl<K: ListKind, T> Chain<K, T> {
 
     /// Empties the list, and leaves the objects that were in it linked. O(1): it reads no table.
     ///
-    /// A linked object goes into no list, until the table is made to forget its link, by the call `force_unlink` of a
-    /// plain one.
+    /// The objects stay linked, so no list accepts them until the table unlinks them. For a plain table, `force_unlink`
+    /// does this.
     #[inline]
     pub fn fast_clear(&mut self)
         ensures empty { self.new ≡ empty_list K.kept }
@@ -85,7 +85,7 @@ impl<K: ListKind, T> Chain<K, T> {
         let _ = self.take();
     }
 
-    /// Hands out all of the list, and leaves it empty. O(1): it reads no table, and no link changes.
+    /// Returns all of the list, and leaves it empty. O(1): it reads no table, and no link changes.
     #[inline]
     pub fn take(&mut self) -> Chain<K, T>
         ensures whole { result ≡ self.old }

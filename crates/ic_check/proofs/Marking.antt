@@ -122,32 +122,32 @@ marks_none {s} {marks} e k = record {
 module _ {s : List Place} {old marks : List Bool} {current : Option Place} {left : ℕ} (m : Marks s old marks current left) where
   -- THE MEMBER that it has come to, and what is after
   pub record Here (p : Place) : Type 0 where
-    pub behind : List Place
-    pub rest_is : m.rest ≡ p ∷ behind
-    pub is : s ≡ m.front ++ p ∷ behind
+    pub after : List Place
+    pub rest_is : m.rest ≡ p ∷ after
+    pub is : s ≡ m.front ++ p ∷ after
 
   pub here : {p : Place} → current ≡ Some p → Here p
   here {p} e =
       let r = first_is m.rest (sym e ∙ m.leads) in
-      record { behind = _; rest_is = r; is = m.is ∙ ap (λ (l : List Place). m.front ++ l) r }
+      record { after = _; rest_is = r; is = m.is ∙ ap (λ (l : List Place). m.front ++ l) r }
 
   -- it was marked before
   pub marks_met : {p : Place} → current ≡ Some p → is_marked marks p ≡ true → IsDistinct s → AreUnmarked old s → ⊥
   marks_met {p} e met distinct free =
       let k = here e in
-      let out = absent_left p m.front k.behind (distinct_middle m.front k.behind p (subst IsDistinct k.is distinct)) in
-      let was = (unmarked_back old m.front (p ∷ k.behind) (subst (AreUnmarked old) k.is free)).0 in
+      let out = absent_left p m.front k.after (distinct_middle m.front k.after p (subst IsDistinct k.is distinct)) in
+      let was = (unmarked_back old m.front (p ∷ k.after) (subst (AreUnmarked old) k.is free)).0 in
       true≢false (sym met ∙ m.also.others p out ∙ was)
 
   -- it was not, and is now
-  pub marks_more : {p : Place} {next : Option Place} {i fewer : ℕ} (e : current ≡ Some p) → is_marked marks p ≡ false → i ≡ index_of p → i < length marks → next ≡ first (here e).behind
+  pub marks_more : {p : Place} {next : Option Place} {i fewer : ℕ} (e : current ≡ Some p) → is_marked marks p ≡ false → i ≡ index_of p → i < length marks → next ≡ first (here e).after
       → left ≡ fewer + 1 → Marks s old (slice_set marks i true) next fewer
   marks_more {p} {next} {i} {fewer} e free at few leads counts =
       let k = here e in
       record {
         front = m.front ++ p ∷ [];
-        rest = k.behind;
-        is = k.is ∙ sym (append_assoc m.front (p ∷ []) k.behind);
+        rest = k.after;
+        is = k.is ∙ sym (append_assoc m.front (p ∷ []) k.after);
         leads = leads;
         counted = omega (arith, counts, m.counted, ap length k.rest_is);
         free = unmarked_both old m.front (p ∷ []) m.free (unmarked_before m.also (p ∷ []) (free, tt));

@@ -22,14 +22,14 @@ module _ {V K : Type 0} (cmp : K → K → Ordering) (key : V → K) where
   Rise s = IsSorted cmp (map key s)
 
   -- one walk is a value after the other, and all are sorted exactly if what it has left is
-  pub record GoesOn (all behind left : List V) : Type 0 where
+  pub record GoesOn (all after left : List V) : Type 0 where
     pub value : V
-    pub is : behind ≡ value ∷ left
-    pub down : Rise all → Rise behind
-    pub up : Rise behind → Rise all
+    pub is : after ≡ value ∷ left
+    pub down : Rise all → Rise after
+    pub up : Rise after → Rise all
 
-  pub goes : {all behind left : List V} {value : V} → behind ≡ all → all ≡ value ∷ left → GoesOn all behind left
-  goes {all} {behind} {left} {value} same is = record { value = value; is = same ∙ is; down = subst Rise (sym same); up = subst Rise same }
+  pub goes : {all after left : List V} {value : V} → after ≡ all → all ≡ value ∷ left → GoesOn all after left
+  goes {all} {after} {left} {value} same is = record { value = value; is = same ∙ is; down = subst Rise (sym same); up = subst Rise same }
 
   rest_same : {x y : V} {s t : List V} → x ∷ s ≡ y ∷ t → s ≡ t
   rest_same e = cc
@@ -37,8 +37,8 @@ module _ {V K : Type 0} (cmp : K → K → Ordering) (key : V → K) where
   first_same : {x y : V} {s t : List V} → x ∷ s ≡ y ∷ t → x ≡ y
   first_same e = cc
 
-  module _ {all behind left rest others : List V} {last value : V} (g : GoesOn all behind left) (is : left ≡ value ∷ rest) (was : behind ≡ last ∷ others) where
-    both : behind ≡ last ∷ value ∷ rest
+  module _ {all after left rest others : List V} {last value : V} (g : GoesOn all after left) (is : left ≡ value ∷ rest) (was : after ≡ last ∷ others) where
+    both : after ≡ last ∷ value ∷ rest
     both = was ∙ ap (λ (s : List V). last ∷ s) (rest_same (sym was ∙ g.is) ∙ is)
 
     -- ONE VALUE MORE that is not less
@@ -57,8 +57,8 @@ module _ {V K : Type 0} (cmp : K → K → Ordering) (key : V → K) where
     goes_down falls h = (subst Rise both (g.down h)).0 falls
 
   -- the end
-  pub goes_through : {all behind left : List V} → GoesOn all behind left → left ≡ [] → Rise all
-  goes_through {all} {behind} {left} g over = let one : behind ≡ g.value ∷ [] = g.is ∙ ap (λ (s : List V). g.value ∷ s) over in g.up (subst Rise (sym one) tt)
+  pub goes_through : {all after left : List V} → GoesOn all after left → left ≡ [] → Rise all
+  goes_through {all} {after} {left} g over = let one : after ≡ g.value ∷ [] = g.is ∙ ap (λ (s : List V). g.value ∷ s) over in g.up (subst Rise (sym one) tt)
 
-  pub goes_always : {all behind left : List V} → GoesOn all behind left → behind ≡ [] → ⊥
+  pub goes_always : {all after left : List V} → GoesOn all after left → after ≡ [] → ⊥
   goes_always g over = let e = sym g.is ∙ over in absurd (cc)

@@ -24,17 +24,17 @@ module _ {E : Type 0} (n : E → Node) {t : Table E} {root : Option Place} where
       (λ p off. absent_left p m.front m.rest (subst (IsAbsent p) m.is (free_absent h (alike (t.entry p) ∙ off))))
 
   module _ {s : List Place} {old marks : List Bool} {current : Option Place} {left : ℕ} (m : Marks s old marks current left) {p : Place} (e : current ≡ Some p) (h : Represents n t root s) where
-    there : Represents n t root (m.front ++ p ∷ (here m e).behind)
+    there : Represents n t root (m.front ++ p ∷ (here m e).after)
     there = subst (Represents n t root) (here m e).is h
 
     pub member_linked : IsNode n t p
-    member_linked = (represented_closed n (represented_of n there)).linked p (among_there p m.front (here m e).behind)
+    member_linked = (represented_closed n (represented_of n there)).linked p (among_there p m.front (here m e).after)
 
     pub member_safe : IsSafe n t root (Some p ∷ [])
-    member_safe = (λ q. among q (m.front ++ p ∷ (here m e).behind), represented_closed n (represented_of n there), (among_there p m.front (here m e).behind, tt))
+    member_safe = (λ q. among q (m.front ++ p ∷ (here m e).after), represented_closed n (represented_of n there), (among_there p m.front (here m e).after, tt))
 
     -- a step goes to what stands after
-    pub member_next : {next : Option Place} → ((gap : Cut) → Represents n t root (join gap) → IsBeside Right gap (Some p) → IsBeside Left gap next) → next ≡ first (here m e).behind
+    pub member_next : {next : Option Place} → ((gap : Cut) → Represents n t root (join gap) → IsBeside Right gap (Some p) → IsBeside Left gap next) → next ≡ first (here m e).after
     member_next {next} leads =
-        let gap : Cut = record { front = m.front ++ p ∷ []; back = (here m e).behind } in
-        leads gap (subst (Represents n t root) (sym (append_assoc m.front (p ∷ []) (here m e).behind)) there) (sym (last_of_push m.front p))
+        let gap : Cut = record { front = m.front ++ p ∷ []; back = (here m e).after } in
+        leads gap (subst (Represents n t root) (sym (append_assoc m.front (p ∷ []) (here m e).after)) there) (sym (last_of_push m.front p))

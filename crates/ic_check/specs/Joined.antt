@@ -19,7 +19,7 @@ use Rattle.ic_link_ops.specs.TwoWords as doubly
 use Rattle.ic_link_ops.specs.XorLaws.{xor_back}
 use Rattle.ic_link_ops.specs.Words.{is_word, marked_bits_of}
 
--- what is not the mark is a word
+-- each stored word that is not the mark is the word of places
 marked_word : (w : MarkedWord) → is_word w ≡ true → IsWord (marked_bits_of w)
 marked_word w is = w.mark_or_word (λ e. true≢false (sym is ∙ ap not (eq-eqb _ _ e)))
 
@@ -29,7 +29,7 @@ one_word w is = marked_word w.word is
 pub two_words : (w : TwoWords) → doubly.has_words w ≡ true → IsWord (doubly.next_word_of w)
 two_words w is = marked_word w.next is
 
--- the same of words of 4 bytes
+-- the same for words of 4 bytes
 narrow_word : (w : NarrowMarkedWord) → is_narrow_word w ≡ true → IsWord (marked_narrow_bits_of w)
 narrow_word w is = let h = w.mark_or_word (λ e. true≢false (sym is ∙ ap not (eq-eqb _ _ e))) in (omega (arith, h.0), h.1)
 
@@ -39,7 +39,8 @@ one_narrow_word w is = narrow_word w.word is
 pub two_narrow_words : (w : TwoNarrowWords) → narrow_doubly.has_words w ≡ true → IsWord (narrow_doubly.next_word_of w)
 two_narrow_words w is = narrow_word w.next is
 
--- A WORD STANDS BESIDE EACH PLACE: it is the exclusive or of that place's word and of what it tells then
+-- A WORD JOINS EACH PLACE with another: it is the exclusive or of that place's word and the word of the place that it
+-- then names
 pub joins_told : (n : ℕ) (a : Option Place) → IsWord n → n ≡ bit_xor (word_of a) (word_of (place_at (bit_xor n (word_of a))))
 joins_told n a is =
     sym (xor_back (word_of a) n) ∙ xor_comm (bit_xor (word_of a) n) (word_of a) ∙ ap (bit_xor (word_of a)) (xor_comm (word_of a) n)

@@ -1,4 +1,4 @@
--- What a check of a tree says of a subtree that it walks.
+-- What a check of a tree states about a subtree that it walks through.
 use Rattle.std.specs.Prelude.{◌≡◌, ◌≤◌, ◌+◌, ℕ, Option, Some, None, List, [], ◌∷◌, length}
 use Rattle.ic_link_ops.specs.Prelude.{Place, IsDistinct}
 use Rattle.ic_link_ops.specs.declared.color.Color.{Color}
@@ -9,21 +9,21 @@ use Rattle.ic_link_ops.specs.RedBlackTree.{Node, IsTree}
 use Rattle.ic_rbtree.specs.Height.{height}
 use Rattle.ic_check.specs.declared.tree.Subtree.{Subtree}
 
--- no place is both children
+-- the two children are not the same place
 abbrev pub AreApart : Option Place → Option Place → Type 0
 AreApart a b = (q : Place) → a ≡ Some q → b ≡ Some q → ⊥
 
--- a member of the first color may have children of the other two
+-- a member of the first color may have children of the other two colors
 abbrev pub AreNoRedPair : Color → Color → Color → Type 0
 AreNoRedPair c a b = c ≡ Red → (a ≡ Black) × (b ≡ Black)
 
--- what was found of a subtree is so
+-- the result for a subtree is right
 pub record IsFound (found : Subtree) (t : Tree) : Type 0 where
   pub members : found.members ≡ length (in_order t)
   pub blacks : found.blacks ≡ blacks t
   pub color : found.color ≡ top_color t
 
--- what is found of a member with two subtrees
+-- the result for a member with two subtrees
 pub record IsJoined (c : Color) (left right found : Subtree) : Type 0 where
   pub even : left.blacks ≡ right.blacks
   pub no_red_pair : AreNoRedPair c left.color right.color
@@ -31,7 +31,7 @@ pub record IsJoined (c : Color) (left right found : Subtree) : Type 0 where
   pub blacks : found.blacks ≡ weight c + left.blacks
   pub color : found.color ≡ c
 
--- the two make no subtree of the right shape below a member of that color
+-- the two subtrees below a member of that color are not a subtree of the right shape
 abbrev pub AreUnlike : Color → Subtree → Subtree → Type 0
 AreUnlike c left right = left.blacks ≡ right.blacks → AreNoRedPair c left.color right.color → ⊥
 
@@ -41,11 +41,11 @@ module _ {E : Type 0} (n : E → Node) (entry : Place → E) where
   IsPathUp o [] = o ≡ None
   IsPathUp o (p ∷ w) = (o ≡ Some p) × IsPathUp (n (entry p)).parent w
 
-  -- from this end they lead beyond a root
+  -- the parents lead from this end beyond a root
   abbrev pub HasPathUp : Option Place → Type 0
   HasPathUp o = (w : List Place) × IsPathUp o w
 
-  -- the entries are those of the tree t, which stands below `up` and begins at `at`, and t is as a part of a red-black tree is
+  -- the entries are those of the tree t with the root `at` below `up`, and t can be a part of a red-black tree
   pub record IsSound (up at : Option Place) (t : Tree) : Type 0 where
     pub entries : IsTree n entry up t
     pub starts : at ≡ top t
@@ -53,10 +53,10 @@ module _ {E : Type 0} (n : E → Node) (entry : Place → E) where
     pub no_red_pair : NoRedPair t
     pub even : IsEven t
 
-  -- there is such a tree of at most so many levels, and what was found is so
+  -- there is such a tree with at most this many levels, and the result for it is right
   abbrev pub IsTreeBelow : ℕ → Option Place → Option Place → Subtree → Type 0
   IsTreeBelow levels up at found = (t : Tree) × IsSound up at t × (height t ≤ levels) × IsFound found t
 
-  -- there is none
+  -- there is no such tree
   abbrev pub HasNoTree : ℕ → Option Place → Option Place → Type 0
   HasNoTree levels up at = (t : Tree) → IsSound up at t → height t ≤ levels → ⊥

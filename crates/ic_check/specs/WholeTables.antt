@@ -1,4 +1,4 @@
--- What a check of a whole table answers, and what its marks say.
+-- What a check of a whole table returns, and what its marks mean.
 use Rattle.std.specs.Prelude.{◌≡◌, ℕ, ◌+◌, Bool, true, false, List, [], ◌∷◌, ◌++◌, length, count_by}
 use Rattle.std.specs.Bool.{Decides}
 use Rattle.std.specs.List.{AllByRecursion}
@@ -6,23 +6,23 @@ use Rattle.ic_link_ops.specs.Prelude.{Place, index_of, IsAbsent, IsMember, IsDis
 use Rattle.ic_link_ops.specs.PlainTables.{entry_at}
 
 module _ {H : Type 0} (shows : H → List Place → Type 0) where
-  -- each list represents a sequence, and these are s one after the other
+  -- the table represents a sequence for each list, and these one after the other are s
   abbrev pub RepresentsEach : List H → List Place → Type 0
   RepresentsEach [] s = s ≡ []
   RepresentsEach (list ∷ lists) s = (front back : List Place) × shows list front × RepresentsEach lists back × (s ≡ front ++ back)
 
-  -- and no place stands twice in it
+  -- the same, and no place occurs twice in s
   pub record RepresentsEachOnce (lists : List H) (s : List Place) : Type 0 where
     pub each : RepresentsEach lists s
     pub distinct : IsDistinct s
 
-  -- THE WHOLE TABLE: besides, no place is a member of two of them, and none but their members is linked
+  -- THE WHOLE TABLE: also, no place is a member of two of them, and only their members are linked
   pub record RepresentsAll {E : Type 0} (linked : E → Bool) (t : Table E) (lists : List H) (s : List Place) : Type 0 where
     pub each : RepresentsEach lists s
     pub distinct : IsDistinct s
     pub only : (p : Place) → IsLinked linked t p → IsMember p s
 
--- THE WHOLE TABLE OF TWO ROWS of collections: those of the second one have the rest of s
+-- THE WHOLE TABLE OF TWO ROWS of collections: those of the second row have the rest of s
 module _ {H G : Type 0} (shows : H → List Place → Type 0) (others : G → List Place → Type 0) where
   pub record RepresentsBoth {E : Type 0} (linked : E → Bool) (t : Table E) (first : List H) (second : List G) (s : List Place) : Type 0 where
     pub front : List Place
@@ -41,7 +41,7 @@ is_marked = entry_at false
 abbrev pub many_marked : List Bool → ℕ
 many_marked marks = count_by (λ mark. mark) marks
 
--- A PLACE THAT IS MARKED BESIDES is linked
+-- A PLACE THAT IS NEWLY MARKED is linked
 pub record MarksLinked {E : Type 0} (linked : E → Bool) (t : Table E) (old new : List Bool) : Type 0 where
   pub besides : (p : Place) → is_marked old p ≡ false → is_marked new p ≡ true → IsLinked linked t p
 
@@ -53,23 +53,24 @@ IsMarking marks s = (p : Place) → Decides (is_marked marks p) (IsMember p s)
 abbrev pub AreUnmarked : List Bool → List Place → Type 0
 AreUnmarked marks s = AllByRecursion (λ p. is_marked marks p ≡ false) s
 
--- THE MEMBERS OF s ARE MARKED BESIDES, so many marks more, and no other place
+-- THE MEMBERS OF s ARE NEWLY MARKED, with this many new marks, and no other place is
 pub record MarksAlso (old new : List Bool) (s : List Place) : Type 0 where
   pub long : length new ≡ length old
   pub more : many_marked new ≡ many_marked old + length s
   pub marked : (p : Place) → IsMember p s → is_marked new p ≡ true
   pub others : (p : Place) → IsAbsent p s → is_marked new p ≡ is_marked old p
 
--- what a check of one collection says that marks its members: so many are represented, none of them was marked, and they are marked now
+-- the result of a check that marks the members of one collection: this many are represented, none of them was marked before, and they
+-- are marked now
 module _ (shows : List Place → Type 0) where
   abbrev pub IsGathered : List Bool → List Bool → ℕ → Type 0
   IsGathered old new count = (s : List Place) × shows s × (length s ≡ count) × AreUnmarked old s × MarksAlso old new s
 
-  -- no sequence is represented of which no member is marked
+  -- the table represents no sequence without a marked member
   abbrev pub RepresentsNoneUnmarked : List Bool → Type 0
   RepresentsNoneUnmarked old = (s : List Place) → shows s → AreUnmarked old s → ⊥
 
-  -- THE MARKS THAT ARE LEFT: those of the members of a sequence that is represented, so many, and no other
+  -- THE MARKS THAT ARE LEFT: exactly the members of a represented sequence with this number of members are marked
   abbrev pub LeavesMarked : List Bool → ℕ → Type 0
   LeavesMarked marks count = (s : List Place) × shows s × IsMarking marks s × (many_marked marks ≡ count)
 

@@ -1,4 +1,4 @@
-//! What a check of a whole table gathers: its collections, with a mark for each place.
+//! The collections of a table, as a check of the whole table counts them, with a mark for each place.
 //!
 //! ```text
 //! let members = list.gather(&links, &mut marks)?; // they were unmarked, and are marked now
@@ -24,15 +24,15 @@ use ic_link_ops::Side;
 use ic_link_ops::rbtree::RBTreeOps;
 use ic_rbtree::RBTree;
 
-/// A collection that a check of a whole table gathers: a list of any kind, or a tree.
+/// A collection that a check of a whole table can count and mark: a list of any kind, or a tree.
 pub trait Gather<L: TellsLinks> {
     // Which sequence a table represents for it.
     ghost Represents: { Self → Table L.Entry → List Place → Type 0 };
 
-    /// How many members the table represents for the collection, which it marks, `None` if it represents no sequence, or if one of its members was
-    /// marked.
+    /// Marks the members of the collection and returns their number; `None` if the table represents no sequence for it, or if one of its members
+    /// was marked before.
     ///
-    /// It requires nothing of the words, and a mark for each place that the table covers. It marks linked places alone. O(n) for n members. It
+    /// It requires nothing of the words, but a mark for each place that the table covers. It marks only linked places. O(n) for n members. It
     /// takes no memory.
     fn gather(&self, links: &L, marks: &mut [bool]) -> Option<usize>
         requires room { (L.table links.now).extent.places ≤ length marks.old }
@@ -41,7 +41,7 @@ pub trait Gather<L: TellsLinks> {
         ensures only { MarksLinked L.linked (L.table links.now) marks.old marks.new }
         ensures length { length marks.new ≡ length marks.old };
 
-    // The laws: one sequence is represented at most, and no place stands twice in it.
+    // The laws: at most one sequence is represented, and no place occurs twice in it.
     ghost represents_one: { (c : Self) (t : Table L.Entry) (s r : List Place) → Represents c t s → Represents c t r → s ≡ r };
 
     ghost represents_distinct: { (c : Self) (t : Table L.Entry) (s : List Place) → Represents c t s → IsDistinct s };
@@ -62,13 +62,13 @@ impl<K: TellsNeighbors<L>, T, L: TellsLinks> Gather<L> for Chain<K, T> {
             if marks[index] {
                 return None;
             }
-            if !K::stands_behind(links, member, before) {
+            if !K::names_prev(links, member, before) {
                 return None;
             }
             marks[index] = true;
-            let behind = K::next(links, member, before);
+            let after = K::next(links, member, before);
             before = current;
-            current = behind;
+            current = after;
             count += 1;
         }
         if K::ends_with(self, before) {
@@ -102,7 +102,7 @@ impl<A, L: RBTreeOps + TellsLinks> Gather<L> for RBTree<A> {
     ghost represents_distinct = { λ tree t s h. h.held.distinct };
 }
 
-// Marks the members of a tree of so many, and answers whether none of them was marked.
+// Marks the members of a tree with this number of members, and returns whether none of them was marked before.
 fn mark<A, L: RBTreeOps + TellsLinks>(
     tree: &RBTree<A>,
     links: &L,

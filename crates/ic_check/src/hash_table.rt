@@ -26,10 +26,10 @@ use ic_unsafe_ref::{Place, Values};
 
 /// Whether the links hold a sequence of members for the hash table.
 ///
-/// That is so exactly if each chain ends, no place is met twice, an object stands at each member and belongs in the chain in which it is
-/// met, and there are as many members as the table has counted. It requires nothing of the words of the links and of the buckets. O(b + n)
-/// for b buckets and n members, with one hash for each member and no comparison, and at most as many steps more as the links cover places.
-/// It takes no memory.
+/// It returns true exactly if each chain ends, no place occurs twice, each member has an object that belongs in the member's chain, and
+/// there are as many members as the table has counted. It requires nothing of the words of the links and of the buckets. O(b + n) for b
+/// buckets and n members, with one hash for each member and no comparison, and at most as many further steps as the links cover places. It
+/// takes no memory.
 pub fn check_hash_table<
     A: HashAdapter,
     B: BucketRow,
@@ -53,7 +53,8 @@ pub fn check_hash_table<
     members == table.len()
 }
 
-// How many members chain `at` has, `None` if the table represents no sequence for it, or if a member of it is not placed, or belongs elsewhere.
+// The number of members of chain `at`; `None` if the table represents no sequence for it, or if a member of it is not placed, or belongs in
+// another chain.
 fn check_chain<
     A: HashAdapter,
     B: BucketRow,
@@ -101,7 +102,7 @@ fn are_own<A: HashAdapter, B, L: SinglyLinkedListOps, O: TellsPlaced<A::Value>>(
     true
 }
 
-// Whether an object is placed there that belongs in chain `at`.
+// Whether the place has an object that belongs in chain `at`.
 fn is_own<A: HashAdapter, B, O: TellsPlaced<A::Value>>(
     table: &HashTable<A, B>,
     objects: &O,

@@ -1,4 +1,4 @@
-//! Tables of XOR links whose entries stand between any place and another.
+//! Tables of XOR links in which every entry of a linked place joins any given place with some other.
 //!
 //! ```text
 //! // The word of a linked place is that of a place, of none, or the exclusive or of two of these. So beside each place it names another
@@ -19,9 +19,9 @@ use ic_link_ops::{
 };
 use std::alloc::Allocator;
 
-/// Words whose next word is that of a place, of none, or the exclusive or of two of these, where their place is linked.
+/// Words whose next word, if the place is linked, is that of a place, of none, or the exclusive or of two of these.
 pub trait KeepsWord: NextWord {
-    // The law.
+    // The law: lists of the kind store their last member.
     ghost keeps_word: { (w : Self) → Self.is_linked w ≡ true → IsWord (Self.next_word w) };
 }
 
@@ -41,12 +41,13 @@ impl KeepsWord for TwoNarrowWords {
     ghost keeps_word = { λ w is. two_narrow_words w is };
 }
 
-/// A table of XOR links whose entry of a linked place stands between any place, or none, and what it tells then.
+/// A table of XOR links. Given any place or none as one neighbor, each entry of a linked place yields another neighbor,
+/// and joins the two.
 ///
-/// The plain tables are such, those that are lent, and those whose links are claimed.
+/// Plain tables, lent tables and tables of claimed links have this property.
 pub trait JoinsAny: XorLinkedListOps {
-    // The law.
-    ghost joins_any: { (e : Self.Entry) (a : Option Place) → Self.linked e ≡ true → Self.Joins e a (Self.other e a) };
+    // The law: lists of the kind store their last member.
+    ghost joins_any: { (e : Self.Entry) (a : Option Place) → Self.linked e ≡ true → Self.HasNeighbors e a (Self.other e a) };
 }
 
 impl<W: KeepsWord, A: Allocator, V: LinkValue> JoinsAny for PlainTable<W, A, V> {

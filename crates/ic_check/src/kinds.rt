@@ -1,7 +1,7 @@
 //! The kinds of lists, as a walk from the front checks them.
 //!
 //! ```text
-//! DoublyLinked::stands_behind(&links, place, prev) // whether the entry of the place names `prev`
+//! DoublyLinked::names_prev(&links, place, prev) // whether the entry of the place names `prev`
 //! ```
 
 ghost use Rattle.std.specs.Prelude.{◌≡◌, Option};
@@ -19,31 +19,33 @@ use ic_singly_linked_list::SinglyLinked;
 use ic_unsafe_ref::Place;
 use ic_xor_linked_list::XorLinked;
 
-/// A kind of lists that tells whether its places stand where a walk from the front has met them.
+/// A kind of lists that can test whether a place is after the one from which a walk reached it.
 ///
-/// Each kind is such: doubly and singly linked lists over all tables, and XOR lists over those that are [`JoinsAny`].
+/// Each kind has this test: doubly and singly linked lists over all tables, and XOR lists over tables that are
+/// [`JoinsAny`].
 pub trait TellsNeighbors<L: LinkOps>: ForwardLinks<L> {
-    /// Whether `place` stands after `prev`, as its entry says. It requires that the place is linked. At most one reading.
-    fn stands_behind(links: &L, place: Place, prev: Option<Place>) -> bool
+    /// Whether `place` is after `prev` according to its entry. It requires that the place is linked. At most one reading.
+    fn names_prev(links: &L, place: Place, prev: Option<Place>) -> bool
         requires linked { IsLinked L.linked (L.table links.now) place }
         ensures { Decides result (Self.Between ((L.table links.now).entry place) prev (Self.step ((L.table links.now).entry place) prev)) };
 
-    /// Whether the list keeps `last` as its last member, if it keeps one. It reads no links.
+    /// Whether the list stores `last` as its last member, if it stores one. It reads no links.
     fn ends_with<T>(list: &Chain<Self, T>, last: Option<Place>) -> bool
         ensures { Decides result (list.now.tail ≡ Self.kept last) };
 }
 
-/// A kind of lists whose entries tell what stands after by themselves, so that a walk which ends has met no place twice.
+/// A kind of lists whose entries alone name the next place, so a walk that ends has met no place twice.
 ///
-/// Doubly and singly linked lists are such. An XOR list is none: between other neighbors an entry leads elsewhere.
+/// Doubly and singly linked lists have this property, and XOR lists do not: with another neighbor before it, an entry
+/// leads to another place.
 pub trait NamesItsNext<L: LinkOps>: TellsNeighbors<L> {
-    // The law: what stands after is told, whatever stands before.
+    // The law: the entry determines the next place, whatever place is before.
     ghost tells_after: { (e : L.Entry) (b c : Option Place) → Self.step e b ≡ Self.step e c };
 }
 
 impl<L: LinkedListOps> TellsNeighbors<L> for DoublyLinked {
     #[inline]
-    fn stands_behind(links: &L, place: Place, prev: Option<Place>) -> bool {
+    fn names_prev(links: &L, place: Place, prev: Option<Place>) -> bool {
         is_same(links.prev(place), prev)
     }
 
@@ -59,7 +61,7 @@ impl<L: LinkedListOps> NamesItsNext<L> for DoublyLinked {
 
 impl<L: SinglyLinkedListOps> TellsNeighbors<L> for SinglyLinked {
     #[inline]
-    fn stands_behind(links: &L, place: Place, prev: Option<Place>) -> bool {
+    fn names_prev(links: &L, place: Place, prev: Option<Place>) -> bool {
         let _ = links;
         let _ = place;
         let _ = prev;
@@ -80,7 +82,7 @@ impl<L: SinglyLinkedListOps> NamesItsNext<L> for SinglyLinked {
 
 impl<L: JoinsAny> TellsNeighbors<L> for XorLinked {
     #[inline]
-    fn stands_behind(links: &L, place: Place, prev: Option<Place>) -> bool {
+    fn names_prev(links: &L, place: Place, prev: Option<Place>) -> bool {
         let _ = links;
         let _ = place;
         let _ = prev;
@@ -93,7 +95,7 @@ impl<L: JoinsAny> TellsNeighbors<L> for XorLinked {
     }
 }
 
-// Whether two places, or none, are one: one comparison of words.
+// Whether two optional places are the same: one comparison of words.
 #[inline]
 pub(crate) fn is_same(a: Option<Place>, b: Option<Place>) -> bool
     ensures { Decides result (a ≡ b) }

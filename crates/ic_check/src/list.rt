@@ -12,7 +12,7 @@ use crate::kinds::NamesItsNext;
 use crate::tells::TellsLinks;
 use ic_chain::Chain;
 
-/// How many members the table represents for the list, `None` if it represents no sequence for it.
+/// The number of members that the table represents for the list, `None` if it represents no sequence for it.
 ///
 /// It requires nothing of the words. O(n) for n members, and at most as many steps as the table covers places. It takes no memory.
 pub fn check<K: NamesItsNext<L>, T, L: TellsLinks>(list: &Chain<K, T>, links: &L) -> Option<usize>
@@ -29,12 +29,12 @@ pub fn check<K: NamesItsNext<L>, T, L: TellsLinks>(list: &Chain<K, T>, links: &L
         if !links.tells_linked(member) {
             return None;
         }
-        if !K::stands_behind(links, member, before) {
+        if !K::names_prev(links, member, before) {
             return None;
         }
-        let behind = K::next(links, member, before);
+        let after = K::next(links, member, before);
         before = current;
-        current = behind;
+        current = after;
         count += 1;
     }
     if K::ends_with(list, before) {

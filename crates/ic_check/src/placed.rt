@@ -1,4 +1,4 @@
-//! Values that tell of any place whether one stands there.
+//! Values by place, with a test whether a place has a value.
 //!
 //! ```text
 //! objects.tells_placed(place) // false where the place is vacant, and beyond all
@@ -11,12 +11,11 @@ use ic_link_ops::{LentTable, LinkValue, PlainTable, Words};
 use ic_unsafe_ref::{Objects, Place, Values};
 use std::alloc::Allocator;
 
-/// What has a value at a place, and tells of any place whether one stands there.
+/// A source of values by place that can also test whether any place has a value.
 ///
-/// [`Objects`] are such, a slice or a `Vec` by the index of the place, and the plain tables, and those that are lent, with the values beside
-/// their links.
+/// Such sources are [`Objects`], a slice or a `Vec` by the index of the place, and plain and lent tables with values beside their links.
 pub trait TellsPlaced<V>: Values<V> {
-    /// Whether a value stands at `place`. It requires nothing of the place. One look-up, O(1).
+    /// Whether `place` has a value. It requires nothing of the place. One look-up, O(1).
     fn tells_placed(&self, place: Place) -> bool
         ensures { result ≡ is_placed (Self.values self.now) place };
 }

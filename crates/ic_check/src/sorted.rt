@@ -1,4 +1,4 @@
-//! Whether a tree is in the order of its keys.
+//! The check whether a tree is in the order of its keys.
 //!
 //! ```text
 //! is_sorted(&tree, &links, &objects) // true: from one member to the next no key falls
@@ -17,9 +17,11 @@ use ic_rbtree::{KeyAdapter, RBTree};
 use ic_unsafe_ref::Values;
 use std::cmp::Ordering;
 
-/// Whether the keys of neighbors in the tree never fall. Of such a tree `find` returns the first member with a key.
+/// Whether no member's key is less than that of the member before it. In such a tree `find` returns the first member
+/// with a key.
 ///
-/// It requires that all members are placed. O(n) for n members, with n - 1 comparisons at most, and no memory: two walks go side by side.
+/// It requires that all members are placed. O(n) for n members, with at most n - 1 comparisons, and no memory: two walks advance
+/// together.
 pub fn is_sorted<A: KeyAdapter, L: RBTreeOps, O: Values<A::Value>>(
     tree: &RBTree<A>,
     links: &L,
@@ -33,9 +35,9 @@ pub fn is_sorted<A: KeyAdapter, L: RBTreeOps, O: Values<A::Value>>(
     if walk.next().is_none() {
         return true;
     }
-    let mut behind = tree.iter(links, objects);
+    let mut after = tree.iter(links, objects);
     while let Some(value) = walk.next() {
-        let Some(last) = behind.next() else {
+        let Some(last) = after.next() else {
             return true;
         };
         if falls(tree.adapter(), last, value) {

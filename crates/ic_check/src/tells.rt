@@ -1,4 +1,4 @@
-//! A table that tells of any place whether it is linked.
+//! Tables that can test whether any place is linked.
 //!
 //! ```text
 //! links.tells_linked(place) // false, too, where the place is not covered
@@ -11,11 +11,12 @@ use ic_link_ops::{LentTable, LinkOps, LinkValue, PlainTable, Words};
 use ic_unsafe_ref::Place;
 use std::alloc::Allocator;
 
-/// A table that tells how many places it covers, and of any place whether it is linked. A place that it doesn't cover is not.
+/// A table that can return how many places it covers, and whether any place is linked. A place that it doesn't cover is not
+/// linked.
 ///
-/// The plain tables of every kind are such, those that are lent, and those whose links are claimed.
+/// Plain tables of every kind, lent tables and tables of claimed links have these calls.
 pub trait TellsLinks: LinkOps {
-    /// How many places are covered: those with a smaller index. O(1).
+    /// The number of places that are covered. A place is covered if its index is smaller than this number. O(1).
     fn covered_places(&self) -> usize
         ensures { result ≡ (Self.table self.now).extent.places };
 

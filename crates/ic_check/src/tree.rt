@@ -19,10 +19,12 @@ use ic_link_ops::rbtree::RBTreeOps;
 use ic_rbtree::RBTree;
 use ic_unsafe_ref::Place;
 
-// No tree of the right shape is higher: one of n members and height h has 2^h <= (n + 1)^2, and there are fewer than 2^33 places.
+// The greatest height of a tree of the right shape: one with n members and height h has 2^h <= (n + 1)^2, and there are fewer
+// than 2^33 places.
 const HIGHEST: u32 = 66;
 
-// What is found of a subtree: its members, the black ones on each way down, and the color of its root.
+// The result for a subtree: the number of its members, the number of black members on each path down, and the color of
+// its root.
 #[derive(Clone, Copy, Drop)]
 struct Subtree {
     members: usize,
@@ -30,10 +32,11 @@ struct Subtree {
     color: Color,
 }
 
-/// How many members the table represents for the tree, `None` if it represents no tree of the right shape with its root.
+/// The number of members that the table represents for the tree, `None` if it represents no tree of the right shape with
+/// this root.
 ///
-/// It requires nothing of the words. Each child has to name the member above it as its parent, so no place is met twice: O(n) for n
-/// members that it meets, at most 67 calls deep. It takes no memory.
+/// It requires nothing of the words. Each child has to name the member above it as its parent, so the check visits no place twice:
+/// O(n) for n visited members, with at most 67 nested calls. It takes no memory.
 pub fn check_tree<A, L: RBTreeOps + TellsLinks>(tree: &RBTree<A>, links: &L) -> Option<usize>
     ensures { MatchOption result (RepresentsNone (Represents L.node (L.table links.now) (root_of tree.now)))
         (IsRepresented (Represents L.node (L.table links.now) (root_of tree.now))) }
@@ -47,8 +50,8 @@ pub fn check_tree<A, L: RBTreeOps + TellsLinks>(tree: &RBTree<A>, links: &L) -> 
     }
 }
 
-// What is found of the subtree below `parent` that begins at `place`, `None` if no tree of the right shape stands there that has at
-// most so many levels. Each call within has one level less, so no more than 67 calls are within one another.
+// The result for the subtree at `place` below `parent`, `None` if it is not a tree of the right shape with at most this many
+// levels. Each nested call has one level less, so at most 67 calls are nested.
 fn check_below<L: RBTreeOps + TellsLinks>(
     links: &L,
     place: Option<Place>,
@@ -90,7 +93,8 @@ fn check_below<L: RBTreeOps + TellsLinks>(
     join(links.color(place), left, right)
 }
 
-// What is found of a member of this color with these subtrees, `None` if they make no subtree of the right shape.
+// The result for a member of this color with these subtrees, `None` if together they are not a subtree of the right
+// shape.
 fn join(color: Color, left: Subtree, right: Subtree) -> Option<Subtree>
     requires few { left.members + right.members ≤ 8589934591 }
     requires low { left.blacks < 4294967295 }
@@ -109,14 +113,14 @@ fn join(color: Color, left: Subtree, right: Subtree) -> Option<Subtree>
     })
 }
 
-// Whether the two ends are no one place.
+// Whether the two ends are not the same place.
 fn are_apart(left: Option<Place>, right: Option<Place>) -> bool
     ensures { Decides result (AreApart left right) }
 {
     left.is_none() || !is_same(left, right)
 }
 
-// Whether a member of this color may have children of the other two.
+// Whether a member of this color may have children of the other two colors.
 fn are_no_red_pair(color: Color, left: Color, right: Color) -> bool
     ensures { Decides result (AreNoRedPair color left right) }
 {

@@ -19,14 +19,15 @@ use crate::tells::TellsLinks;
 use ic_chain::Chain;
 use ic_unsafe_ref::Place;
 
-// So many places have words.
+// The greatest number of places that have words.
 const ALL_PLACES: usize = 8_589_934_591;
 
-/// How many members the table represents for the list, `None` if it represents no sequence for it: the check of a list of any kind.
+/// The number of members that the table represents for the list, `None` if it represents no sequence for it: the check of a list of
+/// any kind.
 ///
-/// A list whose entries name no next place by themselves may lead through a place twice and still end right, so it takes a mark for each
-/// place that the table covers, whatever it says. Where it answers a number, the members alone are marked then, and no mark is left from before;
-/// where it answers none, it has marked linked places alone. It requires nothing of the words. O(n) for n places. It takes no memory.
+/// If the entries of a list do not name the next place by themselves, a walk may visit a place twice and still end right. So the check takes a
+/// mark for each place that the table covers; the old values of the marks do not matter. If it returns a number, exactly the members are marked
+/// then. If it returns `None`, it has marked only linked places. It requires nothing of the words. O(n) for n places. It takes no memory.
 pub fn check_marking<K: TellsNeighbors<L>, T, L: TellsLinks>(
     list: &Chain<K, T>,
     links: &L,
@@ -43,11 +44,11 @@ pub fn check_marking<K: TellsNeighbors<L>, T, L: TellsLinks>(
     list.gather(links, marks)
 }
 
-/// How many members all these collections have, `None` if the table represents no sequence for one of them, if two share a place, or if a place
-/// is linked that is no member.
+/// The number of members of all these collections together; `None` if the table represents no sequence for one of them, if two share a place,
+/// or if a place is linked that is not a member.
 ///
-/// The collections are lists of one kind, or trees. It requires nothing of the words, and a mark for each place that the table covers,
-/// whatever it says. The marks that it leaves are those that [`check_marking`] leaves. O(n) for n places. It takes no memory.
+/// The collections are lists of one kind, or trees. It requires nothing of the words, but a mark for each place that the table covers;
+/// the old values of the marks do not matter. It leaves marks as [`check_marking`] does. O(n) for n places. It takes no memory.
 pub fn check_all<C: Gather<L>, L: TellsLinks>(
     collections: &[C],
     links: &L,
@@ -73,7 +74,8 @@ pub fn check_all<C: Gather<L>, L: TellsLinks>(
     }
 }
 
-/// The same of a table with collections of two kinds, such as lists and trees. It requires and costs what [`check_all`] does, and leaves such marks.
+/// Checks a table with collections of two kinds, such as lists and trees, as [`check_all`] does. It requires and costs what [`check_all`] does, and
+/// leaves marks in the same way.
 pub fn check_both<C: Gather<L>, D: Gather<L>, L: TellsLinks>(
     first: &[C],
     second: &[D],
@@ -106,8 +108,8 @@ pub fn check_both<C: Gather<L>, D: Gather<L>, L: TellsLinks>(
     }
 }
 
-// How many members the table represents for all these collections, which it marks, `None` if it represents no sequence for one of them, if two share
-// a place, or if one of the members was marked.
+// Marks the members of all these collections, and returns their number; `None` if the table represents no sequence for one of them, if two share a
+// place, or if one of the members was marked before.
 fn gather_each<C: Gather<L>, L: TellsLinks>(
     collections: &[C],
     links: &L,
@@ -133,7 +135,7 @@ fn gather_each<C: Gather<L>, L: TellsLinks>(
     Some(count)
 }
 
-// Marks no place.
+// Removes all marks.
 fn clear(marks: &mut [bool])
     ensures cleared { (p : Place) → is_marked marks.new p ≡ false }
     ensures none { many_marked marks.new ≡ 0 }
@@ -171,7 +173,7 @@ fn is_missed<L: TellsLinks>(links: &L, marks: &[bool], index: usize) -> bool
     !marks[index]
 }
 
-// The place with that index, `None` beyond all.
+// The place with that index, `None` if there is no such place.
 fn place_at(index: usize) -> Option<Place>
     ensures { MatchOption result (8589934591 ≤ index) (λ place. index_of place ≡ index) }
 {

@@ -10,9 +10,9 @@ use Rattle.ic_container.specs.Rows.{Rows, Moves}
 use Rattle.ic_container.specs.Values.{Without}
 
 -- a member that moved: there are as many as before
-pub length_moved : {k : ℕ} {front : List Place} {p : Place} {back before behind : List Place} {old new : Rows} → Moves k front p back before behind old new → length (new k) ≡ length (old k)
-length_moved {front = front} {p} {back} {before} {behind} t =
-    omega (arith, ap length t.is, ap length t.was, ap length t.rest, length-append before (p ∷ behind), length-append front (p ∷ back), length-append front back, length-append before behind)
+pub length_moved : {k : ℕ} {front : List Place} {p : Place} {back before after : List Place} {old new : Rows} → Moves k front p back before after old new → length (new k) ≡ length (old k)
+length_moved {front = front} {p} {back} {before} {after} t =
+    omega (arith, ap length t.is, ap length t.was, ap length t.rest, length-append before (p ∷ after), length-append front (p ∷ back), length-append front back, length-append before after)
 
 module _ {T : Type 0} {old new : Objects T} {p : Place} where
   -- one object more

@@ -53,6 +53,6 @@ module _ {E H : Type 0} {Represents : Table E → H → List Place → Type 0} {
   left at removed off frame = record { was = at.shown; is = removed at.front at.back at.shown; off = off; frame = frame (at.front ++ p ∷ at.back) at.shown }
 
   -- A MOVE of a member, which stays linked: `is`, `keeps` and `frame` are its clauses
-  pub moved_linked : {before behind : List Place} (at : HasMember (Represents old head) p) → at.front ++ at.back ≡ before ++ behind → Represents new after (before ++ p ∷ behind)
-      → KeepsLinked linked old new → ((s : List Place) → Represents old head s → ChangesOnlyIn old new s) → HasMoved Represents linked old new head after at.front p at.back before behind
+  pub moved_linked : {before following : List Place} (at : HasMember (Represents old head) p) → at.front ++ at.back ≡ before ++ following → Represents new after (before ++ p ∷ following)
+      → KeepsLinked linked old new → ((s : List Place) → Represents old head s → ChangesOnlyIn old new s) → HasMoved Represents linked old new head after at.front p at.back before following
   moved_linked at rest is keeps frame = record { was = at.shown; rest = rest; is = is; keeps = keeps; frame = frame (at.front ++ p ∷ at.back) at.shown }

@@ -24,11 +24,11 @@ use Rattle.ic_link_ops.proofs.LinkedSets.{everywhere}
 use Rattle.ic_link_ops.proofs.SequenceLemmas.{disjoint_cons, member_split, some_same}
 use Rattle.ic_link_ops.proofs.Walks.{is_end_yes, is_end_no}
 use Rattle.ic_pool.specs.Pooled.{Grows}
-use Rattle.ic_container.specs.Rows.{Rows, Joins, Leaves, Moves, Stays, home_or, home_of, listed}
+use Rattle.ic_container.specs.Rows.{Rows, Adds, Leaves, Moves, Stays, owner_or, owner_of, listed}
 use Rattle.ic_container.specs.Edited.{HasJoined, HasLeft, HasMoved}
 use Rattle.ic_container.specs.Holds.{rows_of, Holds, members_in}
 use Rattle.ic_container.specs.ListReadings.{ReadsLists}
-use Rattle.ic_container.proofs.RowLemmas.{at_row, rows_apart, housed_same, housed_joined, housed_left, housed_moved, joins_from, home_placed, homes_placed, home_freed, homes_freed}
+use Rattle.ic_container.proofs.RowLemmas.{at_row, rows_apart, housed_same, housed_joined, housed_left, housed_moved, joins_from, owner_placed, owners_placed, owner_freed, owners_freed}
 
 -- how a container reads its tables: the five facts of a kind, and that the members are what is represented
 pub record Reading {L E H : Type 0} (Represents : Table E → H → List Place → Type 0) (linked : E → Bool) (empty : H) (table : L → Table E) (members : L → H → List Place) : Type 0 where
@@ -63,20 +63,20 @@ pub list_off : {A : Type 0} (links : doubly.DoublyLinkOps A) → (doubly.plain_t
 list_off = nothing_linked wide_reads
 
 -- the homes without that of p
-pub homeless : Place → (Place → Option ℕ) → Place → Option ℕ
-homeless p home q = cond (is_end (Some p) q) None (home q)
+pub ownerless : Place → (Place → Option ℕ) → Place → Option ℕ
+ownerless p owner q = cond (is_end (Some p) q) None (owner q)
 
-homeless_there : (p : Place) (home : Place → Option ℕ) → homeless p home p ≡ None
-unfolding homeless
-homeless_there p home = by (is_end (Some p) p) refl where
-  by : (b : Bool) → is_end (Some p) p ≡ b → cond b None (home p) ≡ None
+ownerless_there : (p : Place) (owner : Place → Option ℕ) → ownerless p owner p ≡ None
+unfolding ownerless
+ownerless_there p owner = by (is_end (Some p) p) refl where
+  by : (b : Bool) → is_end (Some p) p ≡ b → cond b None (owner p) ≡ None
   by true e = refl
   by false e = absurd (is_end_no (Some p) p e refl)
 
-homeless_beside : (p : Place) (home : Place → Option ℕ) (q : Place) → q ≢ p → homeless p home q ≡ home q
-unfolding homeless
-homeless_beside p home q n = by (is_end (Some p) q) refl where
-  by : (b : Bool) → is_end (Some p) q ≡ b → cond b None (home q) ≡ home q
+ownerless_beside : (p : Place) (owner : Place → Option ℕ) (q : Place) → q ≢ p → ownerless p owner q ≡ owner q
+unfolding ownerless
+ownerless_beside p owner q n = by (is_end (Some p) q) refl where
+  by : (b : Bool) → is_end (Some p) q ≡ b → cond b None (owner q) ≡ owner q
   by true e = absurd (n (sym (some_same (is_end_yes (Some p) q e))))
   by false e = refl
 
@@ -89,12 +89,12 @@ module _ {L E H : Type 0} {Represents : Table E → H → List Place → Type 0}
     pub none_stand : (i : ℕ) → rows_of members links heads i ≡ []
     none_stand i = reading.members_are links (heads i) [] (rw (none i) (reading.kind.nothing (table links)))
 
-    pub holds_none : {home : Place → Option ℕ} → ((p : Place) → home p ≡ None) → ((p : Place) → IsUnlinked linked (table links) p) → Holds Represents linked table members links heads home
-    holds_none {home} homeless off = record {
+    pub holds_none : {owner : Place → Option ℕ} → ((p : Place) → owner p ≡ None) → ((p : Place) → IsUnlinked linked (table links) p) → Holds Represents linked table members links heads owner
+    holds_none {owner} ownerless off = record {
       shown = λ i. itself links (heads i) {s = []} (rw (none i) (reading.kind.nothing (table links)));
       housed = record {
-        own = λ i. subst (AllByRecursion (λ p. home p ≡ Some i)) (sym (none_stand i)) tt;
-        all = λ p i at. let never : None ≡ Some i = sym (homeless p) ∙ at in absurd (cc);
+        own = λ i. subst (AllByRecursion (λ p. owner p ≡ Some i)) (sym (none_stand i)) tt;
+        all = λ p i at. let never : None ≡ Some i = sym (ownerless p) ∙ at in absurd (cc);
       };
       only = λ p at. off p;
     }
@@ -105,12 +105,12 @@ module _ {L E H : Type 0} {Represents : Table E → H → List Place → Type 0}
       let nothing : members links empty ≡ [] = reading.members_are links empty [] (reading.kind.nothing (table links)) in
       ap (λ d. slice_index_or (map (members links) heads) i d) (sym nothing) ∙ get_or-map (members links) heads i empty
 
-  module _ {links : L} {heads : ℕ → H} {home : Place → Option ℕ} (k : Holds Represents linked table members links heads home) where
+  module _ {links : L} {heads : ℕ → H} {owner : Place → Option ℕ} (k : Holds Represents linked table members links heads owner) where
     abbrev rows : Rows
     rows = rows_of members links heads
 
     -- a place that is at home in row i stands in it
-    module _ (i : ℕ) (p : Place) (at : home p ≡ Some i) where
+    module _ (i : ℕ) (p : Place) (at : owner p ≡ Some i) where
       pub stands_at : (front : List Place) × (back : List Place) × (rows_of members links heads i ≡ front ++ p ∷ back)
       stands_at = member_split p (rows_of members links heads i) (k.housed.all p i at)
 
@@ -125,15 +125,15 @@ module _ {L E H : Type 0} {Represents : Table E → H → List Place → Type 0}
       pub rows_grown : Stays (rows_of members links heads) (rows_of members grown heads)
       rows_grown i = reading.members_are grown (heads i) (rows_of members links heads i) (still_represented i)
 
-      pub holds_grown : Holds Represents linked table members grown heads home
+      pub holds_grown : Holds Represents linked table members grown heads owner
       holds_grown = record {
         shown = λ i. itself grown (heads i) (still_represented i);
-        housed = record { own = λ i. subst (AllByRecursion (λ p. home p ≡ Some i)) (sym (rows_grown i)) (k.housed.own i); all = λ p i at. subst (IsMember p) (sym (rows_grown i)) (k.housed.all p i at) };
+        housed = record { own = λ i. subst (AllByRecursion (λ p. owner p ≡ Some i)) (sym (rows_grown i)) (k.housed.own i); all = λ p i at. subst (IsMember p) (sym (rows_grown i)) (k.housed.all p i at) };
         only = λ p at. rw (grows.entries p) (k.only p at);
       }
 
     -- WHERE ALL ARE AT HOME where they were
-    pub holds_same : {other : Place → Option ℕ} → ((p : Place) → other p ≡ home p) → Holds Represents linked table members links heads other
+    pub holds_same : {other : Place → Option ℕ} → ((p : Place) → other p ≡ owner p) → Holds Represents linked table members links heads other
     holds_same same = record { shown = k.shown; housed = housed_same k.housed same; only = λ p at. k.only p (sym (same p) ∙ at) }
 
     -- AN EDIT of collection j
@@ -150,7 +150,7 @@ module _ {L E H : Type 0} {Represents : Table E → H → List Place → Type 0}
             rw (others i n) (others_stay reading.kind (p ∷ (front ++ back)) (k.shown i)
             (disjoint_cons p (rows_of members links heads i) (front ++ back) (joins_out i) (subst (IsDisjoint (rows_of members links heads i)) joins_was (rows_apart k.housed i j n))) e.frame)
 
-        pub joined : Joins j front p back (rows_of members links heads) (rows_of members new after)
+        pub joined : Adds j front p back (rows_of members links heads) (rows_of members new after)
         joined = record {
           was = joins_was;
           is = reading.members_are new (after j) (front ++ p ∷ back) e.is;
@@ -158,7 +158,7 @@ module _ {L E H : Type 0} {Represents : Table E → H → List Place → Type 0}
         }
 
         -- ONE MORE, that is at home in collection j then
-        pub holds_joined : {other : Place → Option ℕ} → other p ≡ Some j → ((q : Place) → q ≢ p → other q ≡ home q) → Holds Represents linked table members new after other
+        pub holds_joined : {other : Place → Option ℕ} → other p ≡ Some j → ((q : Place) → q ≢ p → other q ≡ owner q) → Holds Represents linked table members new after other
         holds_joined {other} here beside = record {
           shown = λ i. at_row (λ i. Represents (table new) (after i) (rows_of members new after i)) j i (itself new (after j) e.is) (λ n. itself new (after i) (joins_still i n));
           housed = housed_joined k.housed beside joined here joins_out;
@@ -182,29 +182,29 @@ module _ {L E H : Type 0} {Represents : Table E → H → List Place → Type 0}
         }
 
         -- ONE LESS, that is at home nowhere then
-        pub holds_left : {other : Place → Option ℕ} → other p ≡ None → ((q : Place) → q ≢ p → other q ≡ home q) → Holds Represents linked table members new after other
+        pub holds_left : {other : Place → Option ℕ} → other p ≡ None → ((q : Place) → q ≢ p → other q ≡ owner q) → Holds Represents linked table members new after other
         holds_left {other} gone beside = record {
           shown = λ i. at_row (λ i. Represents (table new) (after i) (rows_of members new after i)) j i (itself new (after j) e.is) (λ n. itself new (after i) (leaves_still i n));
           housed = housed_left k.housed beside left gone (reading.kind.distinct (table links) (heads j) (rows_of members links heads j) (k.shown j));
           only = λ q. everywhere (λ q. other q ≡ None → IsUnlinked linked (table new) q) p q (λ at. e.off.is) (λ n at. e.off.others q n ∙ k.only q (sym (beside q n) ∙ at));
         }
 
-      module _ {before behind : List Place} (e : HasMoved Represents linked (table links) (table new) (heads j) (after j) front p back before behind) where
+      module _ {before following : List Place} (e : HasMoved Represents linked (table links) (table new) (heads j) (after j) front p back before following) where
         moves_still : (i : ℕ) → i ≢ j → Represents (table new) (after i) (rows_of members links heads i)
         moves_still i n =
             rw (others i n) (others_stay reading.kind (front ++ p ∷ back) (k.shown i)
             (subst (IsDisjoint (rows_of members links heads i)) (reading.members_are links (heads j) (front ++ p ∷ back) e.was) (rows_apart k.housed i j n)) e.frame)
 
-        pub moved : Moves j front p back before behind (rows_of members links heads) (rows_of members new after)
+        pub moved : Moves j front p back before following (rows_of members links heads) (rows_of members new after)
         moved = record {
           was = reading.members_are links (heads j) (front ++ p ∷ back) e.was;
           rest = e.rest;
-          is = reading.members_are new (after j) (before ++ p ∷ behind) e.is;
+          is = reading.members_are new (after j) (before ++ p ∷ following) e.is;
           others = λ i n. reading.members_are new (after i) (rows_of members links heads i) (moves_still i n);
         }
 
         -- ONE ELSEWHERE in its collection
-        pub holds_moved : Holds Represents linked table members new after home
+        pub holds_moved : Holds Represents linked table members new after owner
         holds_moved = record {
           shown = λ i. at_row (λ i. Represents (table new) (after i) (rows_of members new after i)) j i (itself new (after j) e.is) (λ n. itself new (after i) (moves_still i n));
           housed = housed_moved k.housed moved;
@@ -212,28 +212,28 @@ module _ {L E H : Type 0} {Represents : Table E → H → List Place → Type 0}
         }
 
   -- FROM COLLECTION j TO COLLECTION i: taken off the one, and put into the other
-  module _ {links : L} {heads : ℕ → H} {home : Place → Option ℕ} (k : Holds Represents linked table members links heads home) (j : ℕ) (mid : L) {front : List Place} {p : Place} {back : List Place} {between : ℕ → H}
+  module _ {links : L} {heads : ℕ → H} {owner : Place → Option ℕ} (k : Holds Represents linked table members links heads owner) (j : ℕ) (mid : L) {front : List Place} {p : Place} {back : List Place} {between : ℕ → H}
       (others : (i : ℕ) → i ≢ j → between i ≡ heads i) (off : HasLeft Represents linked (table links) (table mid) (heads j) (between j) front p back) where
     -- it is at home nowhere between the two
-    pub holds_off : Holds Represents linked table members mid between (homeless p home)
-    holds_off = holds_left k j mid others off (homeless_there p home) (homeless_beside p home)
+    pub holds_off : Holds Represents linked table members mid between (ownerless p owner)
+    holds_off = holds_left k j mid others off (ownerless_there p owner) (ownerless_beside p owner)
 
-    module _ (i : ℕ) (new : L) {before behind : List Place} {after : ℕ → H} (rest : (l : ℕ) → l ≢ i → after l ≡ between l) (on : HasJoined Represents linked (table mid) (table new) (between i) (after i) before p behind) where
-      pub holds_transferred : {other : Place → Option ℕ} → other p ≡ Some i → ((q : Place) → q ≢ p → other q ≡ home q) → Holds Represents linked table members new after other
-      holds_transferred here beside = holds_joined holds_off i new rest on here (λ q n. beside q n ∙ sym (homeless_beside p home q n))
+    module _ (i : ℕ) (new : L) {before following : List Place} {after : ℕ → H} (rest : (l : ℕ) → l ≢ i → after l ≡ between l) (on : HasJoined Represents linked (table mid) (table new) (between i) (after i) before p following) where
+      pub holds_transferred : {other : Place → Option ℕ} → other p ≡ Some i → ((q : Place) → q ≢ p → other q ≡ owner q) → Holds Represents linked table members new after other
+      holds_transferred here beside = holds_joined holds_off i new rest on here (λ q n. beside q n ∙ sym (ownerless_beside p owner q n))
 
-      pub transferred : Leaves j front p back (rows_of members links heads) (rows_of members mid between) × Joins i before p behind (rows_of members mid between) (rows_of members new after)
+      pub transferred : Leaves j front p back (rows_of members links heads) (rows_of members mid between) × Adds i before p following (rows_of members mid between) (rows_of members new after)
       transferred = (left k j mid others off, joined holds_off i new rest on)
 
   -- BY THE OBJECTS: `belongs` says in which collection an object is, if in any
-  module _ {T : Type 0} (belongs : T → Option ℕ) (objects : Objects T) {links : L} {heads : ℕ → H} (k : Holds Represents linked table members links heads (home_of belongs objects)) where
+  module _ {T : Type 0} (belongs : T → Option ℕ) (objects : Objects T) {links : L} {heads : ℕ → H} (k : Holds Represents linked table members links heads (owner_of belongs objects)) where
     -- a vacant place is not linked,
     pub vacant_off : {p : Place} → object_at objects p ≡ None → IsUnlinked linked (table links) p
-    vacant_off {p} none = k.only p (ap (home_or belongs) none)
+    vacant_off {p} none = k.only p (ap (owner_or belongs) none)
 
     -- and an object stands in the collection where it belongs
     pub object_stands : {p : Place} {v : T} {j : ℕ} → object_at objects p ≡ Some v → belongs v ≡ Some j → HasMember (Represents (table links) (heads j)) p
-    object_stands {p} {v} {j} there is = stands k j p (ap (home_or belongs) there ∙ is)
+    object_stands {p} {v} {j} there is = stands k j p (ap (owner_or belongs) there ∙ is)
 
     -- ONE OBJECT MORE, placed and put into collection j
     module _ {more : Objects T} {p : Place} {v : T} (places : Places objects more p v) (grown : L) (grows : Grows (table links) (table grown)) where
@@ -247,17 +247,17 @@ module _ {L E H : Type 0} {Represents : Table E → H → List Place → Type 0}
 
       module _ (j : ℕ) (new : L) {front back : List Place} {after : ℕ → H} (others : (i : ℕ) → i ≢ j → after i ≡ heads i) (is : belongs v ≡ Some j)
           (e : HasJoined Represents linked (table grown) (table new) (heads j) (after j) front p back) where
-        pub holds_new : Holds Represents linked table members new after (home_of belongs more)
-        holds_new = holds_joined (holds_grown k grown grows) j new others e (home_placed belongs places ∙ is) (homes_placed belongs places)
+        pub holds_new : Holds Represents linked table members new after (owner_of belongs more)
+        holds_new = holds_joined (holds_grown k grown grows) j new others e (owner_placed belongs places ∙ is) (owners_placed belongs places)
 
-        pub new_joined : Joins j front p back (rows_of members links heads) (rows_of members new after)
+        pub new_joined : Adds j front p back (rows_of members links heads) (rows_of members new after)
         new_joined = joins_from (rows_grown k grown grows) (joined (holds_grown k grown grows) j new others e)
 
     -- ONE LESS, taken off collection j and out of the objects
     pub holds_freed : {less : Objects T} {p : Place} → Frees objects less p → (j : ℕ) (new : L) {front back : List Place} {after : ℕ → H} → ((i : ℕ) → i ≢ j → after i ≡ heads i)
-        → HasLeft Represents linked (table links) (table new) (heads j) (after j) front p back → Holds Represents linked table members new after (home_of belongs less)
-    holds_freed frees j new others e = holds_left k j new others e (home_freed belongs frees) (homes_freed belongs frees)
+        → HasLeft Represents linked (table links) (table new) (heads j) (after j) front p back → Holds Represents linked table members new after (owner_of belongs less)
+    holds_freed frees j new others e = holds_left k j new others e (owner_freed belongs frees) (owners_freed belongs frees)
 
     -- ANOTHER VALUE in the place of one, that belongs where that did
-    pub holds_changed : {new : Objects T} {p : Place} {v : T} → Puts objects new p v → belongs v ≡ home_of belongs objects p → Holds Represents linked table members links heads (home_of belongs new)
-    holds_changed {new} {p} puts same = holds_same k (λ q. everywhere (λ q. home_of belongs new q ≡ home_of belongs objects q) p q (ap (home_or belongs) (put_there puts) ∙ same) (λ n. ap (home_or belongs) (put_others puts q n)))
+    pub holds_changed : {new : Objects T} {p : Place} {v : T} → Puts objects new p v → belongs v ≡ owner_of belongs objects p → Holds Represents linked table members links heads (owner_of belongs new)
+    holds_changed {new} {p} puts same = holds_same k (λ q. everywhere (λ q. owner_of belongs new q ≡ owner_of belongs objects q) p q (ap (owner_or belongs) (put_there puts) ∙ same) (λ n. ap (owner_or belongs) (put_others puts q n)))

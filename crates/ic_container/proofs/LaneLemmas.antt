@@ -9,10 +9,10 @@ use Rattle.ic_link_ops.proofs.SequenceLemmas.{first_is, nothing_first, some_same
 use Rattle.ic_pool.specs.Pooled.{Grows}
 use Rattle.ic_container.specs.Holds.{list_rows, members_in}
 use Rattle.ic_container.specs.ListReadings.{ReadsLists}
-use Rattle.ic_container.specs.Lanes.{Lanes, lane, lane_at, lanes_in, lanes_of, in_lane, AreLaned, IsFirst, IsLaned, IsEmpty, IsUnchanged, LaneJoins, LaneLeaves, LaneMoves, Pushes, Goes, TakesFirst, TakesOut, Renews}
-use Rattle.ic_container.specs.Rows.{Stays, home_or, home_of}
+use Rattle.ic_container.specs.Lanes.{Lanes, lane, lane_at, lanes_in, lanes_of, in_lane, AreLaned, IsFirst, IsLaned, IsEmpty, IsUnchanged, LaneAdds, LaneLeaves, LaneMoves, Pushes, Goes, TakesFirst, TakesOut, Renews}
+use Rattle.ic_container.specs.Rows.{Stays, owner_or, owner_of}
 use Rattle.ic_container.proofs.HoldsLemmas.{list_reading, nothing_linked, wide_reads, holds_freed, holds_grown, holds_new, holds_none, holds_transferred, left, new_joined, new_off, none_stand, object_stands, rows_grown, rows_seen, transferred}
-use Rattle.ic_container.proofs.RowLemmas.{back_seen, leaves_seen, member_home, no_front, puts_back}
+use Rattle.ic_container.proofs.RowLemmas.{back_seen, leaves_seen, member_owner, no_front, puts_back}
 
 module _ {L E : Type 0} {neighbors : E → Neighbors} {linked : E → Bool} {table : L → Table E} (reads : ReadsLists neighbors linked table) {T : Type 0} (objects : Objects T) (links : L) (lanes : List Ends) where
   -- the lanes are the rows of the table
@@ -24,7 +24,7 @@ module _ {L E : Type 0} {neighbors : E → Neighbors} {linked : E → Bool} {tab
     pub laned_first : (lane_of : T → ℕ) → (table links).extent.places ≡ 0 → AreLaned lane_of neighbors linked table objects links lanes
     laned_first lane_of none = record {
       reading = reads;
-      holds = holds_none (list_reading reads) links empty (λ p. ap (home_or (in_lane lane_of)) (vacant p)) (nothing_linked reads links none);
+      holds = holds_none (list_reading reads) links empty (λ p. ap (owner_or (in_lane lane_of)) (vacant p)) (nothing_linked reads links none);
     }
 
     pub lanes_first : IsEmpty (lanes_in (members_in neighbors table) objects links lanes)
@@ -68,7 +68,7 @@ module _ {L E : Type 0} {neighbors : E → Neighbors} {linked : E → Bool} {tab
       laned_off = new_off (list_reading k.reading) (in_lane lane_of) objects k.holds places grown grows
 
       -- and goes after all others of its lane
-      module _ (after : L) (ends : List Ends) {s : List Place} (e : LaneJoins neighbors linked (lane_of v) (table grown) (table after) lanes ends s p []) where
+      module _ (after : L) (ends : List Ends) {s : List Place} (e : LaneAdds neighbors linked (lane_of v) (table grown) (table after) lanes ends s p []) where
         pub laned_new : AreLaned lane_of neighbors linked table more after ends
         laned_new = record { reading = k.reading; holds = holds_new (list_reading k.reading) (in_lane lane_of) objects k.holds places grown grows (lane_of v) after e.others refl e.edit }
 
@@ -103,8 +103,8 @@ module _ {L E : Type 0} {neighbors : E → Neighbors} {linked : E → Bool} {tab
           let puts = puts_other objects p value in
           record {
             reading = k.reading;
-            holds = holds_transferred (list_reading k.reading) k.holds (lane_of v) e.mid e.off.others e.off.edit (lane_of value) after e.on.others e.on.edit (ap (home_or (in_lane lane_of)) (put_there puts))
-                (λ q n. ap (home_or (in_lane lane_of)) (put_others puts q n));
+            holds = holds_transferred (list_reading k.reading) k.holds (lane_of v) e.mid e.off.others e.off.edit (lane_of value) after e.on.others e.on.edit (ap (owner_or (in_lane lane_of)) (put_there puts))
+                (λ q n. ap (owner_or (in_lane lane_of)) (put_others puts q n));
           }
 
       pub lanes_renewed : Renews lane_of p v value (lanes_at objects links lanes) (lanes_at (with_object objects p value) after ends)
@@ -131,12 +131,12 @@ module _ {L E : Type 0} {neighbors : E → Neighbors} {linked : E → Bool} {tab
     is_first : Some p ≡ first (list_rows neighbors table links (lane_at lanes) at.0)
     is_first = sym at.1 ∙ (k.holds.shown at.0).head
 
-    first_home : home_of (in_lane lane_of) objects p ≡ Some at.0
-    first_home = member_home k.holds.housed at.0 [] p (drop 1 (list_rows neighbors table links (lane_at lanes) at.0)) (first_is (list_rows neighbors table links (lane_at lanes) at.0) is_first)
+    first_owner : owner_of (in_lane lane_of) objects p ≡ Some at.0
+    first_owner = member_owner k.holds.housed at.0 [] p (drop 1 (list_rows neighbors table links (lane_at lanes) at.0)) (first_is (list_rows neighbors table links (lane_at lanes) at.0) is_first)
 
     -- an object stands there,
     pub first_named : object_at objects p ≢ None
-    first_named none = let never : None ≡ Some at.0 = sym (ap (home_or (in_lane lane_of)) none) ∙ first_home in absurd (cc)
+    first_named none = let never : None ≡ Some at.0 = sym (ap (owner_or (in_lane lane_of)) none) ∙ first_owner in absurd (cc)
 
     -- and if it is taken out, it is the first of the lowest lane that has one
     pub takes_first : (v : T) (new : Lanes T) → TakesOut lane_of p v (lanes_at objects links lanes) new → TakesFirst lane_of v (lanes_at objects links lanes) new
@@ -147,7 +147,7 @@ module _ {L E : Type 0} {neighbors : E → Neighbors} {linked : E → Bool} {tab
       lowest = λ i less. lane_none i (at.2 i (subst (λ (n : ℕ). i < n) is_lane less));
     } where
       is_lane : lane_of v ≡ at.0
-      is_lane = some_same (sym (ap (home_or (in_lane lane_of)) out.goes.named) ∙ first_home)
+      is_lane = some_same (sym (ap (owner_or (in_lane lane_of)) out.goes.named) ∙ first_owner)
 
       none : out.front ≡ []
       none = no_front p (list_rows neighbors table links (lane_at lanes) at.0) (k.holds.shown at.0).distinct is_first out.front out.back

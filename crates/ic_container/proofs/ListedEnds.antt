@@ -10,7 +10,7 @@ use Rattle.ic_link_ops.specs.LinkedList.{Neighbors, Represents}
 use Rattle.ic_link_ops.proofs.PlacedValues.{values_beside}
 use Rattle.ic_link_ops.proofs.SequenceLemmas.{distinct_middle, none_not}
 use Rattle.ic_pool.specs.Pooled.{Grows}
-use Rattle.ic_container.specs.Holds.{members_in, ListJoins, ListMoves}
+use Rattle.ic_container.specs.Holds.{members_in, ListAdds, ListMoves}
 use Rattle.ic_container.specs.ListReadings.{ReadsLists}
 use Rattle.ic_container.specs.Orders.{Order, values_of, IsListed, IsWhole}
 use Rattle.ic_container.specs.Rows.{to_one}
@@ -101,7 +101,7 @@ module _ {L E : Type 0} {neighbors : E → Neighbors} {linked : E → Bool} {tab
   all_walked = record { members = members_in neighbors table links list; shown = k.holds.shown 0; placed = listed_placed k }
 
   -- A NEW OBJECT after all others
-  module _ (grown : L) (grows : Grows (table links) (table grown)) {p : Place} {value : T} {new : Objects T} (places : Places objects new p value) (after : L) (ends : Ends) {s : List Place} (e : ListJoins neighbors linked (table grown) (table after) list ends s p []) where
+  module _ (grown : L) (grows : Grows (table links) (table grown)) {p : Place} {value : T} {new : Objects T} (places : Places objects new p value) (after : L) (ends : Ends) {s : List Place} (e : ListAdds neighbors linked (table grown) (table after) list ends s p []) where
     pub order_after : members_in neighbors table after ends ≡ members_in neighbors table links list ++ p ∷ []
     order_after = (puts_back (new_joined (list_reading k.reading) to_one objects k.holds places grown grows 0 after (alone_others no_members list ends) refl e)).is
 

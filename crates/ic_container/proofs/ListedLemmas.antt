@@ -10,13 +10,13 @@ use Rattle.ic_link_ops.specs.Chains.{Ends, no_members}
 use Rattle.ic_link_ops.specs.LinkedList.{Neighbors, Represents}
 use Rattle.ic_link_ops.proofs.SequenceLemmas.{first_is, member_split}
 use Rattle.ic_pool.specs.Pooled.{Grows}
-use Rattle.ic_container.specs.Holds.{members_in, ListJoins, ListLeaves, ListMoves}
+use Rattle.ic_container.specs.Holds.{members_in, ListAdds, ListLeaves, ListMoves}
 use Rattle.ic_container.specs.ListReadings.{ReadsLists}
 use Rattle.ic_container.specs.Orders.{Order, order_of, values_of, IsListed, IsWhole}
-use Rattle.ic_container.specs.Rows.{home_or, to_one}
+use Rattle.ic_container.specs.Rows.{owner_or, to_one}
 use Rattle.ic_container.specs.Values.{last_value, Without}
 use Rattle.ic_container.proofs.HoldsLemmas.{list_reading, nothing_linked, none_stand, holds_none, holds_changed, holds_freed, holds_grown, holds_moved, holds_new, left, moved, new_absent, new_joined, new_off, rows_grown, stands}
-use Rattle.ic_container.proofs.RowLemmas.{alone_none, alone_others, home_one, puts_front, rows_placed}
+use Rattle.ic_container.proofs.RowLemmas.{alone_none, alone_others, owner_one, puts_front, rows_placed}
 use Rattle.ic_container.proofs.ValueLemmas.{last_is, last_placed, value_cut, values_front, values_left, values_moved}
 
 -- AN OBJECT is one of the values
@@ -32,14 +32,14 @@ module _ {L E : Type 0} {neighbors : E → Neighbors} {linked : E → Bool} {tab
   pub listed_none : {T : Type 0} {objects : Objects T} → objects.values ≡ map.empty → ((p : Place) → object_at objects p ≡ None) → (table links).extent.places ≡ 0 → IsListed neighbors linked table objects links list
   listed_none empty vacant off = record {
     reading = reads;
-    holds = holds_none (list_reading reads) links (alone_none no_members list none) (λ p. ap (home_or to_one) (vacant p)) (nothing_linked reads links off);
+    holds = holds_none (list_reading reads) links (alone_none no_members list none) (λ p. ap (owner_or to_one) (vacant p)) (nothing_linked reads links off);
     count = ap map.len empty ∙ len-empty nat_cmp _ ∙ sym (ap length order_none);
   }
 
 module _ {L E : Type 0} {neighbors : E → Neighbors} {linked : E → Bool} {table : L → Table E} {T : Type 0} {objects : Objects T} {links : L} {list : Ends} (k : IsListed neighbors linked table objects links list) where
   -- an object is a member,
   pub listed_stands : {p : Place} → is_placed objects p ≡ true → HasMember (Represents neighbors (table links) list) p
-  listed_stands {p} is = stands (list_reading k.reading) k.holds 0 p (home_one objects p is)
+  listed_stands {p} is = stands (list_reading k.reading) k.holds 0 p (owner_one objects p is)
 
   pub listed_distinct : IsDistinct (members_in neighbors table links list)
   listed_distinct = (k.holds.shown 0).distinct
@@ -48,7 +48,7 @@ module _ {L E : Type 0} {neighbors : E → Neighbors} {linked : E → Bool} {tab
   listed_placed = rows_placed objects 0 (members_in neighbors table links list) (k.holds.housed.own 0)
 
   pub listed_whole : IsWhole (order_of neighbors table objects links list)
-  listed_whole = record { once = listed_distinct; placed = listed_placed; all = λ p is. k.holds.housed.all p 0 (home_one objects p is) }
+  listed_whole = record { once = listed_distinct; placed = listed_placed; all = λ p is. k.holds.housed.all p 0 (owner_one objects p is) }
 
   -- and what stands first, or last, is one
   pub listed_first : IfSome list.head (λ p. is_placed objects p ≡ true)
@@ -81,7 +81,7 @@ module _ {L E : Type 0} {neighbors : E → Neighbors} {linked : E → Bool} {tab
       listed_off = new_off (list_reading k.reading) to_one objects k.holds places grown grows
 
       -- and goes before all others
-      module _ (after : L) (ends : Ends) {s : List Place} (e : ListJoins neighbors linked (table grown) (table after) list ends [] p s) where
+      module _ (after : L) (ends : Ends) {s : List Place} (e : ListAdds neighbors linked (table grown) (table after) list ends [] p s) where
         pub order_new : members_in neighbors table after ends ≡ p ∷ members_in neighbors table links list
         order_new = (puts_front (new_joined (list_reading k.reading) to_one objects k.holds places grown grows 0 after (alone_others no_members list ends) refl e)).is
 
@@ -99,7 +99,7 @@ module _ {L E : Type 0} {neighbors : E → Neighbors} {linked : E → Bool} {tab
             (new_absent (list_reading k.reading) to_one objects k.holds places grown grows 0)
 
   -- MOVED before all others
-  module _ {p : Place} (after : L) (ends : Ends) (e : (front : List Place) × (back : List Place) × (behind : List Place) × ListMoves neighbors linked (table links) (table after) list ends front p back [] behind) where
+  module _ {p : Place} (after : L) (ends : Ends) (e : (front : List Place) × (back : List Place) × (following : List Place) × ListMoves neighbors linked (table links) (table after) list ends front p back [] following) where
     pub listed_moved : IsListed neighbors linked table objects after ends
     listed_moved = record {
       reading = k.reading;
@@ -118,7 +118,7 @@ module _ {L E : Type 0} {neighbors : E → Neighbors} {linked : E → Bool} {tab
 
   -- ANOTHER VALUE in the place of one
   pub listed_changed : {new : Objects T} {p : Place} {value : T} → is_placed objects p ≡ true → Puts objects new p value → IsListed neighbors linked table new links list
-  listed_changed {p = p} is puts = record { reading = k.reading; holds = holds_changed (list_reading k.reading) to_one objects k.holds puts (sym (home_one objects p is)); count = count_put is puts ∙ k.count }
+  listed_changed {p = p} is puts = record { reading = k.reading; holds = holds_changed (list_reading k.reading) to_one objects k.holds puts (sym (owner_one objects p is)); count = count_put is puts ∙ k.count }
 
   -- TAKEN OFF, and out
   module _ {p : Place} {less : Objects T} (frees : Frees objects less p) (after : L) (ends : Ends) {front back : List Place} (e : ListLeaves neighbors linked (table links) (table after) list ends front p back) where

@@ -7,7 +7,7 @@ use Rattle.ic_unsafe_ref.proofs.Placing.{placed_there, others_placed, gone_there
 use Rattle.ic_link_ops.proofs.Each.{all_map, all_with, all_without}
 use Rattle.ic_link_ops.proofs.LinkedSets.{everywhere}
 use Rattle.ic_link_ops.proofs.SequenceLemmas.{absent_with, absent_without, distinct_middle, distinct_right, last_not, last_or-append, none_not, some_same, split_member}
-use Rattle.ic_container.specs.Rows.{Rows, Joins, Leaves, PutsFront, PutsBack, Moves, Stays, EachInItsList, home_or, home_of, to_one, alone}
+use Rattle.ic_container.specs.Rows.{Rows, Adds, Leaves, PutsFront, PutsBack, Moves, Stays, EachInItsList, owner_or, owner_of, to_one, alone}
 
 -- what holds at k and at every other number holds at each
 pub at_row : (P : ℕ → Type 0) (k i : ℕ) → P k → (i ≢ k → P i) → P i
@@ -23,40 +23,40 @@ alone_none none x is zero = is
 alone_none none x is (suc i) = refl
 
 -- an object is at home in the only row
-pub home_one : {T : Type 0} (objects : Objects T) (p : Place) → is_placed objects p ≡ true → home_of to_one objects p ≡ Some 0
-home_one {T} objects p is = by (object_at objects p) is where
-  by : (o : Option T) → is_some o ≡ true → home_or to_one o ≡ Some 0
+pub owner_one : {T : Type 0} (objects : Objects T) (p : Place) → is_placed objects p ≡ true → owner_of to_one objects p ≡ Some 0
+owner_one {T} objects p is = by (object_at objects p) is where
+  by : (o : Option T) → is_some o ≡ true → owner_or to_one o ≡ Some 0
   by None h = absurd (true≢false (sym h))
   by (Some v) h = refl
 
 -- what is at home somewhere is placed
-pub rows_placed : {T : Type 0} (objects : Objects T) (k : ℕ) (s : List Place) → AllByRecursion (λ p. home_of to_one objects p ≡ Some k) s → ArePlaced objects s
+pub rows_placed : {T : Type 0} (objects : Objects T) (k : ℕ) (s : List Place) → AllByRecursion (λ p. owner_of to_one objects p ≡ Some k) s → ArePlaced objects s
 rows_placed objects k [] own = tt
 rows_placed {T} objects k (x ∷ s) own = (by (object_at objects x) own.0, rows_placed objects k s own.1) where
-  by : (o : Option T) → home_or to_one o ≡ Some k → IsSome o
+  by : (o : Option T) → owner_or to_one o ≡ Some k → IsSome o
   by None h = absurd (none_not k h)
   by (Some v) h = refl
 
 -- WHERE PLACES ARE AT HOME after an object was placed, freed or changed: those beside it stay
 module _ {T : Type 0} (belongs : T → Option ℕ) {old new : Objects T} {p : Place} where
-  pub home_placed : {v : T} → Places old new p v → home_of belongs new p ≡ belongs v
-  home_placed places = ap (home_or belongs) (placed_there places)
+  pub owner_placed : {v : T} → Places old new p v → owner_of belongs new p ≡ belongs v
+  owner_placed places = ap (owner_or belongs) (placed_there places)
 
-  pub homes_placed : {v : T} → Places old new p v → (q : Place) → q ≢ p → home_of belongs new q ≡ home_of belongs old q
-  homes_placed places q n = ap (home_or belongs) (others_placed places q n)
+  pub owners_placed : {v : T} → Places old new p v → (q : Place) → q ≢ p → owner_of belongs new q ≡ owner_of belongs old q
+  owners_placed places q n = ap (owner_or belongs) (others_placed places q n)
 
-  pub home_freed : Frees old new p → home_of belongs new p ≡ None
-  home_freed frees = ap (home_or belongs) (gone_there frees)
+  pub owner_freed : Frees old new p → owner_of belongs new p ≡ None
+  owner_freed frees = ap (owner_or belongs) (gone_there frees)
 
-  pub homes_freed : Frees old new p → (q : Place) → q ≢ p → home_of belongs new q ≡ home_of belongs old q
-  homes_freed frees q n = ap (home_or belongs) (others_left frees q n)
+  pub owners_freed : Frees old new p → (q : Place) → q ≢ p → owner_of belongs new q ≡ owner_of belongs old q
+  owners_freed frees q n = ap (owner_or belongs) (others_left frees q n)
 
-module _ {home : Place → Option ℕ} {rows : Rows} (h : EachInItsList home rows) where
-  absent_from : {i j : ℕ} → i ≢ j → (p : Place) → home p ≡ Some i → (s : List Place) → AllByRecursion (λ q. home q ≡ Some j) s → IsAbsent p s
+module _ {owner : Place → Option ℕ} {rows : Rows} (h : EachInItsList owner rows) where
+  absent_from : {i j : ℕ} → i ≢ j → (p : Place) → owner p ≡ Some i → (s : List Place) → AllByRecursion (λ q. owner q ≡ Some j) s → IsAbsent p s
   absent_from apart p at [] own = tt
-  absent_from {i} apart p at (x ∷ s) own = (λ e. apart (some_same (sym at ∙ ap home e ∙ own.0)), absent_from apart p at s own.1)
+  absent_from {i} apart p at (x ∷ s) own = (λ e. apart (some_same (sym at ∙ ap owner e ∙ own.0)), absent_from apart p at s own.1)
 
-  all_apart : {i j : ℕ} → i ≢ j → (s t : List Place) → AllByRecursion (λ q. home q ≡ Some i) s → AllByRecursion (λ q. home q ≡ Some j) t → IsDisjoint s t
+  all_apart : {i j : ℕ} → i ≢ j → (s t : List Place) → AllByRecursion (λ q. owner q ≡ Some i) s → AllByRecursion (λ q. owner q ≡ Some j) t → IsDisjoint s t
   all_apart apart [] t own other = tt
   all_apart apart (x ∷ s) t own other = (absent_from apart x own.0 t other, all_apart apart s t own.1 other)
 
@@ -64,25 +64,25 @@ module _ {home : Place → Option ℕ} {rows : Rows} (h : EachInItsList home row
   pub rows_apart : (i j : ℕ) → i ≢ j → IsDisjoint (rows i) (rows j)
   rows_apart i j n = all_apart n (rows i) (rows j) (h.own i) (h.own j)
 
-  all_at : {i : ℕ} (front : List Place) (p : Place) (back : List Place) → AllByRecursion (λ q. home q ≡ Some i) (front ++ p ∷ back) → home p ≡ Some i
+  all_at : {i : ℕ} (front : List Place) (p : Place) (back : List Place) → AllByRecursion (λ q. owner q ≡ Some i) (front ++ p ∷ back) → owner p ≡ Some i
   all_at [] p back own = own.0
   all_at (x ∷ front) p back own = all_at front p back own.1
 
   -- a member is at home
-  pub member_home : (k : ℕ) (front : List Place) (p : Place) (back : List Place) → rows k ≡ front ++ p ∷ back → home p ≡ Some k
-  member_home k front p back was = all_at front p back (subst (AllByRecursion (λ q. home q ≡ Some k)) was (h.own k))
+  pub member_owner : (k : ℕ) (front : List Place) (p : Place) (back : List Place) → rows k ≡ front ++ p ∷ back → owner p ≡ Some k
+  member_owner k front p back was = all_at front p back (subst (AllByRecursion (λ q. owner q ≡ Some k)) was (h.own k))
 
-  pub housed_same : {other : Place → Option ℕ} → ((p : Place) → other p ≡ home p) → EachInItsList other rows
+  pub housed_same : {other : Place → Option ℕ} → ((p : Place) → other p ≡ owner p) → EachInItsList other rows
   housed_same same = record { own = λ i. all_map (λ q at. same q ∙ at) (rows i) (h.own i); all = λ p i at. h.all p i (sym (same p) ∙ at) }
 
-  module _ {p : Place} {other : Place → Option ℕ} (beside : (q : Place) → q ≢ p → other q ≡ home q) where
-    still : (i : ℕ) (s : List Place) → IsAbsent p s → AllByRecursion (λ q. home q ≡ Some i) s → AllByRecursion (λ q. other q ≡ Some i) s
+  module _ {p : Place} {other : Place → Option ℕ} (beside : (q : Place) → q ≢ p → other q ≡ owner q) where
+    still : (i : ℕ) (s : List Place) → IsAbsent p s → AllByRecursion (λ q. owner q ≡ Some i) s → AllByRecursion (λ q. other q ≡ Some i) s
     still i [] out own = tt
     still i (x ∷ s) out own = (beside x (λ e. out.0 (sym e)) ∙ own.0, still i s out.1 own.1)
 
-  module _ {k : ℕ} {front : List Place} {p : Place} {back : List Place} {new : Rows} {other : Place → Option ℕ} (beside : (q : Place) → q ≢ p → other q ≡ home q) where
+  module _ {k : ℕ} {front : List Place} {p : Place} {back : List Place} {new : Rows} {other : Place → Option ℕ} (beside : (q : Place) → q ≢ p → other q ≡ owner q) where
     -- ONE PLACE MORE, that was no member
-    pub housed_joined : Joins k front p back rows new → other p ≡ Some k → ((i : ℕ) → IsAbsent p (rows i)) → EachInItsList other new
+    pub housed_joined : Adds k front p back rows new → other p ≡ Some k → ((i : ℕ) → IsAbsent p (rows i)) → EachInItsList other new
     housed_joined joins here out = record {
       own = λ i. at_row (λ i. AllByRecursion (λ q. other q ≡ Some i) (new i)) k i
           (subst (AllByRecursion (λ q. other q ≡ Some k)) (sym joins.is) (all_with (λ q. other q ≡ Some k) front p back here (subst (AllByRecursion (λ q. other q ≡ Some k)) joins.was (still beside k (rows k) (out k) (h.own k)))))
@@ -99,8 +99,8 @@ module _ {home : Place → Option ℕ} {rows : Rows} (h : EachInItsList home row
     housed_left leaves gone distinct = record {
       own = λ i. at_row (λ i. AllByRecursion (λ q. other q ≡ Some i) (new i)) k i
           (subst (AllByRecursion (λ q. other q ≡ Some k)) (sym leaves.is) (still beside k (front ++ back) (distinct_middle front back p (subst IsDistinct leaves.was distinct))
-          (all_without (λ q. home q ≡ Some k) front p back (subst (AllByRecursion (λ q. home q ≡ Some k)) leaves.was (h.own k)))))
-          (λ n. subst (AllByRecursion (λ q. other q ≡ Some i)) (sym (leaves.others i n)) (still beside i (rows i) (absent_from (λ e. n (sym e)) p (member_home k front p back leaves.was) (rows i) (h.own i)) (h.own i)));
+          (all_without (λ q. owner q ≡ Some k) front p back (subst (AllByRecursion (λ q. owner q ≡ Some k)) leaves.was (h.own k)))))
+          (λ n. subst (AllByRecursion (λ q. other q ≡ Some i)) (sym (leaves.others i n)) (still beside i (rows i) (absent_from (λ e. n (sym e)) p (member_owner k front p back leaves.was) (rows i) (h.own i)) (h.own i)));
       all = λ q i. everywhere (λ q. other q ≡ Some i → IsMember q (new i)) p q
           (λ at. absurd (none_not i (sym gone ∙ at)))
           (λ n at. at_row (λ i. IsMember q (rows i) → IsMember q (new i)) k i
@@ -109,30 +109,30 @@ module _ {home : Place → Option ℕ} {rows : Rows} (h : EachInItsList home row
     }
 
   -- ONE PLACE ELSEWHERE in its row
-  pub housed_moved : {k : ℕ} {front : List Place} {p : Place} {back before behind : List Place} {new : Rows} → Moves k front p back before behind rows new → EachInItsList home new
-  housed_moved {k} {front} {p} {back} {before} {behind} {new} moves =
-      let at = member_home k front p back moves.was in
+  pub housed_moved : {k : ℕ} {front : List Place} {p : Place} {back before after : List Place} {new : Rows} → Moves k front p back before after rows new → EachInItsList owner new
+  housed_moved {k} {front} {p} {back} {before} {after} {new} moves =
+      let at = member_owner k front p back moves.was in
       record {
-        own = λ i. at_row (λ i. AllByRecursion (λ q. home q ≡ Some i) (new i)) k i
-            (subst (AllByRecursion (λ q. home q ≡ Some k)) (sym moves.is) (all_with (λ q. home q ≡ Some k) before p behind at
-            (subst (AllByRecursion (λ q. home q ≡ Some k)) moves.rest (all_without (λ q. home q ≡ Some k) front p back (subst (AllByRecursion (λ q. home q ≡ Some k)) moves.was (h.own k))))))
-            (λ n. subst (AllByRecursion (λ q. home q ≡ Some i)) (sym (moves.others i n)) (h.own i));
-        all = λ q i. everywhere (λ q. home q ≡ Some i → IsMember q (new i)) p q
-            (λ is. subst (λ (j : ℕ). IsMember p (new j)) (some_same (sym at ∙ is)) (subst (IsMember p) (sym moves.is) (split_member before p behind)))
+        own = λ i. at_row (λ i. AllByRecursion (λ q. owner q ≡ Some i) (new i)) k i
+            (subst (AllByRecursion (λ q. owner q ≡ Some k)) (sym moves.is) (all_with (λ q. owner q ≡ Some k) before p after at
+            (subst (AllByRecursion (λ q. owner q ≡ Some k)) moves.rest (all_without (λ q. owner q ≡ Some k) front p back (subst (AllByRecursion (λ q. owner q ≡ Some k)) moves.was (h.own k))))))
+            (λ n. subst (AllByRecursion (λ q. owner q ≡ Some i)) (sym (moves.others i n)) (h.own i));
+        all = λ q i. everywhere (λ q. owner q ≡ Some i → IsMember q (new i)) p q
+            (λ is. subst (λ (j : ℕ). IsMember p (new j)) (some_same (sym at ∙ is)) (subst (IsMember p) (sym moves.is) (split_member before p after)))
             (λ n is. at_row (λ i. IsMember q (rows i) → IsMember q (new i)) k i
-            (λ was absent. was (subst (IsAbsent q) (sym moves.was) (absent_with front back p q n (subst (IsAbsent q) (sym moves.rest) (absent_without before behind p q (subst (IsAbsent q) moves.is absent))))))
+            (λ was absent. was (subst (IsAbsent q) (sym moves.was) (absent_with front back p q n (subst (IsAbsent q) (sym moves.rest) (absent_without before after p q (subst (IsAbsent q) moves.is absent))))))
             (λ m was. subst (IsMember q) (sym (moves.others i m)) was) (h.all q i is));
       }
 
 -- FROM ROWS THAT STAYED
-pub joins_from : {k : ℕ} {front : List Place} {p : Place} {back : List Place} {a b c : Rows} → Stays a b → Joins k front p back b c → Joins k front p back a c
+pub joins_from : {k : ℕ} {front : List Place} {p : Place} {back : List Place} {a b c : Rows} → Stays a b → Adds k front p back b c → Adds k front p back a c
 joins_from {k} same j = record { was = sym (same k) ∙ j.was; is = j.is; others = λ i n. j.others i n ∙ same i }
 
 -- AT AN END of its row
-pub puts_front : {k : ℕ} {p : Place} {s : List Place} {a b : Rows} → Joins k [] p s a b → PutsFront k p a b
+pub puts_front : {k : ℕ} {p : Place} {s : List Place} {a b : Rows} → Adds k [] p s a b → PutsFront k p a b
 puts_front {p = p} j = record { is = j.is ∙ ap (λ (l : List Place). p ∷ l) (sym j.was); others = j.others }
 
-pub puts_back : {k : ℕ} {p : Place} {s : List Place} {a b : Rows} → Joins k s p [] a b → PutsBack k p a b
+pub puts_back : {k : ℕ} {p : Place} {s : List Place} {a b : Rows} → Adds k s p [] a b → PutsBack k p a b
 puts_back {p = p} {s} j = record { is = j.is ∙ ap (λ (l : List Place). l ++ p ∷ []) (sym (append-nil s) ∙ sym j.was); others = j.others }
 
 -- ROWS THAT ARE THE SAME, seen as others

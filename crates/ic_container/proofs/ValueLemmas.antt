@@ -6,12 +6,12 @@ use Rattle.ic_link_ops.specs.Prelude.{Place, Objects, object_at, is_placed, last
 use Rattle.ic_unsafe_ref.proofs.PlaceLemmas.{same_or_not}
 use Rattle.ic_link_ops.proofs.PlacedValues.{values_beside}
 use Rattle.ic_link_ops.proofs.SequenceLemmas.{absent_with, distinct_middle, member_split, none_not, some_same}
-use Rattle.ic_container.specs.Rows.{Rows, Joins, Leaves, Moves}
+use Rattle.ic_container.specs.Rows.{Rows, Adds, Leaves, Moves}
 use Rattle.ic_container.specs.Values.{last_value, Without}
 
 module _ {T : Type 0} (objects new : Objects T) {p : Place} (same : (q : Place) → q ≢ p → object_at new q ≡ object_at objects q) where
   -- a value before those of the row
-  pub values_front : {k : ℕ} {back : List Place} {old after : Rows} {v : T} → object_at new p ≡ Some v → Joins k [] p back old after → IsAbsent p (old k) → values_at new (after k) ≡ v ∷ values_at objects (old k)
+  pub values_front : {k : ℕ} {back : List Place} {old after : Rows} {v : T} → object_at new p ≡ Some v → Adds k [] p back old after → IsAbsent p (old k) → values_at new (after k) ≡ v ∷ values_at objects (old k)
   values_front {k} {back} {old} {after} {v} there j out =
       ap (values_at new) (j.is ∙ ap (λ (l : List Place). p ∷ l) (sym j.was)) ∙ ap (λ (o : Option T). cons_option o (values_at new (old k))) there
       ∙ ap (λ (l : List T). v ∷ l) (values_beside objects new p same (old k) out)
@@ -36,9 +36,9 @@ module _ {T : Type 0} (objects new : Objects T) {p : Place} (same : (q : Place) 
     }
 
     -- the value, or another one in its place, before the others
-    pub values_moved : {k : ℕ} {front back behind : List Place} {old after : Rows} {v : T} → IsDistinct (old k) → object_at new p ≡ Some v → Moves k front p back [] behind old after
+    pub values_moved : {k : ℕ} {front back following : List Place} {old after : Rows} {v : T} → IsDistinct (old k) → object_at new p ≡ Some v → Moves k front p back [] following old after
         → (rest : List T) × Without out (values_at objects (old k)) rest × (values_at new (after k) ≡ v ∷ rest)
-    values_moved {k} {front} {back} {behind} {old} {v = v} distinct there j = (
+    values_moved {k} {front} {back} {following} {old} {v = v} distinct there j = (
       values_at objects (front ++ back),
       record { front = values_at objects front; back = values_at objects back; was = values_cut (old k) front back j.was; is = filter_map-append (object_at objects) front back },
       ap (values_at new) (j.is ∙ ap (λ (l : List Place). p ∷ l) (sym j.rest)) ∙ ap (λ (o : Option T). cons_option o (values_at new (front ++ back))) there

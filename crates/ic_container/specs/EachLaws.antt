@@ -45,7 +45,7 @@ module _ {L E V : Type 0} {node : E → Node} {linked : E → Bool} {table : L �
     pub each_covered : (v : L) → ((q : Place) → (table v).entry q ≡ (table w).entry q) → HasEachIn node linked table key_of v root objects values
     each_covered v stays = record { reads = each.reads; sorted = has_covered kind nat_cmp_total each.sorted stays; exact = λ p. ap linked (stays p) ∙ each.exact p }
 
-    -- a vacant place is not linked, and members are placed after another object is
+    -- a vacant place is not linked, and members are still placed after another object was placed
     pub vacant_free : (p : Place) → object_at objects p ≡ None → IsUnlinked linked (table w) p
     vacant_free p vacant = each.exact p ∙ ap is_some vacant
 
@@ -69,7 +69,7 @@ module _ {L E V : Type 0} {node : E → Node} {linked : E → Bool} {table : L �
           },
         )
 
-    -- WHERE AN OBJECT STANDS among the members, and its value among the values
+    -- THE POSITION OF AN OBJECT among the members, and that of its value among the values
     module _ (p : Place) {out : V} (there : object_at objects p ≡ Some out) where
       pub each_linked : IsLinked linked (table w) p
       each_linked = each.exact p ∙ ap is_some there
@@ -81,11 +81,11 @@ module _ {L E V : Type 0} {node : E → Node} {linked : E → Bool} {table : L �
       each_value front back at = sym each.sorted.stand.are ∙ ap (values_at objects) at ∙ filter_map-append (object_at objects) front (p ∷ back)
           ∙ ap (λ (o : Option V). values_at objects front ++ cons_option o (values_at objects back)) there
 
-      -- what holds of each each_value holds of it
+      -- a property of every value holds of each single one
       pub at_each : (P : V → Type 0) → AllByRecursion P values → P out
       at_each P all = let m = each_member in (all_back P (values_at objects m.0) (out ∷ values_at objects m.1) (subst (AllByRecursion P) (each_value m.0 m.1 m.2) all)).0
 
-      -- TAKEN OUT
+      -- AFTER A REMOVAL
       module _ {new : Objects V} {v : L} {top : Option Place} (removed : (front back : List Place) → Represents node (table w) root (front ++ p ∷ back) → Represents node (table v) top (front ++ back))
           (off : Unlinks linked (table w) (table v) p) (frees : Frees objects new p) where
         pub each_taken : (front : List V) × (back : List V) × (values ≡ front ++ out ∷ back) × HasEachIn node linked table key_of v top new (front ++ back)
@@ -118,7 +118,7 @@ module _ {L E V : Type 0} {node : E → Node} {linked : E → Bool} {table : L �
                   (λ n absent. off.others q n ∙ each.sorted.only q (subst (IsAbsent q) (sym at) (absent_with front back p q n absent)));
             }
 
-      -- ANOTHER VALUE in its place, where the keys rise still
+      -- AFTER ANOTHER VALUE has replaced an object's, if the keys still rise
       module _ {new : Objects V} {r : V} (is : object_at new p ≡ Some r) (others : (q : Place) → q ≢ p → object_at new q ≡ object_at objects q) where
         pub each_changed : (front : List V) × (back : List V) × (values ≡ front ++ out ∷ back) × (IsSorted nat_cmp (map key_of (front ++ r ∷ back)) → HasEachIn node linked table key_of w root new (front ++ r ∷ back))
         each_changed = by each_member.0 each_member.1 each_member.2 where
@@ -147,7 +147,7 @@ module _ {L E V : Type 0} {node : E → Node} {linked : E → Bool} {table : L �
             placed : ArePlaced new (front ++ back)
             placed = all_beside objects new p others IsSome (front ++ back) out_of (all_without (λ q. IsSome (object_at objects q)) front p back (subst (ArePlaced objects) at each.sorted.stand.placed))
 
--- A PLAIN TABLE has the laws of a table of trees, of whatever width its words are
+-- A PLAIN TABLE has the laws of a table of trees, for words of any width
 module _ {W A : Type 0} (width : Width) (unlinked : W) (is_linked : W → Bool) (node : W → Node) where
   pub plain_reads : is_linked unlinked ≡ false → ((w : W) → (node w).linked ≡ is_linked w) → ReadsTrees (node_by node) (linked_by is_linked) (plain.table {A = A} width unlinked)
   plain_reads starts alike = record {
@@ -155,6 +155,6 @@ module _ {W A : Type 0} (width : Width) (unlinked : W) (is_linked : W → Bool) 
     covered = λ links p is. linked_in_range (linked_by is_linked) (link_of unlinked) starts (nameable width (entries links)) (index_of p) is;
   }
 
--- and one of 8-byte words
+-- the same for a table of 8-byte words
 pub wide_reads : {A : Type 0} → ReadsTrees node_of is_linked (plain_table {A = A})
 wide_reads = plain_reads wide no_words has_link node_in refl (λ w. refl)

@@ -6,7 +6,8 @@ use Rattle.ic_link_ops.specs.RedBlackTree.{Node, Represents}
 use Rattle.ic_rbtree.specs.SortedValues.{HasSorted}
 
 module _ {L E : Type 0} (node : E → Node) (linked : E → Bool) (table : L → Table E) where
-  -- THE LAWS of a table of trees, of whatever width: an entry says in both ways alike whether its place is linked, and what is linked is covered
+  -- THE LAWS of a table of trees, of whatever width: both ways to read an entry agree on whether its place is linked, and every linked place is
+  -- covered
   pub record ReadsTrees : Type 0 where
     pub alike : (e : E) → (node e).linked ≡ linked e
     pub covered : (links : L) (p : Place) → IsLinked linked (table links) p → IsCovered (table links) p

@@ -1,4 +1,4 @@
--- What a container keeps of one table: each place is linked in the collection where it is at home, and nothing else is linked.
+-- What a container maintains for one table: each place is linked in the collection to which it belongs, and nothing else is linked.
 use Rattle.std.specs.Prelude.{◌≡◌, ℕ, Bool, Option, None, List}
 use Rattle.ic_link_ops.specs.Prelude.{Place, Table, IsUnlinked}
 use Rattle.ic_link_ops.specs.Chains.{Ends}
@@ -7,17 +7,17 @@ use Rattle.ic_link_ops.specs.LinkedList.{Neighbors}
 use Rattle.ic_container.specs.Edited.{HasJoined, HasLeft, HasMoved}
 use Rattle.ic_container.specs.Rows.{Rows, EachInItsList}
 
--- the members of each collection: `heads` are the collections, and `members` those that the table represents for one
+-- the members of each collection: `heads` are the collections, and `members` the sequences that the table represents for them
 abbrev pub rows_of : {L H : Type 0} → (L → H → List Place) → L → (ℕ → H) → Rows
 rows_of members links heads i = members links (heads i)
 
 module _ {L E H : Type 0} (Represents : Table E → H → List Place → Type 0) (linked : E → Bool) (table : L → Table E) (members : L → H → List Place) where
-  pub record Holds (links : L) (heads : ℕ → H) (home : Place → Option ℕ) : Type 0 where
+  pub record Holds (links : L) (heads : ℕ → H) (owner : Place → Option ℕ) : Type 0 where
     pub shown : (i : ℕ) → Represents (table links) (heads i) (rows_of members links heads i)
-    pub housed : EachInItsList home (rows_of members links heads)
-    pub only : (p : Place) → home p ≡ None → IsUnlinked linked (table links) p
+    pub housed : EachInItsList owner (rows_of members links heads)
+    pub only : (p : Place) → owner p ≡ None → IsUnlinked linked (table links) p
 
--- the same of lists, over links of any width: their members, as the table represents them
+-- the same for lists, over links of any width: their members, as the table represents them
 module _ {L E : Type 0} (neighbors : E → Neighbors) (table : L → Table E) where
   abbrev pub members_in : L → Ends → List Place
   members_in links list = lists.members neighbors (table links) list
@@ -30,8 +30,8 @@ HoldsLists neighbors linked table = Holds (lists.Represents neighbors) linked ta
 
 -- one edit of a list
 module _ {E : Type 0} (neighbors : E → Neighbors) (linked : E → Bool) (old new : Table E) (head after : Ends) where
-  abbrev pub ListJoins : List Place → Place → List Place → Type 0
-  ListJoins = HasJoined (lists.Represents neighbors) linked old new head after
+  abbrev pub ListAdds : List Place → Place → List Place → Type 0
+  ListAdds = HasJoined (lists.Represents neighbors) linked old new head after
 
   abbrev pub ListLeaves : List Place → Place → List Place → Type 0
   ListLeaves = HasLeft (lists.Represents neighbors) linked old new head after

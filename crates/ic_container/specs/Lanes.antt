@@ -1,4 +1,4 @@
--- Objects in lanes: lists over one table, and a number of each object says in which list it is.
+-- Objects in lanes, which are lists over one table. A number of each object says in which list it is.
 use Rattle.std.specs.Prelude.{◌≡◌, ◌≢◌, ℕ, ◌<◌, Bool, Option, Some, None, List, [], map, refl}
 use Rattle.std.specs.Coded.{Coded, code_by, coded×, coded_list}
 use Rattle.ic_link_ops.specs.Prelude.{Place, place_code, Objects, Places, Frees, object_at, objects_code, with_object, Table}
@@ -6,35 +6,35 @@ use Rattle.ic_link_ops.specs.Chains.{Ends, no_members}
 use Rattle.ic_link_ops.specs.DoublyEntries as wide
 use Rattle.ic_link_ops.specs.DoublyEntries.{DoublyLinkOps}
 use Rattle.ic_link_ops.specs.LinkedList.{Neighbors}
-use Rattle.ic_container.specs.Holds.{HoldsLists, ListJoins, ListLeaves, members_in}
+use Rattle.ic_container.specs.Holds.{HoldsLists, ListAdds, ListLeaves, members_in}
 use Rattle.ic_container.specs.ListReadings.{ReadsLists}
-use Rattle.ic_container.specs.Rows.{Rows, Stays, PutsBack, Leaves, home_of, listed}
+use Rattle.ic_container.specs.Rows.{Rows, Stays, PutsBack, Leaves, owner_of, listed}
 
--- the list of each lane, none beyond the last
+-- the list of each lane, or none beyond the last lane
 abbrev pub lane_at : List Ends → ℕ → Ends
 lane_at = listed no_members
 
 module _ {E : Type 0} (neighbors : E → Neighbors) (linked : E → Bool) where
   -- ONE EDIT of lane k: a place has joined it, or left it, and the other lanes stay
   module _ (k : ℕ) (old new : Table E) (lanes after : List Ends) where
-    pub record LaneJoins (front : List Place) (p : Place) (back : List Place) : Type 0 where
-      pub edit : ListJoins neighbors linked old new (lane_at lanes k) (lane_at after k) front p back
+    pub record LaneAdds (front : List Place) (p : Place) (back : List Place) : Type 0 where
+      pub edit : ListAdds neighbors linked old new (lane_at lanes k) (lane_at after k) front p back
       pub others : (i : ℕ) → i ≢ k → lane_at after i ≡ lane_at lanes i
 
     pub record LaneLeaves (front : List Place) (p : Place) (back : List Place) : Type 0 where
       pub edit : ListLeaves neighbors linked old new (lane_at lanes k) (lane_at after k) front p back
       pub others : (i : ℕ) → i ≢ k → lane_at after i ≡ lane_at lanes i
 
-  -- from anywhere in lane k to the back of lane j
+  -- a place moves from anywhere in lane k to the back of lane j
   pub record LaneMoves {L : Type 0} (table : L → Table E) (k j : ℕ) (old new : L) (lanes after : List Ends) (p : Place) : Type 0 where
     pub mid : L
     pub between : List Ends
     pub front : List Place
     pub back : List Place
     pub off : LaneLeaves k (table old) (table mid) lanes between front p back
-    pub on : LaneJoins j (table mid) (table new) between after (members_in neighbors table mid (lane_at between j)) p []
+    pub on : LaneAdds j (table mid) (table new) between after (members_in neighbors table mid (lane_at between j)) p []
 
--- WHAT STANDS FIRST: the first place of the lowest lane that has one
+-- THE FIRST PLACE of all: that of the lowest lane that is not empty
 abbrev pub IsFirst : List Ends → Option Place → Type 0
 IsFirst lanes None = (i : ℕ) → (lane_at lanes i).head ≡ None
 IsFirst lanes (Some p) = (k : ℕ) × ((lane_at lanes k).head ≡ Some p) × ((i : ℕ) → i < k → (lane_at lanes i).head ≡ None)
@@ -52,7 +52,7 @@ lanes_code {T} code =
 abbrev pub lane : {T : Type 0} → Lanes T → Rows
 lane l = listed [] l.lanes
 
--- as these members stand in them, and as a plain table of 8-byte words represents them
+-- the lanes with these members, and with those that a plain table of 8-byte words represents
 abbrev pub lanes_in : {T L : Type 0} → (L → Ends → List Place) → Objects T → L → List Ends → Lanes T
 lanes_in members objects links lanes = record { lanes = map (λ list. members links list) lanes; values = objects }
 
@@ -75,7 +75,7 @@ module _ {T : Type 0} (lane_of : T → ℕ) where
     pub placed : Places old.values new.values p value
     pub back : PutsBack (lane_of value) p (lane old) (lane new)
 
-  -- ONE OBJECT LESS, from between these of its lane
+  -- ONE OBJECT LESS, from between these objects of its lane
   pub record Goes (p : Place) (value : T) (front back : List Place) (old new : Lanes T) : Type 0 where
     pub named : object_at old.values p ≡ Some value
     pub freed : Frees old.values new.values p
@@ -88,13 +88,13 @@ module _ {T : Type 0} (lane_of : T → ℕ) where
     pub goes : Goes place value [] back old new
     pub lowest : (i : ℕ) → i < lane_of value → lane old i ≡ []
 
-  -- the object at p, wherever it stands
+  -- the object at p, at whichever position of its lane
   pub record TakesOut (p : Place) (value : T) (old new : Lanes T) : Type 0 where
     pub front : List Place
     pub back : List Place
     pub goes : Goes p value front back old new
 
-  -- ANOTHER VALUE in the place of an object, which goes from its lane to the back of that of the new value
+  -- ANOTHER VALUE has replaced an object's, and the object goes from its lane to the back of the lane of the new value
   pub record Renews (p : Place) (out value : T) (old new : Lanes T) : Type 0 where
     pub named : object_at old.values p ≡ Some out
     pub values : new.values ≡ with_object old.values p value
@@ -108,12 +108,12 @@ module _ {T : Type 0} (lane_of : T → ℕ) where
   abbrev pub in_lane : T → Option ℕ
   in_lane value = Some (lane_of value)
 
-  -- WHAT LANES KEEP: each has the objects of its number, and nothing else is linked
+  -- WHAT LANES MAINTAIN: each lane has the objects of its number, and nothing else is linked
   module _ {L E : Type 0} (neighbors : E → Neighbors) (linked : E → Bool) (table : L → Table E) where
     pub record AreLaned (objects : Objects T) (links : L) (lanes : List Ends) : Type 0 where
       pub reading : ReadsLists neighbors linked table
-      pub holds : HoldsLists neighbors linked table links (lane_at lanes) (home_of in_lane objects)
+      pub holds : HoldsLists neighbors linked table links (lane_at lanes) (owner_of in_lane objects)
 
-  -- over a plain table of 8-byte words
+  -- the same over a plain table of 8-byte words
   abbrev pub IsLaned : {A : Type 0} → Objects T → DoublyLinkOps A → List Ends → Type 0
   IsLaned = AreLaned wide.neighbors_of wide.is_linked wide.plain_table

@@ -1,9 +1,9 @@
--- How a container reads the table of its lists, of whatever width.
+-- How a container reads the table of its lists, for words of any width.
 use Rattle.std.specs.Prelude.{◌≡◌, Bool}
 use Rattle.ic_link_ops.specs.Prelude.{Place, Table, IsCovered, IsLinked}
 use Rattle.ic_link_ops.specs.LinkedList.{Neighbors}
 
--- THE LAWS of such a table: an entry says in both ways alike whether its place is linked, and what is linked is covered
+-- THE LAWS of such a table: both ways to read an entry agree on whether its place is linked, and every linked place is covered
 pub record ReadsLists {L E : Type 0} (neighbors : E → Neighbors) (linked : E → Bool) (table : L → Table E) : Type 0 where
   pub alike : (e : E) → (neighbors e).linked ≡ linked e
   pub covered : (links : L) (p : Place) → IsLinked linked (table links) p → IsCovered (table links) p

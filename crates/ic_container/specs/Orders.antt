@@ -7,9 +7,9 @@ use Rattle.ic_link_ops.specs.Chains.{Ends, no_members}
 use Rattle.ic_link_ops.specs.LinkedList.{Neighbors}
 use Rattle.ic_container.specs.Holds.{HoldsLists, members_in}
 use Rattle.ic_container.specs.ListReadings.{ReadsLists}
-use Rattle.ic_container.specs.Rows.{alone, home_of, to_one}
+use Rattle.ic_container.specs.Rows.{alone, owner_of, to_one}
 
--- the objects, and their places in order. Each object stands there once
+-- the objects, and their places in order. Each object has exactly one position
 pub record Order (T : Type 0) : Type 0 where
   pub order : List Place
   pub values : Objects T
@@ -22,19 +22,19 @@ order_code {T} code = code_by (List Place × Objects T) (coded× (coded_list pla
 abbrev pub values_of : {T : Type 0} → Order T → List T
 values_of o = values_at o.values o.order
 
--- WHAT HOLDS OF EACH ORDER: every object stands in it, once, and nothing else does
+-- WHAT HOLDS OF EACH ORDER: every object is in it once, and nothing else is
 pub record IsWhole {T : Type 0} (o : Order T) : Type 0 where
   pub once : IsDistinct o.order
   pub placed : ArePlaced o.values o.order
   pub all : (p : Place) → is_placed o.values p ≡ true → IsMember p o.order
 
--- as the table of a list represents them, of whatever width
+-- the order that the table of a list represents, for words of any width
 abbrev pub order_of : {L E T : Type 0} → (E → Neighbors) → (L → Table E) → Objects T → L → Ends → Order T
 order_of neighbors table objects links list = record { order = members_in neighbors table links list; values = objects }
 
--- WHAT A CONTAINER KEEPS: each object is in the list, nothing else is linked, and there are as many objects as members
+-- WHAT A CONTAINER MAINTAINS: each object is in the list, nothing else is linked, and there are as many objects as members
 module _ {L E : Type 0} (neighbors : E → Neighbors) (linked : E → Bool) (table : L → Table E) where
   pub record IsListed {T : Type 0} (objects : Objects T) (links : L) (list : Ends) : Type 0 where
     pub reading : ReadsLists neighbors linked table
-    pub holds : HoldsLists neighbors linked table links (alone no_members list) (home_of to_one objects)
+    pub holds : HoldsLists neighbors linked table links (alone no_members list) (owner_of to_one objects)
     pub count : map.len objects.values ≡ length (members_in neighbors table links list)

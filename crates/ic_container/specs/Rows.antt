@@ -1,4 +1,4 @@
--- Rows: sequences of places by number, and where each place is at home.
+-- Rows: numbered sequences of places, and the row to which each place belongs.
 use Rattle.std.specs.Prelude.{◌≡◌, ◌≢◌, ℕ, zero, suc, Option, Some, None, List, [], ◌∷◌, ◌++◌, slice_index_or}
 use Rattle.std.specs.List.{AllByRecursion}
 use Rattle.ic_link_ops.specs.Prelude.{Place, Objects, object_at, IsMember}
@@ -7,8 +7,8 @@ use Rattle.ic_link_ops.specs.Prelude.{Place, Objects, object_at, IsMember}
 abbrev pub Rows : Type 0
 Rows = ℕ → List Place
 
--- ONE PLACE MORE in row k, between these. The other rows stay
-pub record Joins (k : ℕ) (front : List Place) (p : Place) (back : List Place) (old new : Rows) : Type 0 where
+-- ONE PLACE MORE in row k, between these places. The other rows stay
+pub record Adds (k : ℕ) (front : List Place) (p : Place) (back : List Place) (old new : Rows) : Type 0 where
   pub was : old k ≡ front ++ back
   pub is : new k ≡ front ++ p ∷ back
   pub others : (i : ℕ) → i ≢ k → new i ≡ old i
@@ -19,11 +19,11 @@ pub record Leaves (k : ℕ) (front : List Place) (p : Place) (back : List Place)
   pub is : new k ≡ front ++ back
   pub others : (i : ℕ) → i ≢ k → new i ≡ old i
 
--- THE SAME PLACES, of which this one stands elsewhere in row k now
-pub record Moves (k : ℕ) (front : List Place) (p : Place) (back : List Place) (before behind : List Place) (old new : Rows) : Type 0 where
+-- THE SAME PLACES, but this one has another position in row k now
+pub record Moves (k : ℕ) (front : List Place) (p : Place) (back : List Place) (before after : List Place) (old new : Rows) : Type 0 where
   pub was : old k ≡ front ++ p ∷ back
-  pub rest : front ++ back ≡ before ++ behind
-  pub is : new k ≡ before ++ p ∷ behind
+  pub rest : front ++ back ≡ before ++ after
+  pub is : new k ≡ before ++ p ∷ after
   pub others : (i : ℕ) → i ≢ k → new i ≡ old i
 
 -- one place more at an end of row k
@@ -39,29 +39,29 @@ pub record PutsBack (k : ℕ) (p : Place) (old new : Rows) : Type 0 where
 abbrev pub Stays : Rows → Rows → Type 0
 Stays old new = (i : ℕ) → new i ≡ old i
 
--- EACH PLACE IS AT HOME: what has a home is a member of its row, and nothing else is a member
-pub record EachInItsList (home : Place → Option ℕ) (rows : Rows) : Type 0 where
-  pub own : (i : ℕ) → AllByRecursion (λ p. home p ≡ Some i) (rows i)
-  pub all : (p : Place) (i : ℕ) → home p ≡ Some i → IsMember p (rows i)
+-- EACH PLACE IS IN ITS ROW: a place that belongs to a row is a member of it, and no other place is a member
+pub record EachInItsList (owner : Place → Option ℕ) (rows : Rows) : Type 0 where
+  pub own : (i : ℕ) → AllByRecursion (λ p. owner p ≡ Some i) (rows i)
+  pub all : (p : Place) (i : ℕ) → owner p ≡ Some i → IsMember p (rows i)
 
 module _ {T : Type 0} (belongs : T → Option ℕ) where
-  -- where an object belongs, at a vacant place nowhere
-  abbrev pub home_or : Option T → Option ℕ
-  home_or None = None
-  home_or (Some value) = belongs value
+  -- the row to which the object at a place belongs, or none for a vacant place
+  abbrev pub owner_or : Option T → Option ℕ
+  owner_or None = None
+  owner_or (Some value) = belongs value
 
-  abbrev pub home_of : Objects T → Place → Option ℕ
-  home_of objects p = home_or (object_at objects p)
+  abbrev pub owner_of : Objects T → Place → Option ℕ
+  owner_of objects p = owner_or (object_at objects p)
 
 -- every object belongs to row 0
 abbrev pub to_one : {T : Type 0} → T → Option ℕ
 to_one value = Some 0
 
--- one thing under the number 0, and no other
+-- one item under the number 0, and no other item
 abbrev pub alone : {X : Type 0} → X → X → ℕ → X
 alone none x zero = x
 alone none x (suc i) = none
 
--- the things of a list by their numbers, and beyond it none
+-- the items of a list by their numbers, and none beyond the end
 abbrev pub listed : {X : Type 0} → X → List X → ℕ → X
 listed none list i = slice_index_or list i none

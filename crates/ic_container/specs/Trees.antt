@@ -1,4 +1,4 @@
--- What a container keeps of an index that has each of its objects, and of a tree.
+-- What a container maintains for an index that has each of its objects, and for a tree.
 use Rattle.std.specs.Prelude.{◌≡◌, ◌≢◌, ℕ, ◌<◌, Bool, Option, Some, None, List, ◌∷◌, ◌++◌}
 use Rattle.std.specs.List.{AllByRecursion}
 use Rattle.ic_link_ops.specs.Prelude.{Place, Objects, Places, object_at, Table}
@@ -8,7 +8,7 @@ use Rattle.ic_container.specs.EachObject.{HasEachIn}
 use Rattle.ic_rbtree.specs.PlainTrees.{TreeLinkOps, is_linked, plain_table}
 use Rattle.ic_rbtree.specs.SortedObjects.{key_at}
 
--- WHAT HAS ALL OBJECTS BUT ONE, the new one at p
+-- THE INDEX HAS ALL OBJECTS EXCEPT ONE, the new object at p
 pub record LacksOne {T : Type 0} (Has : Objects T → Type 0) (objects : Objects T) (p : Place) : Type 0 where
   pub less : Objects T
   pub value : T
@@ -22,16 +22,16 @@ module _ {L E : Type 0} (node : E → Node) (linked : E → Bool) (table : L →
     pub each : HasEachIn node linked table key links root objects values
 
 module _ {T : Type 0} (key : T → ℕ) where
-  -- over a plain table of 8-byte words
+  -- the same over a plain table of 8-byte words
   abbrev pub HasAll : {A : Type 0} → TreeLinkOps A → Option Place → Objects T → Type 0
   HasAll = HasAllIn node_of is_linked plain_table key
 
-  -- WHAT A SEARCH FINDS: an object of the key, or, at null, that none has it
+  -- WHAT A SEARCH FINDS: an object with the key, or null, if no object has it
   abbrev pub IsFound : Objects T → ℕ → Option Place → Type 0
   IsFound objects k None = (p : Place) (value : T) → object_at objects p ≡ Some value → key value ≢ k
   IsFound objects k (Some p) = (value : T) × (object_at objects p ≡ Some value) × (key value ≡ k)
 
-  -- the same of the object itself
+  -- the same for the object itself
   abbrev pub IsFoundObject : Objects T → ℕ → Option T → Type 0
   IsFoundObject objects k None = IsFound objects k None
   IsFoundObject objects k (Some value) = (p : Place) × (object_at objects p ≡ Some value) × (key value ≡ k)
@@ -40,7 +40,7 @@ module _ {T : Type 0} (key : T → ℕ) where
   abbrev pub IsUnique : Objects T → Type 0
   IsUnique objects = (p q : Place) (v w : T) → object_at objects p ≡ Some v → object_at objects q ≡ Some w → key v ≡ key w → p ≡ q
 
-  -- ONE PLACE MORE, after all whose objects have the key of its own or a lower one
+  -- ONE PLACE MORE, after all places whose objects have the same key or a lower one
   pub record PutsInOrder (objects : Objects T) (old new : List Place) (p : Place) : Type 0 where
     pub front : List Place
     pub back : List Place

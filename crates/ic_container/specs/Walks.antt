@@ -6,10 +6,10 @@ use Rattle.ic_chain.specs.declared.iter.Iter.{Iter}
 use Rattle.ic_chain.specs.Iter.{objects_left, CanWalk}
 
 module _ {L E : Type 0} (neighbors : E → Neighbors) (table : L → Table E) {K T : Type 0} where
-  -- the objects that a walk has not given out yet
+  -- the objects that a walk has not returned yet
   abbrev pub left_of : Iter K T L (Objects T) → List T
   left_of t = objects_left (next_of neighbors) table (λ (o : Objects T). o) t
 
-  -- it gives them out
+  -- the walk returns its first or its last object
   abbrev pub CanWalkOn : Iter K T L (Objects T) → Type 0
   CanWalkOn t = CanWalk true (IsBetween neighbors) table (λ (o : Objects T). o) t

@@ -16,9 +16,9 @@ use ic_unsafe_ref::Objects;
 use std::alloc::Allocator;
 use std::marker::Model;
 
-/// The objects that are not given out yet, in their order: from the first by `next`, and from the last by `next_back`.
+/// A walk over objects in their order. `next` returns the first of those that it has not returned yet, and `next_back` the last.
 ///
-/// A clause sees the list of those objects. `W`: the words of the links, as those of the container.
+/// A contract sees the list of the objects that it has not returned. `W` is the type of the links' words, as in the container.
 #[derive(Drop)]
 pub struct Iter<'a, T, A: Allocator, W: PrevPlace = TwoWords> {
     walk: ic_linked_list::Iter<'a, T, PlainTable<W, A>, Objects<T, A>>,
@@ -43,7 +43,7 @@ impl<'a, T, A: Allocator, W: PrevPlace> Iter<'a, T, A, W> {
     ghost use Rattle.ic_link_ops.specs.Readings.{neighbors_of};
     ghost use Rattle.ic_container.specs.Walks.{left_of, CanWalkOn};
 
-    /// The walk of a list over its objects. It requires that the list was whole when the walk began. O(1), and it takes no memory.
+    /// Makes a walk over the objects of a list. It requires that the table represents the list when the walk begins. O(1), and it takes no memory.
     pub fn new(
         walk: ic_linked_list::Iter<'a, T, PlainTable<W, A>, Objects<T, A>>,
     ) -> Iter<'a, T, A, W>
@@ -66,7 +66,7 @@ impl<'a, T, A: Allocator, W: PrevPlace> Iterator for Iter<'a, T, A, W> {
 
     ghost remaining = { item_count (λ (left : List T). left) };
 
-    /// The next object. O(1).
+    /// Returns the next object. O(1).
     fn next(&mut self) -> Option<&'a T> {
         self.walk.next()
     }
@@ -79,7 +79,7 @@ impl<'a, T, A: Allocator, W: PrevPlace> DoubleEndedIterator for Iter<'a, T, A, W
 
     ghost next_back_gives = { GivesLast (λ (left : List T). left) };
 
-    /// The next object from the back. O(1).
+    /// Returns the next object from the back. O(1).
     fn next_back(&mut self) -> Option<&'a T> {
         self.walk.next_back()
     }

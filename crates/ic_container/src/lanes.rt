@@ -1,4 +1,5 @@
-//! Lanes: lists over one table of links, of either width, by number. Each call says one edit of one lane, which lemmas of a container take whole.
+//! Lanes: numbered lists over one table of links, of either width. The contract of each call states one edit of one lane, in the form in which a
+//! container's lemmas use it.
 //!
 //! ```text
 //! lanes::push_back(&mut self.lanes, &mut self.pool.links, lane, place);
@@ -10,7 +11,7 @@ ghost use Rattle.std.specs.Prelude.{◌≡◌, ◌<◌, [], ℕ, List, Option, S
 ghost use Rattle.ic_link_ops.specs.Prelude.{Place, IsCovered, IsUnlinked, HasMember};
 ghost use Rattle.ic_link_ops.specs.LinkedList.{Represents, RepresentsSome, members};
 ghost use Rattle.ic_container.specs.Holds.{HoldsLists};
-ghost use Rattle.ic_container.specs.Lanes.{lane_at, IsFirst, LaneJoins, LaneLeaves, LaneMoves};
+ghost use Rattle.ic_container.specs.Lanes.{lane_at, IsFirst, LaneAdds, LaneLeaves, LaneMoves};
 
 use crate::lists;
 use ic_link_ops::AcceptsUnlinked;
@@ -18,7 +19,7 @@ use ic_link_ops::linked_list::LinkedListOps;
 use ic_linked_list::LinkedList;
 use ic_unsafe_ref::Place;
 
-/// Puts the object after all others of a lane. It requires that there is this lane, that its place is covered, and that it is not
+/// Inserts the object at the back of a lane. It requires that the lane exists, that the table covers the object's place, and that the object is not
 /// linked. O(1), and it takes no memory.
 pub fn push_back<T, L: LinkedListOps + AcceptsUnlinked>(
     lanes: &mut [LinkedList<T>],
@@ -30,13 +31,12 @@ pub fn push_back<T, L: LinkedListOps + AcceptsUnlinked>(
     requires covered { IsCovered (L.table links.old) place }
     requires unlinked { IsUnlinked L.linked (L.table links.old) place }
     requires shown { RepresentsSome L.neighbors (L.table links.old) (lane_at lanes.old lane) }
-    ensures { LaneJoins L.neighbors L.linked lane (L.table links.old) (L.table links.new) lanes.old lanes.new (members L.neighbors (L.table links.old) (lane_at lanes.old lane)) place [] }
+    ensures { LaneAdds L.neighbors L.linked lane (L.table links.old) (L.table links.new) lanes.old lanes.new (members L.neighbors (L.table links.old) (lane_at lanes.old lane)) place [] }
 {
     lists::push_back(&mut lanes[lane], links, place);
 }
 
-/// Takes a member of a lane off. It requires that there is this lane, and that the object is a member of it. O(1), and it takes no
-/// memory.
+/// Removes a member from a lane. It requires that the lane exists, and that the object is a member of it. O(1), and it takes no memory.
 pub fn remove<T, L: LinkedListOps + AcceptsUnlinked>(
     lanes: &mut [LinkedList<T>],
     links: &mut L,
@@ -50,8 +50,8 @@ pub fn remove<T, L: LinkedListOps + AcceptsUnlinked>(
     lists::remove(&mut lanes[lane], links, place);
 }
 
-/// Moves a member of a lane after all others of another one, which may be the same. It requires that there are both lanes, and that the
-/// object is at home in the first. O(1), and it takes no memory.
+/// Moves a member of a lane to the back of another lane, which may be the same. It requires that both lanes exist, and that the object is a member of
+/// the first. O(1), and it takes no memory.
 pub fn move_to_back<T, L: LinkedListOps + AcceptsUnlinked>(
     lanes: &mut [LinkedList<T>],
     links: &mut L,
@@ -61,14 +61,14 @@ pub fn move_to_back<T, L: LinkedListOps + AcceptsUnlinked>(
 )
     requires lane { lane < length lanes.old }
     requires other { other < length lanes.old }
-    requires home { (home : Place → Option ℕ) × HoldsLists L.neighbors L.linked L.table links.old (lane_at lanes.old) home × (home place ≡ Some lane) }
+    requires owner { (owner : Place → Option ℕ) × HoldsLists L.neighbors L.linked L.table links.old (lane_at lanes.old) owner × (owner place ≡ Some lane) }
     ensures { LaneMoves L.neighbors L.linked L.table lane other links.old links.new lanes.old lanes.new place }
 {
     remove(lanes, links, lane, place);
     push_back(lanes, links, other, place);
 }
 
-/// The first object of the lowest lane that has one, `None` if all are empty. O(1) for each lane.
+/// Returns the first object of the lowest lane that is not empty, or `None` if all are empty. O(1) for each lane.
 pub fn first<T>(lanes: &[LinkedList<T>]) -> Option<Place>
     ensures { IsFirst lanes.now result }
 {

@@ -1,4 +1,4 @@
-//! What a container keeps: objects, and the collections of a table that they are in.
+//! What a container maintains: its objects, and the collections in which they are linked.
 //!
 //! ```text
 //! let mut listed = Listed::new(rt.alloc());
@@ -6,8 +6,8 @@
 //! listed.move_to_front(job.place());
 //! ```
 //!
-//! For containers of your own there is a record for the invariant, `Holds` (specs/Holds.antt), with lemmas that give it back after each
-//! edit (proofs/HoldsLemmas.antt), and `lists`, whose calls return an edit as one value and are never refused.
+//! For containers of your own there is a record for the invariant, `Holds` (specs/Holds.antt), with lemmas that prove it again after each edit
+//! (proofs/HoldsLemmas.antt), and there is `lists`, whose calls state an edit as one value and are never refused.
 #![tactic(auto)]
 
 mod iter;

@@ -25,15 +25,15 @@ use std::mem;
 
 /// Objects that are all in one list.
 ///
-/// A clause sees their places from the front, and the object at each (`Order`). `W`: the words of the links, of 8 bytes unless another type
-/// is named.
+/// A contract sees their places from the front, and the object at each (`Order`). `W` is the type of the links' words, which have 8 bytes unless
+/// another type is named.
 #[derive(Drop)]
 pub struct Listed<T, A: Allocator = Global, W: PrevPlace = TwoWords> {
     pool: Pool<T, PlainTable<W, A>, A>,
     list: LinkedList<T>,
 }
 
-/// Objects that are all in one list, over links of 4-byte words: half the memory for links, and 536,870,911 places at most.
+/// Objects that are all in one list, over links of 4-byte words. The links take half the memory, and there can be at most 536,870,911 objects.
 pub type NarrowListed<T, A = Global> = Listed<T, A, TwoNarrowWords>;
 
 impl<T, A: Allocator, W: PrevPlace> Model for Listed<T, A, W> {
@@ -51,7 +51,7 @@ impl<T, A: Allocator, W: PrevPlace> Model for Listed<T, A, W> {
 }
 
 impl<T, A: Allocator> Listed<T, A> {
-    /// No objects. It takes no memory.
+    /// Makes an empty container. It takes no memory. O(1).
     pub fn new(alloc: A) -> Listed<T, A>
     where
         A: Copy,
@@ -63,7 +63,7 @@ impl<T, A: Allocator> Listed<T, A> {
 }
 
 impl<T, A: Allocator, W: PrevPlace> Listed<T, A, W> {
-    /// No objects, over links of these words: `NarrowListed::with_words(rt.alloc())`. It takes no memory.
+    /// Makes an empty container over links with words of this type: `NarrowListed::with_words(rt.alloc())`. It takes no memory. O(1).
     pub fn with_words(alloc: A) -> Listed<T, A, W>
     where
         A: Copy,
@@ -76,10 +76,10 @@ impl<T, A: Allocator, W: PrevPlace> Listed<T, A, W> {
         }
     }
 
-    /// Adds an object before all others. O(1), and at most two requests for memory.
+    /// Adds an object at the front. O(1), and at most two requests for memory.
     ///
-    /// Where it is refused the value comes back, and nothing has changed: with `NoPlaceLeft` exactly if no place is left, of 4,294,967,296,
-    /// and else with `OutOfMemory`, also where links of 4-byte words have no name left.
+    /// If it is refused, the caller gets the value back, and nothing has changed. The error is `NoPlaceLeft` exactly if all 4,294,967,296 places are
+    /// in use. Otherwise it is `OutOfMemory`, also if the links have 4-byte words and all 536,870,911 places that these can name are in use.
     pub fn place_front(&mut self, value: T) -> Result<UnsafeRef<T>, PlaceError<T>>
         ensures placed { IfOk result (λ object. Places self.old.values self.new.values object value) }
         ensures front { IfOk result (λ object. self.new.order ≡ object ∷ self.old.order) }
@@ -94,7 +94,7 @@ impl<T, A: Allocator, W: PrevPlace> Listed<T, A, W> {
         Ok(object)
     }
 
-    /// Adds an object after all others. Else as `place_front`.
+    /// Adds an object at the back. Everything else is as for `place_front`. O(1).
     pub fn place_back(&mut self, value: T) -> Result<UnsafeRef<T>, PlaceError<T>>
         ensures placed { IfOk result (λ object. Places self.old.values self.new.values object value) }
         ensures back { IfOk result (λ object. self.new.order ≡ self.old.order ++ object ∷ []) }
@@ -109,8 +109,8 @@ impl<T, A: Allocator, W: PrevPlace> Listed<T, A, W> {
         Ok(object)
     }
 
-    /// Puts the object before all others, which keep their order. It requires that an object stands at the place. O(1), and it takes
-    /// no memory.
+    /// Moves the object at a place to the front. The others keep their order. It requires that there is an object at the place. O(1), and it takes no
+    /// memory.
     pub fn move_to_front(&mut self, place: Place)
         requires placed { is_placed self.old.values place ≡ true }
         ensures moved { (others : List Place) × Without place self.old.order others × (self.new.order ≡ place ∷ others) }
@@ -119,7 +119,7 @@ impl<T, A: Allocator, W: PrevPlace> Listed<T, A, W> {
         lists::move_to_front(&mut self.list, &mut self.pool.links, place);
     }
 
-    /// Puts the object after all others. Else as `move_to_front`.
+    /// Moves the object at a place to the back. Everything else is as for `move_to_front`. O(1).
     pub fn move_to_back(&mut self, place: Place)
         requires placed { is_placed self.old.values place ≡ true }
         ensures moved { (others : List Place) × Without place self.old.order others × (self.new.order ≡ others ++ place ∷ []) }
@@ -128,8 +128,8 @@ impl<T, A: Allocator, W: PrevPlace> Listed<T, A, W> {
         lists::move_to_back(&mut self.list, &mut self.pool.links, place);
     }
 
-    /// Puts another value in the place of the object, which comes back. It requires that an object stands there. The order stays. O(1),
-    /// and it takes no memory.
+    /// Replaces the object at the place by another value, and returns the old object. It requires that there is an object at the place. The order
+    /// stays as it was. O(1), and it takes no memory.
     pub fn replace(&mut self, place: Place, value: T) -> T
         requires placed { is_placed self.old.values place ≡ true }
         ensures value { object_at self.old.values place ≡ Some result }
@@ -139,7 +139,8 @@ impl<T, A: Allocator, W: PrevPlace> Listed<T, A, W> {
         mem::replace(self.pool.objects.get_mut(place).unwrap(), value) // proved: one stands there
     }
 
-    /// Takes the object out. It requires that an object stands at the place. The others keep their order. O(1), and it takes no memory.
+    /// Removes the object and returns it. It requires that there is an object at the place. The others keep their order. O(1), and it takes no
+    /// memory.
     pub fn remove(&mut self, place: Place) -> T
         requires placed { is_placed self.old.values place ≡ true }
         ensures value { object_at self.old.values place ≡ Some result }
@@ -150,7 +151,7 @@ impl<T, A: Allocator, W: PrevPlace> Listed<T, A, W> {
         self.pool.remove(UnsafeRef::new(place))
     }
 
-    /// Takes the first object out, `None` if there is no object. The others keep their order. O(1), and it takes no memory.
+    /// Removes the first object and returns it, or returns `None` if there is no object. The others keep their order. O(1), and it takes no memory.
     pub fn pop_first(&mut self) -> Option<T>
         ensures { MatchOption result ((values_of self.old ≡ []) × (self.new ≡ self.old)) (λ first. values_of self.old ≡ first ∷ values_of self.new) }
     {
@@ -158,7 +159,7 @@ impl<T, A: Allocator, W: PrevPlace> Listed<T, A, W> {
         Some(self.remove(place))
     }
 
-    /// Takes the last object out, `None` if there is no object. The others keep their order. O(1), and it takes no memory.
+    /// Removes the last object and returns it, or returns `None` if there is no object. The others keep their order. O(1), and it takes no memory.
     pub fn pop_last(&mut self) -> Option<T>
         ensures { MatchOption result ((values_of self.old ≡ []) × (self.new ≡ self.old)) (λ last. values_of self.old ≡ values_of self.new ++ last ∷ []) }
     {
@@ -166,7 +167,7 @@ impl<T, A: Allocator, W: PrevPlace> Listed<T, A, W> {
         Some(self.remove(place))
     }
 
-    /// How many objects there are. O(1).
+    /// Returns how many objects there are. O(1).
     #[inline]
     pub fn len(&self) -> usize
         ensures { result ≡ length (values_of self.now) }
@@ -174,7 +175,7 @@ impl<T, A: Allocator, W: PrevPlace> Listed<T, A, W> {
         self.pool.len()
     }
 
-    /// Whether there is no object. O(1).
+    /// Returns whether there is no object. O(1).
     #[inline]
     pub fn is_empty(&self) -> bool
         ensures { IsTrue result ↔ (values_of self.now ≡ []) }
@@ -182,28 +183,28 @@ impl<T, A: Allocator, W: PrevPlace> Listed<T, A, W> {
         self.len() == 0
     }
 
-    /// A walk over the objects in their order, from both ends. O(1), and it takes no memory.
+    /// Returns a walk over the objects in their order, from both ends. O(1), and it takes no memory.
     pub fn iter(&self) -> Iter<'_, T, A, W>
         ensures { result ≡ values_of self.now }
     {
         Iter::new(self.list.iter(&self.pool.links, &self.pool.objects))
     }
 
-    /// The object of a reference, `None` if none stands at its place. O(1).
+    /// Returns the object that a reference names, or `None` if there is none at its place. O(1).
     pub fn get(&self, object: &UnsafeRef<T>) -> Option<&T>
         ensures { option_copied result ≡ object_at self.now.values object.now }
     {
         self.pool.get(object)
     }
 
-    /// Whether an object stands at the place of a reference. O(1).
+    /// Returns whether there is an object at the place of a reference. O(1).
     pub fn is_placed(&self, object: &UnsafeRef<T>) -> bool
         ensures { result ≡ is_placed self.now.values object.now }
     {
         self.pool.is_placed(object)
     }
 
-    /// The place of the first object, `None` if there is no object. O(1).
+    /// Returns the place of the first object, or `None` if there is no object. O(1).
     pub fn first(&self) -> Option<Place>
         ensures first { result ≡ first self.now.order }
         ensures placed { IfSome result (λ place. is_placed self.now.values place ≡ true) }
@@ -211,11 +212,11 @@ impl<T, A: Allocator, W: PrevPlace> Listed<T, A, W> {
         self.list.first()
     }
 
-    /// The place of the last object, `None` if there is no object. O(1).
+    /// Returns the place of the last object, or `None` if there is no object. O(1).
     pub fn last(&self) -> Option<Place>
         ensures last { result ≡ last self.now.order }
         ensures placed { IfSome result (λ place. is_placed self.now.values place ≡ true) }
-        ensures behind { (front back : List Place) (place : Place) → result ≡ Some place → self.now.order ≡ front ++ place ∷ back → back ≡ [] }
+        ensures after { (front back : List Place) (place : Place) → result ≡ Some place → self.now.order ≡ front ++ place ∷ back → back ≡ [] }
     {
         self.list.last()
     }

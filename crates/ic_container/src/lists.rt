@@ -1,4 +1,4 @@
-//! Lists over links of either width. Each call says one edit, which lemmas of a container take whole.
+//! Lists over links of either width. The contract of each call states one edit, in the form in which a container's lemmas use it.
 //!
 //! ```text
 //! lists::push_front(&mut self.order, &mut self.pool.links, place);
@@ -8,14 +8,14 @@
 ghost use Rattle.std.specs.Prelude.{[], List};
 ghost use Rattle.ic_link_ops.specs.Prelude.{Place, IsCovered, IsUnlinked, HasMember};
 ghost use Rattle.ic_link_ops.specs.LinkedList.{Represents, RepresentsSome, members};
-ghost use Rattle.ic_container.specs.Holds.{ListJoins, ListLeaves, ListMoves};
+ghost use Rattle.ic_container.specs.Holds.{ListAdds, ListLeaves, ListMoves};
 
 use ic_link_ops::AcceptsUnlinked;
 use ic_link_ops::linked_list::LinkedListOps;
 use ic_linked_list::LinkedList;
 use ic_unsafe_ref::{Place, UnsafeRef};
 
-/// Puts the object before all others. It requires that its place is covered, and that it is not linked. O(1), and it takes no memory.
+/// Inserts the object at the front. It requires that the table covers its place, and that it is not linked. O(1), and it takes no memory.
 #[inline]
 pub fn push_front<T, L: LinkedListOps + AcceptsUnlinked>(
     list: &mut LinkedList<T>,
@@ -25,12 +25,12 @@ pub fn push_front<T, L: LinkedListOps + AcceptsUnlinked>(
     requires covered { IsCovered (L.table links.old) place }
     requires unlinked { IsUnlinked L.linked (L.table links.old) place }
     requires shown { RepresentsSome L.neighbors (L.table links.old) list.old }
-    ensures { ListJoins L.neighbors L.linked (L.table links.old) (L.table links.new) list.old list.new [] place (members L.neighbors (L.table links.old) list.old) }
+    ensures { ListAdds L.neighbors L.linked (L.table links.old) (L.table links.new) list.old list.new [] place (members L.neighbors (L.table links.old) list.old) }
 {
     let _ = list.push_front(links, UnsafeRef::new(place)); // proved: it is not linked
 }
 
-/// Puts the object after all others. It requires that its place is covered, and that it is not linked. O(1), and it takes no memory.
+/// Inserts the object at the back. It requires that the table covers its place, and that it is not linked. O(1), and it takes no memory.
 #[inline]
 pub fn push_back<T, L: LinkedListOps + AcceptsUnlinked>(
     list: &mut LinkedList<T>,
@@ -40,12 +40,12 @@ pub fn push_back<T, L: LinkedListOps + AcceptsUnlinked>(
     requires covered { IsCovered (L.table links.old) place }
     requires unlinked { IsUnlinked L.linked (L.table links.old) place }
     requires shown { RepresentsSome L.neighbors (L.table links.old) list.old }
-    ensures { ListJoins L.neighbors L.linked (L.table links.old) (L.table links.new) list.old list.new (members L.neighbors (L.table links.old) list.old) place [] }
+    ensures { ListAdds L.neighbors L.linked (L.table links.old) (L.table links.new) list.old list.new (members L.neighbors (L.table links.old) list.old) place [] }
 {
     let _ = list.push_back(links, UnsafeRef::new(place)); // proved: it is not linked
 }
 
-/// Takes a member off. It requires that the object is a member. O(1), and it takes no memory.
+/// Removes a member. It requires that the object is a member. O(1), and it takes no memory.
 #[inline]
 pub fn remove<T, L: LinkedListOps + AcceptsUnlinked>(
     list: &mut LinkedList<T>,
@@ -58,19 +58,19 @@ pub fn remove<T, L: LinkedListOps + AcceptsUnlinked>(
     list.remove(links, &UnsafeRef::new(place));
 }
 
-/// Puts a member before all others, which keep their order, and it stays linked. It requires that the object is a member. O(1), and it takes
-/// no memory.
+/// Moves a member to the front. The others keep their order, and it stays linked. It requires that the object is a member. O(1), and it takes no
+/// memory.
 #[inline]
 pub fn move_to_front<T, L: LinkedListOps>(list: &mut LinkedList<T>, links: &mut L, place: Place)
     requires member { HasMember (Represents L.neighbors (L.table links.old) list.old) place }
-    ensures { (front : List Place) × (back : List Place) × (behind : List Place)
-        × ListMoves L.neighbors L.linked (L.table links.old) (L.table links.new) list.old list.new front place back [] behind }
+    ensures { (front : List Place) × (back : List Place) × (after : List Place)
+        × ListMoves L.neighbors L.linked (L.table links.old) (L.table links.new) list.old list.new front place back [] after }
 {
     list.move_to_front(links, &UnsafeRef::new(place));
 }
 
-/// Puts a member after all others, which keep their order, and it stays linked. It requires that the object is a member. O(1), and it takes
-/// no memory.
+/// Moves a member to the back. The others keep their order, and it stays linked. It requires that the object is a member. O(1), and it takes no
+/// memory.
 #[inline]
 pub fn move_to_back<T, L: LinkedListOps>(list: &mut LinkedList<T>, links: &mut L, place: Place)
     requires member { HasMember (Represents L.neighbors (L.table links.old) list.old) place }

@@ -1,4 +1,4 @@
-//! Trees over links of either width. Each has all objects of a container, in the order of a number that its adapter says.
+//! Trees over links of either width. Each has all objects of a container, in the order of a number that its adapter returns for each.
 //!
 //! ```text
 //! trees::insert(&mut self.by_number, &mut self.pool.links.0, &self.pool.objects, object.place());
@@ -20,7 +20,7 @@ use ic_rbtree::{KeyAdapter, RBTree};
 use ic_unsafe_ref::{Objects, Place, UnsafeRef};
 use std::alloc::Allocator;
 
-/// Where an object with this key stands, `None` if none has it. It requires that the tree has all objects. O(log n).
+/// Returns the place of an object with this key, or `None` if no object has it. It requires that the tree has all objects. O(log n).
 pub fn find<K: KeyAdapter<Key = u64>, L: RBTreeOps, B: Allocator>(
     tree: &RBTree<K>,
     links: &L,
@@ -33,7 +33,7 @@ pub fn find<K: KeyAdapter<Key = u64>, L: RBTreeOps, B: Allocator>(
     tree.find(links, objects, &key).get_ptr()
 }
 
-/// An object with this key, `None` if none has it. It requires that the tree has all objects. O(log n).
+/// Returns an object with this key, or `None` if none has it. It requires that the tree has all objects. O(log n).
 pub fn get<'o, K: KeyAdapter<Key = u64>, L: RBTreeOps, B: Allocator>(
     tree: &RBTree<K>,
     links: &L,
@@ -47,8 +47,8 @@ pub fn get<'o, K: KeyAdapter<Key = u64>, L: RBTreeOps, B: Allocator>(
     objects.get(place)
 }
 
-/// Puts a new object where its key belongs, after those with the same key. It requires that the tree has each other object, and that
-/// the place is covered. O(log n), and it takes no memory.
+/// Inserts a new object where its key belongs, after objects with the same key. It requires that the tree has every other object, and that the table
+/// covers the place. O(log n), and it takes no memory.
 pub fn insert<K: KeyAdapter<Key = u64>, L: RBTreeOps + AcceptsUnlinked, B: Allocator>(
     tree: &mut RBTree<K>,
     links: &mut L,
@@ -64,8 +64,8 @@ pub fn insert<K: KeyAdapter<Key = u64>, L: RBTreeOps + AcceptsUnlinked, B: Alloc
     let _ = tree.insert(links, objects, UnsafeRef::new(place)); // proved: it is not linked
 }
 
-/// Takes an object off that stands there still. It requires that the tree has all objects, and that one stands at the place. O(log n),
-/// and it takes no memory.
+/// Removes an object from the tree, before it leaves its place. It requires that the tree has all objects, and that there is an object at the place.
+/// O(log n), and it takes no memory.
 pub fn remove<K: KeyAdapter<Key = u64>, L: RBTreeOps, B: Allocator>(
     tree: &mut RBTree<K>,
     links: &mut L,

@@ -1,4 +1,4 @@
--- What an insert in order says, in the same words for every kind and every call.
+-- What an insert in order states, in the same words for every kind and every call.
 use Rattle.std.specs.Prelude.{◌≡◌, Bool, true, false, Some, Result, OnOk, OnErr, IfErr, List, [], ◌∷◌}
 use Rattle.std.specs.declared.cmp.Ordering.{Ordering}
 use Rattle.std.specs.Ordering.{is_lt}
@@ -11,12 +11,12 @@ pub record IsBorder (test : Place → Bool) (gap : Cut) : Type 0 where
   pub fails : (q : Place) → last gap.front ≡ Some q → test q ≡ false
   pub passes : (q : Place) → first gap.back ≡ Some q → test q ≡ true
 
--- whether what is searched is less than a member
+-- whether the searched key is less than a member
 abbrev pub less_at : (Place → Ordering) → Place → Bool
 less_at at p = is_lt (at p)
 
--- p IS INSERTED IN ORDER: at a gap with no member right before that is greater than what is searched, and none right after that
--- is not. `at`: how what is searched stands to each member
+-- p IS INSERTED IN ORDER: the member right before the gap, if any, is not greater than the searched key, and the one right
+-- after it, if any, is greater. `at`: how the searched key compares with each member
 module _ {E H : Type 0} (Represents : Table E → H → List Place → Type 0) (at : Place → Ordering) (old new : Table E) where
   pub record InsertsInOrder (head : H) (s : List Place) (p : Place) : Type 0 where
     pub gap : Cut
@@ -24,8 +24,8 @@ module _ {E H : Type 0} (Represents : Table E → H → List Place → Type 0) (
     pub border : IsBorder (less_at at) gap
     pub inserted : Inserts Represents old new head gap p
 
--- `Represents`: the kind's represents-relation. `table`, `Trace`: what clauses see of the table, and its steps. `old`, `new`: before the call and
--- after it
+-- `Represents`: the kind's represents-relation. `table`, `Trace`: the table as contracts see it, and its steps. `old`, `new`: the states before
+-- the call and after it
 module _ {L E H : Type 0} (Represents : Table E → H → List Place → Type 0) (table : L → Table E) (Trace : L → L → List LinkStep → Type 0) where
   -- the object is inserted in order, or its link is refused and nothing else has changed. The position stays
   pub record InsertsAmong {T : Type 0} (Refused : L → L → Place → Type 0) (at : Place → Ordering) (old : CursorState L H) (object : Place)

@@ -1,4 +1,4 @@
-//! What a cursor returns, where its kind tells whether a link was acquired.
+//! What a cursor returns, given that its kind returned whether a link was acquired.
 //!
 //! ```text
 //! replaced(None, object, false) // Err(ReplaceError::Null(object))
@@ -10,7 +10,8 @@ ghost use Rattle.ic_cursors.specs.Answers as answer;
 use ic_link_ops::ReplaceError;
 use ic_unsafe_ref::{Place, UnsafeRef};
 
-/// The answer of a replacement of the member `out`, none at null, by the object, whose link was acquired or not.
+/// The result of replacing the member `out` by the object: `out` is none at null, and the object's link was acquired or
+/// not.
 #[inline]
 pub(crate) fn replaced<T>(
     out: Option<Place>,

@@ -21,7 +21,7 @@ use ic_link_ops::{AlreadyLinked, LinkOps, ReplaceError};
 use ic_unsafe_ref::{Objects, Place, UnsafeRef, Values};
 use std::alloc::Allocator;
 
-/// A position in a collection that it edits, with the collection and the table of its links.
+/// A cursor that edits. It borrows the collection and the table of its links.
 pub struct CursorMut<'a, C: Collection, L> {
     list: &'a mut C,
     links: &'a mut L,
@@ -45,7 +45,7 @@ impl<'a, C: Collection, L> CursorMut<'a, C, L> {
     ghost use Rattle.ic_cursors.specs.CursorMut.{list_of, links_of, place_of, position, IsBorrowed};
     ghost use Rattle.ic_cursors.specs.Cursor as reading;
 
-    /// A cursor at that position of the collection, as the kinds make their own.
+    /// A cursor at that position of the collection. The calls of each kind that make cursors call this function. O(1).
     #[inline]
     pub fn new(list: &'a mut C, links: &'a mut L, current: C::Position) -> CursorMut<'a, C, L>
         ensures borrows { IsBorrowed list.entry links.entry result }
@@ -58,7 +58,7 @@ impl<'a, C: Collection, L> CursorMut<'a, C, L> {
         }
     }
 
-    /// Whether the cursor is on no member.
+    /// Whether the cursor is on no member. O(1).
     #[inline]
     pub fn is_null(&self) -> bool
         ensures { IsTrue result ↔ (position C.Position.member self.now ≡ None) }
@@ -66,7 +66,7 @@ impl<'a, C: Collection, L> CursorMut<'a, C, L> {
         self.current.get().is_none()
     }
 
-    /// The place of the member that the cursor is on, `None` at null.
+    /// The place of the member that the cursor is on, `None` at null. O(1).
     #[inline]
     pub fn get_ptr(&self) -> Option<Place>
         ensures { result ≡ position C.Position.member self.now }
@@ -82,7 +82,8 @@ impl<'a, C: Collection, L> CursorMut<'a, C, L> {
         objects.get(self.current.get()?)
     }
 
-    /// Ends the edits and returns as [`CursorMut::get`]. Collection and table stay as they are.
+    /// Ends the cursor and returns the object that it is on, as [`CursorMut::get`] does. The collection and the table
+    /// stay as they are. O(1).
     #[inline]
     pub fn into_ref<'b, A: Allocator>(
         self,
@@ -95,7 +96,7 @@ impl<'a, C: Collection, L> CursorMut<'a, C, L> {
         self.get(objects)
     }
 
-    /// A cursor that reads, at the same position.
+    /// A cursor that reads, at the same position. O(1).
     #[inline]
     pub fn as_cursor(&self) -> Cursor<'_, C, L>
         ensures list { reading.list_of result ≡ list_of self.now }
@@ -112,7 +113,7 @@ impl<'a, L: LinkOps, C: CursorOps<L>> CursorMut<'a, C, L> {
 
     /// Moves to the next member, from null to the first one, and from the last one to null.
     ///
-    /// The gap that was after the cursor is then before it.
+    /// The gap that was after the cursor is before it afterwards. O(1) in a list and O(log n) in a tree, where a walk over all members is O(n).
     #[inline]
     pub fn move_next(&mut self)
         requires stands { IsValid C.IsValidAt self.old }
@@ -123,7 +124,8 @@ impl<'a, L: LinkOps, C: CursorOps<L>> CursorMut<'a, C, L> {
         self.current = self.list.next_of(&*self.links, &self.current);
     }
 
-    /// A cursor that reads, where [`CursorMut::move_next`] would stand.
+    /// A cursor that reads, at the position to which [`CursorMut::move_next`] would move.
+    /// O(1) in a list and O(log n) in a tree, where a walk over all members is O(n).
     #[inline]
     pub fn peek_next(&self) -> Cursor<'_, C, L>
         requires stands { IsValid C.IsValidAt self.now }
@@ -136,9 +138,9 @@ impl<'a, L: LinkOps, C: CursorOps<L>> CursorMut<'a, C, L> {
         cursor.peek_next()
     }
 
-    /// Puts the object after the cursor, and before the first member at null, unless its link is refused.
+    /// Inserts the object after the cursor, or before the first member at null, unless its link is refused.
     ///
-    /// It requires that the object's place is covered. The cursor stays where it is.
+    /// It requires that the object's place is covered. The cursor stays where it is. O(1) in a list, O(log n) in a tree.
     #[inline]
     pub fn insert_after(
         &mut self,
@@ -166,7 +168,7 @@ impl<'a, L: LinkOps, C: Bidirectional<L>> CursorMut<'a, C, L> {
 
     /// Moves to the previous member, from null to the last one, and from the first one to null.
     ///
-    /// The gap that was before the cursor is then after it.
+    /// The gap that was before the cursor is after it afterwards. O(1) in a list and O(log n) in a tree, where a walk over all members is O(n).
     #[inline]
     pub fn move_prev(&mut self)
         requires stands { IsValid C.IsValidAt self.old }
@@ -177,7 +179,8 @@ impl<'a, L: LinkOps, C: Bidirectional<L>> CursorMut<'a, C, L> {
         self.current = self.list.prev_of(&*self.links, &self.current);
     }
 
-    /// A cursor that reads, where [`CursorMut::move_prev`] would stand.
+    /// A cursor that reads, at the position to which [`CursorMut::move_prev`] would move.
+    /// O(1) in a list and O(log n) in a tree, where a walk over all members is O(n).
     #[inline]
     pub fn peek_prev(&self) -> Cursor<'_, C, L>
         requires stands { IsValid C.IsValidAt self.now }
@@ -190,9 +193,9 @@ impl<'a, L: LinkOps, C: Bidirectional<L>> CursorMut<'a, C, L> {
         cursor.peek_prev()
     }
 
-    /// Puts the object before the cursor, and after the last member at null, unless its link is refused.
+    /// Inserts the object before the cursor, or after the last member at null, unless its link is refused.
     ///
-    /// It requires that the object's place is covered. The cursor stays where it is.
+    /// It requires that the object's place is covered. The cursor stays where it is. O(1) in a list, O(log n) in a tree.
     #[inline]
     pub fn insert_before(
         &mut self,
@@ -215,7 +218,7 @@ impl<'a, L: LinkOps, C: Bidirectional<L>> CursorMut<'a, C, L> {
 
     /// Removes the member that the cursor is on and returns it, `None` at null.
     ///
-    /// The cursor goes on to the following member, or to null.
+    /// The cursor moves to the next member, or to null if there is none. O(1) in a list, O(log n) in a tree.
     #[inline]
     pub fn remove(&mut self) -> Option<UnsafeRef<C::Object>>
         requires stands { IsValid C.IsValidAt self.old }
@@ -226,10 +229,10 @@ impl<'a, L: LinkOps, C: Bidirectional<L>> CursorMut<'a, C, L> {
         Some(UnsafeRef::new(place))
     }
 
-    /// Puts the object in the place of the member that the cursor is on, and returns that member.
+    /// Replaces the member that the cursor is on by the object, and returns that member.
     ///
-    /// It requires that the object's place is covered. At null it returns [`ReplaceError::Null`], whether or not the object
-    /// is linked. Then the cursor is on the object.
+    /// It requires that the object's place is covered. The cursor is on the object then. At null the call returns
+    /// [`ReplaceError::Null`], whether or not the object is linked. O(1).
     #[inline]
     pub fn replace_with(
         &mut self,
@@ -250,10 +253,10 @@ impl<'a, L: LinkOps, C: Bidirectional<L>> CursorMut<'a, C, L> {
 impl<'a, L: LinkOps, C: Ordered<L>> CursorMut<'a, C, L> {
     ghost use Rattle.ic_cursors.specs.CursorMut.{list_of, links_of, site_of, IsValid, Edited};
 
-    /// Puts the object where its key belongs, after the members that are not greater, unless its link is refused.
+    /// Inserts the object where its key belongs, after the members that are not greater, unless its link is refused.
     ///
-    /// It requires that the object is placed, its place covered, and all members placed. The cursor stays where it is. A refused
-    /// object comes back, and nothing else has changed.
+    /// It requires that the object and all members are placed, and that the object's place is covered. The cursor stays where it
+    /// is. If the link is refused, the object is returned and nothing else has changed. O(log n).
     #[inline]
     pub fn insert<O: Values<C::Object>>(
         &mut self,
@@ -281,9 +284,9 @@ impl<'a, L: LinkOps, C: Ordered<L>> CursorMut<'a, C, L> {
 impl<'a, L: LinkOps, C: ForwardOnly<L>> CursorMut<'a, C, L> {
     ghost use Rattle.ic_cursors.specs.CursorMut.{links_of, site_of, IsValid, Edited};
 
-    /// Removes the member after the cursor and returns it, at null the first one; `None` where there is none.
+    /// Removes the member after the cursor, or the first one at null, and returns it; `None` if there is none.
     ///
-    /// The cursor stays where it is.
+    /// The cursor stays where it is. O(1).
     #[inline]
     pub fn remove_next(&mut self) -> Option<UnsafeRef<C::Object>>
         requires stands { IsValid C.IsValidAt self.old }
@@ -294,10 +297,10 @@ impl<'a, L: LinkOps, C: ForwardOnly<L>> CursorMut<'a, C, L> {
         Some(UnsafeRef::new(place))
     }
 
-    /// Puts the object in the place of the member after the cursor, at null of the first one, and returns that member.
+    /// Replaces the member after the cursor, or the first one at null, by the object, and returns that member.
     ///
-    /// It requires that the object's place is covered. Where nothing is there it returns [`ReplaceError::Null`], whether or not the
-    /// object is linked. The cursor stays where it is.
+    /// It requires that the object's place is covered. If there is no such member, it returns [`ReplaceError::Null`], whether or
+    /// not the object is linked. The cursor stays where it is. O(1).
     #[inline]
     pub fn replace_next_with(
         &mut self,
@@ -320,9 +323,10 @@ impl<'a, L: LinkOps, C: ForwardOnly<L>> CursorMut<'a, C, L> {
 impl<'a, L: LinkOps, C: Splice<L>> CursorMut<'a, C, L> {
     ghost use Rattle.ic_cursors.specs.CursorMut.{list_of, links_of, site_of, IsValid, SameBorrows, Edited};
 
-    /// Puts all of the given collection after the cursor, and before the first member at null.
+    /// Inserts all members of the given collection after the cursor, or before the first member at null.
     ///
-    /// It requires that the table represents the given collection too; the two share no member. The cursor stays where it is.
+    /// It requires that the table represents the given collection too, and that the two share no member. The cursor stays
+    /// where it is. O(1).
     #[inline]
     pub fn splice_after(&mut self, given: C)
         requires stands { IsValid C.IsValidAt self.old }
@@ -337,9 +341,9 @@ impl<'a, L: LinkOps, C: Splice<L>> CursorMut<'a, C, L> {
             .splice_after_at(self.links, &mut self.current, given);
     }
 
-    /// Hands out the members after the cursor, and at null the whole collection.
+    /// Removes the members after the cursor, or all members at null, and returns them as a collection.
     ///
-    /// The cursor stays where it is.
+    /// The cursor stays where it is. O(1).
     #[inline]
     pub fn split_after(&mut self) -> C
         requires stands { IsValid C.IsValidAt self.old }
@@ -353,9 +357,10 @@ impl<'a, L: LinkOps, C: Splice<L>> CursorMut<'a, C, L> {
 impl<'a, L: LinkOps, C: BidirectionalSplice<L>> CursorMut<'a, C, L> {
     ghost use Rattle.ic_cursors.specs.CursorMut.{list_of, links_of, site_of, IsValid, SameBorrows, Edited};
 
-    /// Puts all of the given collection before the cursor, and after the last member at null.
+    /// Inserts all members of the given collection before the cursor, or after the last member at null.
     ///
-    /// It requires that the table represents the given collection too; the two share no member. The cursor stays where it is.
+    /// It requires that the table represents the given collection too, and that the two share no member. The cursor stays
+    /// where it is. O(1).
     #[inline]
     pub fn splice_before(&mut self, given: C)
         requires stands { IsValid C.IsValidAt self.old }
@@ -370,9 +375,9 @@ impl<'a, L: LinkOps, C: BidirectionalSplice<L>> CursorMut<'a, C, L> {
             .splice_before_at(self.links, &mut self.current, given);
     }
 
-    /// Hands out the members before the cursor, and at null the whole collection.
+    /// Removes the members before the cursor, or all members at null, and returns them as a collection.
     ///
-    /// The cursor stays where it is.
+    /// The cursor stays where it is. O(1).
     #[inline]
     pub fn split_before(&mut self) -> C
         requires stands { IsValid C.IsValidAt self.old }

@@ -1,4 +1,4 @@
-//! A cursor that keeps its collection, and borrows nothing.
+//! A cursor that owns its collection, and borrows nothing.
 //!
 //! ```text
 //! let mut cursor = list.cursor_owning(); // null
@@ -20,7 +20,7 @@ use crate::{
 use ic_link_ops::{AlreadyLinked, LinkOps, ReplaceError};
 use ic_unsafe_ref::{Place, UnsafeRef, Values};
 
-/// A position in a collection that it keeps. Its calls take the table of the collection's links each time.
+/// A cursor that owns its collection. Each call takes the table of the collection's links.
 pub struct CursorOwning<C: Collection> {
     list: C,
     current: C::Position,
@@ -39,7 +39,7 @@ impl<C: Collection> CursorOwning<C> {
     ghost use Rattle.ic_cursors.specs.CursorOwning.{list_of, place_of, position};
     ghost use Rattle.ic_cursors.specs.Cursor as reading;
 
-    /// A cursor at that position of the collection, as the kinds make their own.
+    /// A cursor at that position of the collection. The calls of each kind that make cursors call this function. O(1).
     #[inline]
     pub fn new(list: C, current: C::Position) -> CursorOwning<C>
         ensures list { list_of result ≡ list }
@@ -48,7 +48,7 @@ impl<C: Collection> CursorOwning<C> {
         CursorOwning { list, current }
     }
 
-    /// The collection, as it is.
+    /// Ends the cursor and returns the collection. O(1).
     #[inline]
     pub fn into_inner(self) -> C
         ensures { result ≡ list_of self }
@@ -57,7 +57,7 @@ impl<C: Collection> CursorOwning<C> {
         list
     }
 
-    /// A cursor that reads, at the same position.
+    /// A cursor that reads, at the same position. O(1).
     #[inline]
     pub fn as_cursor<'a, L>(&'a self, links: &'a L) -> Cursor<'a, C, L>
         ensures list { reading.list_of result ≡ list_of self.now }
@@ -67,7 +67,7 @@ impl<C: Collection> CursorOwning<C> {
         Cursor::new(&self.list, links, self.current.again())
     }
 
-    /// The collection that the cursor keeps, to be read while the cursor stays where it is. O(1).
+    /// The collection that the cursor owns, to be read while the cursor stays where it is. O(1).
     #[inline]
     pub fn list(&self) -> &C
         ensures { result.now ≡ list_of self.now }
@@ -83,7 +83,7 @@ impl<C: Collection> CursorOwning<C> {
         self.current.get()
     }
 
-    /// Moves to null, from wherever the cursor is. It reads no entry, and requires nothing. O(1).
+    /// Moves to null from any position. It reads no entry, and requires nothing. O(1).
     #[inline]
     pub fn go_null(&mut self)
         ensures list { list_of self.new ≡ list_of self.old }
@@ -99,7 +99,7 @@ impl<C: Collection> CursorOwning<C> {
 
     /// Moves to the next member, from null to the first one, and from the last one to null.
     ///
-    /// The gap that was after the cursor is then before it.
+    /// The gap that was after the cursor is before it afterwards. O(1) in a list and O(log n) in a tree, where a walk over all members is O(n).
     #[inline]
     pub fn move_next<L: LinkOps>(&mut self, links: &L)
     where
@@ -112,9 +112,9 @@ impl<C: Collection> CursorOwning<C> {
         self.current = self.list.next_of(links, &self.current);
     }
 
-    /// Puts the object after the cursor, and before the first member at null, unless its link is refused.
+    /// Inserts the object after the cursor, or before the first member at null, unless its link is refused.
     ///
-    /// It requires that the object's place is covered. The cursor stays where it is.
+    /// It requires that the object's place is covered. The cursor stays where it is. O(1) in a list, O(log n) in a tree.
     #[inline]
     pub fn insert_after<L: LinkOps>(
         &mut self,
@@ -140,7 +140,7 @@ impl<C: Collection> CursorOwning<C> {
 
     /// Moves to the previous member, from null to the last one, and from the first one to null.
     ///
-    /// The gap that was before the cursor is then after it.
+    /// The gap that was before the cursor is after it afterwards. O(1) in a list and O(log n) in a tree, where a walk over all members is O(n).
     #[inline]
     pub fn move_prev<L: LinkOps>(&mut self, links: &L)
     where
@@ -153,9 +153,9 @@ impl<C: Collection> CursorOwning<C> {
         self.current = self.list.prev_of(links, &self.current);
     }
 
-    /// Puts the object before the cursor, and after the last member at null, unless its link is refused.
+    /// Inserts the object before the cursor, or after the last member at null, unless its link is refused.
     ///
-    /// It requires that the object's place is covered. The cursor stays where it is.
+    /// It requires that the object's place is covered. The cursor stays where it is. O(1) in a list, O(log n) in a tree.
     #[inline]
     pub fn insert_before<L: LinkOps>(
         &mut self,
@@ -181,7 +181,7 @@ impl<C: Collection> CursorOwning<C> {
 
     /// Removes the member that the cursor is on and returns it, `None` at null.
     ///
-    /// The cursor goes on to the following member, or to null.
+    /// The cursor moves to the next member, or to null if there is none. O(1) in a list, O(log n) in a tree.
     #[inline]
     pub fn remove<L: LinkOps>(&mut self, links: &mut L) -> Option<UnsafeRef<C::Object>>
     where
@@ -194,10 +194,10 @@ impl<C: Collection> CursorOwning<C> {
         Some(UnsafeRef::new(place))
     }
 
-    /// Puts the object in the place of the member that the cursor is on, and returns that member.
+    /// Replaces the member that the cursor is on by the object, and returns that member.
     ///
-    /// It requires that the object's place is covered. At null it returns [`ReplaceError::Null`], whether or not the object
-    /// is linked. Then the cursor is on the object.
+    /// It requires that the object's place is covered. The cursor is on the object then. At null the call returns
+    /// [`ReplaceError::Null`], whether or not the object is linked. O(1).
     #[inline]
     pub fn replace_with<L: LinkOps>(
         &mut self,
@@ -217,10 +217,10 @@ impl<C: Collection> CursorOwning<C> {
         replaced(out, object, is_acquired)
     }
 
-    /// Puts the object where its key belongs, after the members that are not greater, unless its link is refused.
+    /// Inserts the object where its key belongs, after the members that are not greater, unless its link is refused.
     ///
-    /// It requires that the object is placed, its place covered, and all members placed. The cursor stays where it is. A refused
-    /// object comes back, and nothing else has changed.
+    /// It requires that the object and all members are placed, and that the object's place is covered. The cursor stays where it
+    /// is. If the link is refused, the object is returned and nothing else has changed. O(log n).
     #[inline]
     pub fn insert<L: LinkOps, O: Values<C::Object>>(
         &mut self,
@@ -247,9 +247,9 @@ impl<C: Collection> CursorOwning<C> {
         Ok(())
     }
 
-    /// Removes the member after the cursor and returns it, at null the first one; `None` where there is none.
+    /// Removes the member after the cursor, or the first one at null, and returns it; `None` if there is none.
     ///
-    /// The cursor stays where it is.
+    /// The cursor stays where it is. O(1).
     #[inline]
     pub fn remove_next<L: LinkOps>(&mut self, links: &mut L) -> Option<UnsafeRef<C::Object>>
     where
@@ -262,10 +262,10 @@ impl<C: Collection> CursorOwning<C> {
         Some(UnsafeRef::new(place))
     }
 
-    /// Puts the object in the place of the member after the cursor, at null of the first one, and returns that member.
+    /// Replaces the member after the cursor, or the first one at null, by the object, and returns that member.
     ///
-    /// It requires that the object's place is covered. Where nothing is there it returns [`ReplaceError::Null`], whether or not the
-    /// object is linked. The cursor stays where it is.
+    /// It requires that the object's place is covered. If there is no such member, it returns [`ReplaceError::Null`], whether or
+    /// not the object is linked. The cursor stays where it is. O(1).
     #[inline]
     pub fn replace_next_with<L: LinkOps>(
         &mut self,
@@ -285,9 +285,10 @@ impl<C: Collection> CursorOwning<C> {
         replaced(out, object, is_acquired)
     }
 
-    /// Puts all of the given collection after the cursor, and before the first member at null.
+    /// Inserts all members of the given collection after the cursor, or before the first member at null.
     ///
-    /// It requires that the table represents the given collection too; the two share no member. The cursor stays where it is.
+    /// It requires that the table represents the given collection too, and that the two share no member. The cursor stays
+    /// where it is. O(1).
     #[inline]
     pub fn splice_after<L: LinkOps>(&mut self, links: &mut L, given: C)
     where
@@ -303,9 +304,9 @@ impl<C: Collection> CursorOwning<C> {
         self.list.splice_after_at(links, &mut self.current, given);
     }
 
-    /// Hands out the members after the cursor, and at null the whole collection.
+    /// Removes the members after the cursor, or all members at null, and returns them as a collection.
     ///
-    /// The cursor stays where it is.
+    /// The cursor stays where it is. O(1).
     #[inline]
     pub fn split_after<L: LinkOps>(&mut self, links: &mut L) -> C
     where
@@ -317,9 +318,10 @@ impl<C: Collection> CursorOwning<C> {
         self.list.split_after_at(links, &mut self.current)
     }
 
-    /// Puts all of the given collection before the cursor, and after the last member at null.
+    /// Inserts all members of the given collection before the cursor, or after the last member at null.
     ///
-    /// It requires that the table represents the given collection too; the two share no member. The cursor stays where it is.
+    /// It requires that the table represents the given collection too, and that the two share no member. The cursor stays
+    /// where it is. O(1).
     #[inline]
     pub fn splice_before<L: LinkOps>(&mut self, links: &mut L, given: C)
     where
@@ -335,9 +337,9 @@ impl<C: Collection> CursorOwning<C> {
         self.list.splice_before_at(links, &mut self.current, given);
     }
 
-    /// Hands out the members before the cursor, and at null the whole collection.
+    /// Removes the members before the cursor, or all members at null, and returns them as a collection.
     ///
-    /// The cursor stays where it is.
+    /// The cursor stays where it is. O(1).
     #[inline]
     pub fn split_before<L: LinkOps>(&mut self, links: &mut L) -> C
     where

@@ -10,7 +10,7 @@ ghost use Rattle.std.specs.Iterator.{IsFiniteIterable};
 use std::fmt;
 use std::marker::Model;
 
-/// A walk over objects, as a value that is printed: its `Debug` goes over a copy of the walk, so it prints the same each time.
+/// A walk over objects as a value that can be printed. Its `Debug` uses a copy of the walk, so it prints the same each time.
 pub struct DebugWalk<I: Iterator + Clone> {
     walk: I,
 }
@@ -32,7 +32,7 @@ impl<I: Iterator + Clone> Drop for DebugWalk<I> {
 }
 
 impl<I: Iterator + Clone> DebugWalk<I> {
-    /// A value that prints the objects that the walk has not given out yet. It requires that every copy of the walk can be walked to its
+    /// A value that prints the objects that the walk has not returned yet. It requires that every copy of the walk can be walked to its
     /// end. O(1), and no memory.
     #[inline]
     pub fn new(walk: I) -> DebugWalk<I>
@@ -44,7 +44,7 @@ impl<I: Iterator + Clone> DebugWalk<I> {
     }
 }
 
-/// The objects in brackets, in order, as `[10, 20]`, and under `{:#?}` each on lines of its own. One walk.
+/// Prints the objects in brackets, in order, as `[10, 20]`, and with `{:#?}` each on lines of its own. One walk.
 impl<I: Iterator + Clone> fmt::Debug for DebugWalk<I>
 where
     I::Item: fmt::Debug + Drop,

@@ -1,4 +1,4 @@
-//! What a cursor needs of a kind of collection.
+//! What a cursor requires of a kind of collection.
 //!
 //! ```text
 //! let next = list.next_of(&links, &position);
@@ -19,24 +19,24 @@ use crate::Position;
 use ic_link_ops::LinkOps;
 use ic_unsafe_ref::{Place, Values};
 
-/// A collection of objects, and what a cursor keeps of a position in it.
+/// A collection of objects, and what a cursor stores of a position in it.
 pub trait Collection {
-    /// What its members are objects of.
+    /// The type of the objects that are its members.
     type Object;
 
-    /// What a cursor keeps.
+    /// What a cursor stores of its position.
     type Position: Position;
 
-    /// What a table represents a sequence for.
+    /// The head of a collection, for which a table represents a sequence.
     type Head;
 
     // The collection's head.
     ghost head_of: { Self → Self.Head };
 
-    // What an edit leaves of the collection beside its head.
+    // What an edit leaves unchanged in the collection, apart from its head.
     ghost Keeps: { Self → Self → Type 0 };
 
-    // Null.
+    // The position at null.
     ghost null_of: { Self → Self.Position };
 
     /// The position at null.
@@ -45,21 +45,21 @@ pub trait Collection {
         ensures null { Self.Position.member result ≡ None };
 }
 
-/// A kind of collection over tables `L`: where a move on leads, and the insert after a position.
+/// A kind of collection over tables `L`, with moves to the next member and inserts after a position.
 pub trait CursorOps<L: LinkOps>: Collection {
     // The table represents this sequence for the collection.
     ghost Represents: { Table L.Entry → Self.Head → List Place → Type 0 };
 
-    // THE POSITION STANDS, and what the kind keeps beside its member is right.
+    // THE POSITION IS VALID, and what the kind stores besides its member is right.
     ghost IsValidAt: { L → Self → Self.Position → Type 0 };
 
-    /// The position to which a move on leads.
+    /// The position to which a move to the next member leads.
     fn next_of(&self, links: &L, at: &Self::Position) -> Self::Position
         requires stands { IsValidAt links.now self.now at.now }
         ensures moved { MovesOn Represents L.table (site links.now (Self.head_of self.now) (Self.Position.member at.now)) (Self.Position.member result) }
         ensures kept { IsValidAt links.now self.now result };
 
-    /// Puts the object after the position, which stays, and returns whether its link was acquired.
+    /// Inserts the object after the position, which stays, and returns whether its link was acquired.
     fn insert_after_at(&mut self, links: &mut L, at: &mut Self::Position, object: Place) -> bool
         requires covered { IsCovered (L.table links.old) object }
         requires stands { IsValidAt links.old self.old at.old }
@@ -68,15 +68,15 @@ pub trait CursorOps<L: LinkOps>: Collection {
         ensures kept { Edited IsValidAt Self.Keeps self.old links.new self.new at.new };
 }
 
-/// A kind that leads both ways.
+/// A kind whose cursors move in both directions.
 pub trait Bidirectional<L: LinkOps>: CursorOps<L> {
-    /// The position to which a move back leads.
+    /// The position to which a move to the previous member leads.
     fn prev_of(&self, links: &L, at: &Self::Position) -> Self::Position
         requires stands { Self.IsValidAt links.now self.now at.now }
         ensures moved { MovesBack Self.Represents L.table (site links.now (Self.head_of self.now) (Self.Position.member at.now)) (Self.Position.member result) }
         ensures kept { Self.IsValidAt links.now self.now result };
 
-    /// Puts the object before the position, which stays, and returns whether its link was acquired.
+    /// Inserts the object before the position, which stays, and returns whether its link was acquired.
     fn insert_before_at(&mut self, links: &mut L, at: &mut Self::Position, object: Place) -> bool
         requires covered { IsCovered (L.table links.old) object }
         requires stands { Self.IsValidAt links.old self.old at.old }
@@ -84,15 +84,15 @@ pub trait Bidirectional<L: LinkOps>: CursorOps<L> {
             (site links.old (Self.head_of self.old) (Self.Position.member at.old)) object (answer.inserted {T = Self.Object} object result) (site links.new (Self.head_of self.new) (Self.Position.member at.new)) }
         ensures kept { Edited Self.IsValidAt Self.Keeps self.old links.new self.new at.new };
 
-    /// Removes the member at the position, which goes on to the one after it.
+    /// Removes the member at the position. The position moves to the next member.
     fn remove_at(&mut self, links: &mut L, at: &mut Self::Position) -> Option<Place>
         requires stands { Self.IsValidAt links.old self.old at.old }
         ensures removed { RemovesThere Self.Represents L.table L.Trace
             (site links.old (Self.head_of self.old) (Self.Position.member at.old)) result (site links.new (Self.head_of self.new) (Self.Position.member at.new)) }
         ensures kept { Edited Self.IsValidAt Self.Keeps self.old links.new self.new at.new };
 
-    /// Puts the object in the place of the member at the position, which is on the object then, and returns whether its link was
-    /// acquired. At null it changes nothing, and what it returns says nothing.
+    /// Replaces the member at the position by the object, and returns whether the object's link was acquired. The position is on
+    /// the object then. At null it changes nothing, and the result has no meaning.
     fn replace_at(&mut self, links: &mut L, at: &mut Self::Position, object: Place) -> bool
         requires covered { IsCovered (L.table links.old) object }
         requires stands { Self.IsValidAt links.old self.old at.old }
@@ -103,7 +103,7 @@ pub trait Bidirectional<L: LinkOps>: CursorOps<L> {
 
 /// A kind whose collections are spliced and split after a position.
 pub trait Splice<L: LinkOps>: CursorOps<L> {
-    /// Puts all of the given collection after the position, which stays.
+    /// Inserts all members of the given collection after the position, which stays.
     fn splice_after_at(&mut self, links: &mut L, at: &mut Self::Position, given: Self)
         requires stands { Self.IsValidAt links.old self.old at.old }
         requires given { (s : List Place) × Self.Represents (L.table links.old) (Self.head_of given) s }
@@ -113,7 +113,7 @@ pub trait Splice<L: LinkOps>: CursorOps<L> {
             (λ gap t. Self.IsValidAt links.new self.new at.new) }
         ensures rest { Self.Keeps self.old self.new };
 
-    /// Hands out the members after the position, which stays.
+    /// Removes the members after the position, which stays, and returns them as a collection.
     fn split_after_at(&mut self, links: &mut L, at: &mut Self::Position) -> Self
         requires stands { Self.IsValidAt links.old self.old at.old }
         ensures split { SplitsAfter Self.Represents L.table L.Trace
@@ -123,7 +123,7 @@ pub trait Splice<L: LinkOps>: CursorOps<L> {
 
 /// A kind whose collections are spliced and split before a position too.
 pub trait BidirectionalSplice<L: LinkOps>: Splice<L> {
-    /// Puts all of the given collection before the position, which stays.
+    /// Inserts all members of the given collection before the position, which stays.
     fn splice_before_at(&mut self, links: &mut L, at: &mut Self::Position, given: Self)
         requires stands { Self.IsValidAt links.old self.old at.old }
         requires given { (s : List Place) × Self.Represents (L.table links.old) (Self.head_of given) s }
@@ -133,7 +133,7 @@ pub trait BidirectionalSplice<L: LinkOps>: Splice<L> {
             (λ gap t. Self.IsValidAt links.new self.new at.new) }
         ensures rest { Self.Keeps self.old self.new };
 
-    /// Hands out the members before the position, which stays.
+    /// Removes the members before the position, which stays, and returns them as a collection.
     fn split_before_at(&mut self, links: &mut L, at: &mut Self::Position) -> Self
         requires stands { Self.IsValidAt links.old self.old at.old }
         ensures split { SplitsBefore Self.Represents L.table L.Trace
@@ -141,17 +141,17 @@ pub trait BidirectionalSplice<L: LinkOps>: Splice<L> {
         ensures kept { Edited Self.IsValidAt Self.Keeps self.old links.new self.new at.new };
 }
 
-/// A kind whose members are taken out and replaced after a position.
+/// A kind whose members are removed and replaced after a position.
 pub trait ForwardOnly<L: LinkOps>: CursorOps<L> {
-    /// Removes the member after the position, at null the first one. The position stays.
+    /// Removes the member after the position, or the first one at null, and returns it. The position stays.
     fn remove_next_at(&mut self, links: &mut L, at: &mut Self::Position) -> Option<Place>
         requires stands { Self.IsValidAt links.old self.old at.old }
         ensures removed { RemovesNext Self.Represents L.table L.Trace
             (site links.old (Self.head_of self.old) (Self.Position.member at.old)) result (site links.new (Self.head_of self.new) (Self.Position.member at.new)) }
         ensures kept { Edited Self.IsValidAt Self.Keeps self.old links.new self.new at.new };
 
-    /// Puts the object in the place of the member after the position, at null of the first one. Returns that member, none where
-    /// nothing is there, and whether the object's link was acquired. The position stays.
+    /// Replaces the member after the position, or the first one at null, by the object. Returns that member, `None` if there is
+    /// none, and whether the object's link was acquired. The position stays.
     fn replace_next_at(
         &mut self,
         links: &mut L,
@@ -165,13 +165,13 @@ pub trait ForwardOnly<L: LinkOps>: CursorOps<L> {
         ensures kept { Edited Self.IsValidAt Self.Keeps self.old links.new self.new at.new };
 }
 
-/// A kind that keeps its members in the order of their keys.
+/// A kind whose collections keep their members in the order of the keys.
 pub trait Ordered<L: LinkOps>: CursorOps<L> {
-    // HOW AN OBJECT STANDS to each member: `Less` where it is less.
+    // HOW AN OBJECT COMPARES with each member: `Less` if it is less.
     ghost order_of: { Self → Objects Self.Object → Place → Place → Ordering };
 
-    /// Puts the object where its key belongs, after the members that are not greater, and returns whether its link was acquired.
-    /// The position stays.
+    /// Inserts the object where its key belongs, after the members that are not greater, and returns whether its link was
+    /// acquired. The position stays.
     fn insert_in_order<O: Values<Self::Object>>(
         &mut self,
         links: &mut L,

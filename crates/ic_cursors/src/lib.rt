@@ -1,16 +1,17 @@
 //! The cursors of every kind of collection: each move and each edit is written once.
 //!
-//! A kind says by traits what a cursor needs of it:
+//! A kind implements these traits for its cursors:
 //!
-//! - [`Collection`]: what its members are objects of, and what a position is.
-//! - [`CursorOps`]: the move on, and the insert after a position.
-//! - [`Bidirectional`]: the move back, the insert before the cursor, the removal and the replacement.
-//! - [`ForwardOnly`]: the removal and the replacement after a position, of a kind that does not lead back.
+//! - [`Collection`]: the type of its members' objects, and what a position is.
+//! - [`CursorOps`]: the move to the next member, and the insert after a position.
+//! - [`Bidirectional`]: the move to the previous member, the insert before a position, the removal and the replacement.
+//! - [`ForwardOnly`]: the removal and the replacement after a position, for a kind without moves to the previous
+//!   member.
 //! - [`Splice`], [`BidirectionalSplice`]: splices and splits, after a position and before it.
 //! - [`Ordered`]: the insert where a key belongs.
 //!
-//! [`Cursor`] reads, [`CursorMut`] edits, and [`CursorOwning`] edits and keeps its collection. [`DebugWalk`] prints
-//! the objects of a walk. The kinds make them all.
+//! [`Cursor`] reads, [`CursorMut`] edits, and [`CursorOwning`] edits and owns its collection. [`DebugWalk`] prints the
+//! objects of a walk. Each kind has calls that make these values.
 //!
 //! ```text
 //! let mut cursor = list.cursor_mut(&mut links); // null

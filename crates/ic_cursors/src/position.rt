@@ -1,4 +1,4 @@
-//! What a cursor keeps of where it stands.
+//! What a cursor stores of its position.
 //!
 //! ```text
 //! position.get()   // the member that it is on, `None` at null
@@ -11,7 +11,7 @@ ghost use Rattle.ic_unsafe_ref.specs.declared.place.Place.{Place};
 use ic_link_ops::PlaceWord;
 use ic_unsafe_ref::Place;
 
-/// A position: on a member, or null. A kind may keep more in it than the member.
+/// A position: on a member, or at null. A kind may store more in it than the member.
 pub trait Position: Drop {
     // The member, none at null.
     ghost member: { Self → Option Place };
@@ -20,7 +20,7 @@ pub trait Position: Drop {
     fn get(&self) -> Option<Place>
         ensures { result ≡ member self.now };
 
-    /// The same position once more.
+    /// A copy of the position.
     fn again(&self) -> Self
         ensures { result ≡ self.now };
 }

@@ -1,4 +1,4 @@
-//! The calls of red-black trees that keep their first and their last member, in two words beside that of the tree.
+//! The calls of red-black trees that keep their first and their last member, in two words beside the word of the tree.
 //!
 //! ```text
 //! struct ic_link3 links[64] = {0};
@@ -19,9 +19,9 @@ use ic_link_ops::Side;
 use ic_raw::{RawRoot, RawThree};
 use ic_raw_keyed::{RawTreeEnds, ends_calls};
 
-/// Inserts a place by its key, after all members with no greater key than its own. O(log n).
+/// Inserts a place by its key, after all members whose key is not greater. O(log n).
 ///
-/// The place has to be one of the table, and not linked, and there has to be a key for each place of the table.
+/// The place must belong to the table and must not be linked, and there must be a key for each place of the table.
 #[unsafe(no_mangle)]
 pub extern "C" fn ic_tree_ends_insert(
     table: &mut [RawThree],
@@ -35,10 +35,10 @@ pub extern "C" fn ic_tree_ends_insert(
     ends_calls::insert(table, keys, tree, ends, place)
 }
 
-/// Inserts a place as the left child of the member `at`, before it, at [`NONE`](crate::NONE) as the only member. O(log n).
+/// Inserts a place as the left child of the member `at`, or as the only member if `at` is [`NONE`](crate::NONE). O(log n).
 ///
-/// The place has to be one of the table, and not linked. If the member has a left child, or at none the tree a member, it returns
-/// [`BROKEN`](crate::BROKEN).
+/// The place must belong to the table and must not be linked. If the member already has a left child, or if `at` is none and the tree has members, it
+/// returns [`BROKEN`](crate::BROKEN).
 #[unsafe(no_mangle)]
 pub extern "C" fn ic_tree_ends_insert_left(
     table: &mut [RawThree],
@@ -52,10 +52,10 @@ pub extern "C" fn ic_tree_ends_insert_left(
     ends_calls::insert_at(table, tree, ends, Side::Left, at, place)
 }
 
-/// Inserts a place as the right child of the member `at`, after it, at [`NONE`](crate::NONE) as the only member. O(log n).
+/// Inserts a place as the right child of the member `at`, or as the only member if `at` is [`NONE`](crate::NONE). O(log n).
 ///
-/// The place has to be one of the table, and not linked. If the member has a right child, or at none the tree a member, it returns
-/// [`BROKEN`](crate::BROKEN).
+/// The place must belong to the table and must not be linked. If the member already has a right child, or if `at` is none and the tree has members,
+/// it returns [`BROKEN`](crate::BROKEN).
 #[unsafe(no_mangle)]
 pub extern "C" fn ic_tree_ends_insert_right(
     table: &mut [RawThree],
@@ -69,7 +69,7 @@ pub extern "C" fn ic_tree_ends_insert_right(
     ends_calls::insert_at(table, tree, ends, Side::Right, at, place)
 }
 
-/// Removes the member `at`, or returns [`NULL`](crate::NULL) at [`NONE`](crate::NONE). O(log n).
+/// Removes the member `at`, or returns [`NULL`](crate::NULL) if `at` is [`NONE`](crate::NONE). O(log n).
 #[unsafe(no_mangle)]
 pub extern "C" fn ic_tree_ends_remove(
     table: &mut [RawThree],
@@ -82,9 +82,9 @@ pub extern "C" fn ic_tree_ends_remove(
     ends_calls::remove(table, tree, ends, at)
 }
 
-/// Removes the member `at`, and inserts a place where it was, or returns [`NULL`](crate::NULL) at [`NONE`](crate::NONE). O(1).
+/// Removes the member `at`, and inserts a place where it was, or returns [`NULL`](crate::NULL) if `at` is [`NONE`](crate::NONE). O(1).
 ///
-/// The place has to be one of the table, and not linked.
+/// The place must belong to the table and must not be linked.
 #[unsafe(no_mangle)]
 pub extern "C" fn ic_tree_ends_replace(
     table: &mut [RawThree],
@@ -98,7 +98,7 @@ pub extern "C" fn ic_tree_ends_replace(
     ends_calls::replace(table, tree, ends, at, place)
 }
 
-/// Removes the first member and hands it out, or returns [`NULL`](crate::NULL) if the ends say that there is none. O(log n).
+/// Removes the first member and stores its number in `popped`, or returns [`NULL`](crate::NULL) if the word of the first member is none. O(log n).
 #[unsafe(no_mangle)]
 pub extern "C" fn ic_tree_ends_pop_first(
     table: &mut [RawThree],

@@ -13,10 +13,10 @@ ghost use Rattle.ic_raw.specs.XorCalls as xor_lists;
 
 use ic_raw::{RawEnds, RawFront, RawOne, RawTwo, fill_calls};
 
-/// Puts `count` places after all members, in the order of their numbers: `first`, `first + 1` and so on. O(count).
+/// Inserts the `count` places `first`, `first + 1` and so on at the back, in this order. O(count).
 ///
-/// Each has to be one of the table, and not linked. Where the last member is none of the table, it returns
-/// [`BROKEN`](crate::BROKEN). No place at all changes nothing.
+/// Each of them must belong to the table and must not be linked. If the last member does not belong to the table, it returns
+/// [`BROKEN`](crate::BROKEN). If `count` is 0, nothing changes.
 #[unsafe(no_mangle)]
 pub extern "C" fn ic_list_fill(
     table: &mut [RawTwo],
@@ -29,10 +29,10 @@ pub extern "C" fn ic_list_fill(
     fill_calls::fill_list(table, list, first, count)
 }
 
-/// Puts `count` places before all members, in the order of their numbers: `first`, `first + 1` and so on. O(count).
+/// Inserts the `count` places `first`, `first + 1` and so on at the front, in this order. O(count).
 ///
-/// Each has to be one of the table, and not linked. Where the first member is not linked, it returns
-/// [`BROKEN`](crate::BROKEN). No place at all changes nothing.
+/// Each of them must belong to the table and must not be linked. If the first member is not linked, it returns [`BROKEN`](crate::BROKEN). If `count`
+/// is 0, nothing changes.
 #[unsafe(no_mangle)]
 pub extern "C" fn ic_stack_fill(
     table: &mut [RawOne],
@@ -45,10 +45,10 @@ pub extern "C" fn ic_stack_fill(
     fill_calls::fill_stack(table, list, first, count)
 }
 
-/// Puts `count` places after all members, in the order of their numbers: `first`, `first + 1` and so on. O(count).
+/// Inserts the `count` places `first`, `first + 1` and so on at the back, in this order. O(count).
 ///
-/// Each has to be one of the table, and not linked. Where the last member is none of the table, it returns
-/// [`BROKEN`](crate::BROKEN). No place at all changes nothing.
+/// Each of them must belong to the table and must not be linked. If the last member does not belong to the table, it returns
+/// [`BROKEN`](crate::BROKEN). If `count` is 0, nothing changes.
 #[unsafe(no_mangle)]
 pub extern "C" fn ic_xor_fill(
     table: &mut [RawOne],

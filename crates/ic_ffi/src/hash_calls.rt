@@ -1,4 +1,4 @@
-//! The calls of hash tables: a bucket has the singly linked list of the members whose hash leads there.
+//! The calls of hash tables. Each bucket is a singly linked list of the members whose hash leads to it.
 //!
 //! ```text
 //! struct ic_link1 links[64] = {0};
@@ -15,10 +15,10 @@ ghost use Rattle.ic_raw.specs.HashCalls.{FindCall, InsertCall, NextEqualCall, Re
 
 use ic_raw::{RawFront, RawOne, hash_calls};
 
-/// Puts a place before the members of its chain, which is that in bucket `hash % buckets`. O(1).
+/// Inserts a place at the front of its chain, which is the list in bucket `hash % buckets`. O(1).
 ///
-/// The place has to be one of the table, and not linked, and there has to be a bucket. Where the first member of the chain is not linked, it
-/// returns [`BROKEN`](crate::BROKEN).
+/// The place must belong to the table and must not be linked, and there must be at least one bucket. If the first member of the chain is not linked,
+/// it returns [`BROKEN`](crate::BROKEN).
 #[unsafe(no_mangle)]
 pub extern "C" fn ic_hash_insert(
     table: &mut [RawOne],
@@ -31,10 +31,10 @@ pub extern "C" fn ic_hash_insert(
     hash_calls::insert(table, buckets, hash, place)
 }
 
-/// Takes a place out of its chain, wherever it stands there, or returns [`NULL`](crate::NULL) at [`NONE`](crate::NONE). One reading for each
-/// member up to it.
+/// Removes a place from its chain, at whichever position it is there, or returns [`NULL`](crate::NULL) if the argument is [`NONE`](crate::NONE). It
+/// reads one entry of the table for each member up to that one.
 ///
-/// Where the chain has no such member, it returns [`BROKEN`](crate::BROKEN).
+/// If the chain has no such member, it returns [`BROKEN`](crate::BROKEN).
 #[unsafe(no_mangle)]
 pub extern "C" fn ic_hash_remove(
     table: &mut [RawOne],
@@ -47,11 +47,11 @@ pub extern "C" fn ic_hash_remove(
     hash_calls::remove(table, buckets, hash, place)
 }
 
-/// Hands out the first member of a chain with this key, or returns [`NULL`](crate::NULL) where there is none. It writes nothing else. One
-/// reading for each member up to it.
+/// Stores the number of the first member of the chain with this key in `found`, or returns [`NULL`](crate::NULL) if there is none. It writes nothing
+/// else. It reads one entry of the table for each member up to that one.
 ///
-/// There has to be a key for each place of the table, and a bucket. Where the words of the chain lead to no end, or out of the table, it
-/// returns [`BROKEN`](crate::BROKEN).
+/// There must be a key for each place of the table, and at least one bucket. If the links of the chain lead to no end or out of the table, it returns
+/// [`BROKEN`](crate::BROKEN).
 #[unsafe(no_mangle)]
 pub extern "C" fn ic_hash_find(
     table: &mut [RawOne],
@@ -66,11 +66,10 @@ pub extern "C" fn ic_hash_find(
     hash_calls::find(table, keys, buckets, hash, key, found)
 }
 
-/// Hands out the next member after the member `at` with the key of that one, or returns [`NULL`](crate::NULL) where there is none, or at
-/// [`NONE`](crate::NONE). It writes nothing else. One reading for each member up to it.
+/// Stores the number of the next member after `at` that has the same key in `found`, or returns [`NULL`](crate::NULL) if there is none, or if `at` is
+/// [`NONE`](crate::NONE). It writes nothing else. It reads one entry of the table for each member up to that one.
 ///
-/// There has to be a key for each place of the table. Where the words lead to no end, or out of the table, it returns
-/// [`BROKEN`](crate::BROKEN).
+/// There must be a key for each place of the table. If the links lead to no end or out of the table, it returns [`BROKEN`](crate::BROKEN).
 #[unsafe(no_mangle)]
 pub extern "C" fn ic_hash_next_equal(
     table: &mut [RawOne],

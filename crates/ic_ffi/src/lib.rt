@@ -10,11 +10,13 @@
 //! ic_tree_insert(nodes, 64, keys, 64, &tree, 7);  // in the order of keys[0 .. 63]
 //! ```
 //!
-//! Here each has its C name alone: what it does is in the module of the same name of `ic_raw`, `ic_raw_lists`, `ic_raw_keyed` or `ic_raw_trees`.
+//! This crate only gives each call its C name. The module of the same name in `ic_raw`, `ic_raw_lists`, `ic_raw_keyed`, `ic_raw_trees` or
+//! `ic_raw_augmented` contains its body.
 //!
-//! No call requires anything of its arguments. Each tests what it reads and writes by, returns a status, and leaves all as it was
-//! where the status is not [`OK`]. It is that of the first fault: of the members that are named, in their order, of the keys, of the
-//! place to insert, or else [`BROKEN`]. [`NULL`] says that no place was named where one is needed, or that a call has looked and found none.
+//! No call requires anything of its arguments. Each call tests every link that it follows or changes, returns a status, and changes nothing if the
+//! status is not [`OK`]. The status is that of the first fault: it tests the members that the caller names, in their order, then the keys, then the
+//! place to insert, and returns [`BROKEN`] if all these are right but the links do not fit together. [`NULL`] means that the caller named no place
+//! where one is needed, or that a search found none.
 #![tactic(auto)]
 
 mod check_calls;

@@ -16,9 +16,9 @@ ghost use Rattle.ic_raw.specs.ListCalls.{ClearCall, InsertCall, PopCall, RemoveC
 
 use ic_raw::{NONE, RawEnds, RawTwo, Side, list_calls};
 
-/// Puts a place before all members. O(1).
+/// Inserts a place at the front. O(1).
 ///
-/// The place has to be one of the table, and not linked.
+/// The place must belong to the table and must not be linked.
 #[unsafe(no_mangle)]
 pub extern "C" fn ic_list_push_front(table: &mut [RawTwo], list: &mut RawEnds, place: u32) -> u32
     ensures { InsertCall wide_words table.old table.new list.old list.new result After None (place_of place) }
@@ -26,9 +26,9 @@ pub extern "C" fn ic_list_push_front(table: &mut [RawTwo], list: &mut RawEnds, p
     list_calls::insert_at(table, list, Side::After, NONE, place)
 }
 
-/// Puts a place after all members. O(1).
+/// Inserts a place at the back. O(1).
 ///
-/// The place has to be one of the table, and not linked.
+/// The place must belong to the table and must not be linked.
 #[unsafe(no_mangle)]
 pub extern "C" fn ic_list_push_back(table: &mut [RawTwo], list: &mut RawEnds, place: u32) -> u32
     ensures { InsertCall wide_words table.old table.new list.old list.new result Before None (place_of place) }
@@ -36,7 +36,7 @@ pub extern "C" fn ic_list_push_back(table: &mut [RawTwo], list: &mut RawEnds, pl
     list_calls::push_back(table, list, place)
 }
 
-/// Takes the first member off and hands it out, or returns [`NULL`](crate::NULL) where there is none. O(1).
+/// Removes the first member and stores its number in `popped`, or returns [`NULL`](crate::NULL) if there is none. O(1).
 #[unsafe(no_mangle)]
 pub extern "C" fn ic_list_pop_front(
     table: &mut [RawTwo],
@@ -48,7 +48,7 @@ pub extern "C" fn ic_list_pop_front(
     list_calls::pop_front(table, list, popped)
 }
 
-/// Takes the last member off and hands it out, or returns [`NULL`](crate::NULL) where there is none. O(1).
+/// Removes the last member and stores its number in `popped`, or returns [`NULL`](crate::NULL) if there is none. O(1).
 #[unsafe(no_mangle)]
 pub extern "C" fn ic_list_pop_back(
     table: &mut [RawTwo],
@@ -60,9 +60,9 @@ pub extern "C" fn ic_list_pop_back(
     list_calls::pop(table, list, Side::Before, popped)
 }
 
-/// Puts a place after the member `at`, at [`NONE`](crate::NONE) before all. O(1).
+/// Inserts a place after the member `at`, or at the front if `at` is [`NONE`](crate::NONE). O(1).
 ///
-/// The place has to be one of the table, and not linked.
+/// The place must belong to the table and must not be linked.
 #[unsafe(no_mangle)]
 pub extern "C" fn ic_list_insert_after(
     table: &mut [RawTwo],
@@ -75,9 +75,9 @@ pub extern "C" fn ic_list_insert_after(
     list_calls::insert_at(table, list, Side::After, at, place)
 }
 
-/// Puts a place before the member `at`, at [`NONE`](crate::NONE) after all. O(1).
+/// Inserts a place before the member `at`, or at the back if `at` is [`NONE`](crate::NONE). O(1).
 ///
-/// The place has to be one of the table, and not linked.
+/// The place must belong to the table and must not be linked.
 #[unsafe(no_mangle)]
 pub extern "C" fn ic_list_insert_before(
     table: &mut [RawTwo],
@@ -90,7 +90,7 @@ pub extern "C" fn ic_list_insert_before(
     list_calls::insert_at(table, list, Side::Before, at, place)
 }
 
-/// Takes the member `at` off, or returns [`NULL`](crate::NULL) at [`NONE`](crate::NONE). O(1).
+/// Removes the member `at`, or returns [`NULL`](crate::NULL) if `at` is [`NONE`](crate::NONE). O(1).
 #[unsafe(no_mangle)]
 pub extern "C" fn ic_list_remove(table: &mut [RawTwo], list: &mut RawEnds, at: u32) -> u32
     ensures { RemoveCall wide_words table.old table.new list.old list.new result (place_of at) }
@@ -98,9 +98,9 @@ pub extern "C" fn ic_list_remove(table: &mut [RawTwo], list: &mut RawEnds, at: u
     list_calls::remove(table, list, at)
 }
 
-/// Puts a place where the member `at` is, which is unlinked then, or returns [`NULL`](crate::NULL) at [`NONE`](crate::NONE). O(1).
+/// Inserts a place where the member `at` is, and removes `at`, or returns [`NULL`](crate::NULL) if `at` is [`NONE`](crate::NONE). O(1).
 ///
-/// The place has to be one of the table, and not linked.
+/// The place must belong to the table and must not be linked.
 #[unsafe(no_mangle)]
 pub extern "C" fn ic_list_replace(
     table: &mut [RawTwo],
@@ -113,9 +113,9 @@ pub extern "C" fn ic_list_replace(
     list_calls::replace(table, list, at, place)
 }
 
-/// Puts all of the given list after the member `at`, at [`NONE`](crate::NONE) before all, and leaves the given one empty. O(1).
+/// Moves all members of `given` after the member `at`, or to the front if `at` is [`NONE`](crate::NONE), and leaves `given` empty. O(1).
 ///
-/// A list that begins with the same member, as the list itself, is [`BROKEN`](crate::BROKEN).
+/// If both lists begin with the same member, as if `given` is the list itself, it returns [`BROKEN`](crate::BROKEN).
 #[unsafe(no_mangle)]
 pub extern "C" fn ic_list_splice_after(
     table: &mut [RawTwo],
@@ -128,9 +128,9 @@ pub extern "C" fn ic_list_splice_after(
     list_calls::splice_at(table, list, at, given, Side::After)
 }
 
-/// Puts all of the given list before the member `at`, at [`NONE`](crate::NONE) after all, and leaves the given one empty. O(1).
+/// Moves all members of `given` before the member `at`, or to the back if `at` is [`NONE`](crate::NONE), and leaves `given` empty. O(1).
 ///
-/// A list that begins with the same member, as the list itself, is [`BROKEN`](crate::BROKEN).
+/// If both lists begin with the same member, as if `given` is the list itself, it returns [`BROKEN`](crate::BROKEN).
 #[unsafe(no_mangle)]
 pub extern "C" fn ic_list_splice_before(
     table: &mut [RawTwo],
@@ -143,9 +143,9 @@ pub extern "C" fn ic_list_splice_before(
     list_calls::splice_at(table, list, at, given, Side::Before)
 }
 
-/// Puts all of the given list after all members, and leaves the given one empty. O(1).
+/// Moves all members of `given` to the back of the list, and leaves `given` empty. O(1).
 ///
-/// A list that begins with the same member, as the list itself, is [`BROKEN`](crate::BROKEN).
+/// If both lists begin with the same member, as if `given` is the list itself, it returns [`BROKEN`](crate::BROKEN).
 #[unsafe(no_mangle)]
 pub extern "C" fn ic_list_append(
     table: &mut [RawTwo],
@@ -157,9 +157,9 @@ pub extern "C" fn ic_list_append(
     list_calls::splice_at(table, list, NONE, given, Side::Before)
 }
 
-/// Hands out what stands after the member `at`, at [`NONE`](crate::NONE) all of the list. O(1).
+/// Moves all members after the member `at` to `rest`, or all members of the list if `at` is [`NONE`](crate::NONE). O(1).
 ///
-/// Where `rest` is not empty, it returns [`BROKEN`](crate::BROKEN).
+/// If `rest` is not empty, it returns [`BROKEN`](crate::BROKEN).
 #[unsafe(no_mangle)]
 pub extern "C" fn ic_list_split_after(
     table: &mut [RawTwo],
@@ -172,9 +172,9 @@ pub extern "C" fn ic_list_split_after(
     list_calls::split_at(table, list, at, rest, Side::After)
 }
 
-/// Hands out what stands before the member `at`, at [`NONE`](crate::NONE) all of the list. O(1).
+/// Moves all members before the member `at` to `rest`, or all members of the list if `at` is [`NONE`](crate::NONE). O(1).
 ///
-/// Where `rest` is not empty, it returns [`BROKEN`](crate::BROKEN).
+/// If `rest` is not empty, it returns [`BROKEN`](crate::BROKEN).
 #[unsafe(no_mangle)]
 pub extern "C" fn ic_list_split_before(
     table: &mut [RawTwo],
@@ -187,9 +187,9 @@ pub extern "C" fn ic_list_split_before(
     list_calls::split_at(table, list, at, rest, Side::Before)
 }
 
-/// Takes all members off, which are unlinked then. O(n).
+/// Removes and unlinks all members. O(n).
 ///
-/// Where the places do not lead from the first member to the last, and back, it returns [`BROKEN`](crate::BROKEN).
+/// If the links do not lead from the first member to the last, and back, it returns [`BROKEN`](crate::BROKEN).
 #[unsafe(no_mangle)]
 pub extern "C" fn ic_list_clear(table: &mut [RawTwo], list: &mut RawEnds) -> u32
     ensures { ClearCall wide_words table.old table.new list.old list.new result }

@@ -12,10 +12,10 @@ ghost use Rattle.ic_raw.specs.ListCalls.{MoveCall, MoveToEndCall};
 
 use ic_raw::{RawEnds, RawTwo, Side, move_calls};
 
-/// Moves the member `place` after the member `at`, at [`NONE`](crate::NONE) before all, or returns [`NULL`](crate::NULL) where
-/// `place` is [`NONE`](crate::NONE). It stays linked. O(1).
+/// Moves the member `place` after the member `at`, or to the front if `at` is [`NONE`](crate::NONE), or returns [`NULL`](crate::NULL) if `place` is
+/// [`NONE`](crate::NONE). The member stays linked during the call. O(1).
 ///
-/// Where it stands there already, as where `at` is the member itself, nothing is changed.
+/// If the member is already there, or if `at` is the member itself, nothing changes.
 #[unsafe(no_mangle)]
 pub extern "C" fn ic_list_move_after(
     table: &mut [RawTwo],
@@ -28,10 +28,10 @@ pub extern "C" fn ic_list_move_after(
     move_calls::move_at(table, list, Side::After, at, place)
 }
 
-/// Moves the member `place` before the member `at`, at [`NONE`](crate::NONE) after all, or returns [`NULL`](crate::NULL) where
-/// `place` is [`NONE`](crate::NONE). It stays linked. O(1).
+/// Moves the member `place` before the member `at`, or to the back if `at` is [`NONE`](crate::NONE), or returns [`NULL`](crate::NULL) if `place` is
+/// [`NONE`](crate::NONE). The member stays linked during the call. O(1).
 ///
-/// Where it stands there already, as where `at` is the member itself, nothing is changed.
+/// If the member is already there, or if `at` is the member itself, nothing changes.
 #[unsafe(no_mangle)]
 pub extern "C" fn ic_list_move_before(
     table: &mut [RawTwo],
@@ -44,9 +44,10 @@ pub extern "C" fn ic_list_move_before(
     move_calls::move_at(table, list, Side::Before, at, place)
 }
 
-/// Moves a member before all others, or returns [`NULL`](crate::NULL) at [`NONE`](crate::NONE). It stays linked. O(1).
+/// Moves a member to the front, or returns [`NULL`](crate::NULL) if the argument is [`NONE`](crate::NONE). The member stays linked during the call.
+/// O(1).
 ///
-/// Where it is the first already, nothing is changed.
+/// If it is already the first member, nothing changes.
 #[unsafe(no_mangle)]
 pub extern "C" fn ic_list_move_to_front(table: &mut [RawTwo], list: &mut RawEnds, place: u32) -> u32
     ensures { MoveToEndCall wide_words table.old table.new list.old list.new result After (place_of place) }
@@ -54,9 +55,10 @@ pub extern "C" fn ic_list_move_to_front(table: &mut [RawTwo], list: &mut RawEnds
     move_calls::move_to_end(table, list, Side::After, place)
 }
 
-/// Moves a member after all others, or returns [`NULL`](crate::NULL) at [`NONE`](crate::NONE). It stays linked. O(1).
+/// Moves a member to the back, or returns [`NULL`](crate::NULL) if the argument is [`NONE`](crate::NONE). The member stays linked during the call.
+/// O(1).
 ///
-/// Where it is the last already, nothing is changed.
+/// If it is already the last member, nothing changes.
 #[unsafe(no_mangle)]
 pub extern "C" fn ic_list_move_to_back(table: &mut [RawTwo], list: &mut RawEnds, place: u32) -> u32
     ensures { MoveToEndCall wide_words table.old table.new list.old list.new result Before (place_of place) }

@@ -1,6 +1,6 @@
-//! The calls of doubly linked lists whose links have words of 4 bytes, and so 8 bytes a place: each does what the call does that has its name
-//! without the number, in `list_calls`, `move_calls`, `check_calls` or `transfer_calls`. Places from 536,870,911 on are out of range,
-//! because the words have no room for them. The two words of a list itself have 8 bytes each, whatever its links have.
+//! The calls of doubly linked lists whose links have words of 4 bytes, which take 8 bytes for each place. Each call does what the call with the same
+//! name without the number `32` does, in `list_calls`, `move_calls`, `check_calls` or `transfer_calls`. Places from 536,870,911 on are out of range,
+//! because such words cannot name them. The two words of a list itself always have 8 bytes each.
 //!
 //! ```text
 //! struct ic_link2_32 links[64] = {0};
@@ -23,9 +23,9 @@ ghost use Rattle.ic_raw_lists.specs.TransferCalls.{TransferCall};
 use ic_raw::{NONE, RawEnds, RawNarrowTwo, Side, check_calls, list_calls, move_calls};
 use ic_raw_lists::transfer_calls;
 
-/// Puts a place before all members. O(1).
+/// Inserts a place at the front. O(1).
 ///
-/// The place has to be one of the table, and not linked.
+/// The place must belong to the table and must not be linked.
 #[unsafe(no_mangle)]
 pub extern "C" fn ic_list32_push_front(
     table: &mut [RawNarrowTwo],
@@ -37,9 +37,9 @@ pub extern "C" fn ic_list32_push_front(
     list_calls::insert_at(table, list, Side::After, NONE, place)
 }
 
-/// Puts a place after all members. O(1).
+/// Inserts a place at the back. O(1).
 ///
-/// The place has to be one of the table, and not linked.
+/// The place must belong to the table and must not be linked.
 #[unsafe(no_mangle)]
 pub extern "C" fn ic_list32_push_back(
     table: &mut [RawNarrowTwo],
@@ -51,7 +51,7 @@ pub extern "C" fn ic_list32_push_back(
     list_calls::push_back(table, list, place)
 }
 
-/// Takes the first member off and hands it out, or returns [`NULL`](crate::NULL) where there is none. O(1).
+/// Removes the first member and stores its number in `popped`, or returns [`NULL`](crate::NULL) if there is none. O(1).
 #[unsafe(no_mangle)]
 pub extern "C" fn ic_list32_pop_front(
     table: &mut [RawNarrowTwo],
@@ -63,7 +63,7 @@ pub extern "C" fn ic_list32_pop_front(
     list_calls::pop_front(table, list, popped)
 }
 
-/// Takes the last member off and hands it out, or returns [`NULL`](crate::NULL) where there is none. O(1).
+/// Removes the last member and stores its number in `popped`, or returns [`NULL`](crate::NULL) if there is none. O(1).
 #[unsafe(no_mangle)]
 pub extern "C" fn ic_list32_pop_back(
     table: &mut [RawNarrowTwo],
@@ -75,9 +75,9 @@ pub extern "C" fn ic_list32_pop_back(
     list_calls::pop(table, list, Side::Before, popped)
 }
 
-/// Puts a place after the member `at`, at [`NONE`](crate::NONE) before all. O(1).
+/// Inserts a place after the member `at`, or at the front if `at` is [`NONE`](crate::NONE). O(1).
 ///
-/// The place has to be one of the table, and not linked.
+/// The place must belong to the table and must not be linked.
 #[unsafe(no_mangle)]
 pub extern "C" fn ic_list32_insert_after(
     table: &mut [RawNarrowTwo],
@@ -90,9 +90,9 @@ pub extern "C" fn ic_list32_insert_after(
     list_calls::insert_at(table, list, Side::After, at, place)
 }
 
-/// Puts a place before the member `at`, at [`NONE`](crate::NONE) after all. O(1).
+/// Inserts a place before the member `at`, or at the back if `at` is [`NONE`](crate::NONE). O(1).
 ///
-/// The place has to be one of the table, and not linked.
+/// The place must belong to the table and must not be linked.
 #[unsafe(no_mangle)]
 pub extern "C" fn ic_list32_insert_before(
     table: &mut [RawNarrowTwo],
@@ -105,7 +105,7 @@ pub extern "C" fn ic_list32_insert_before(
     list_calls::insert_at(table, list, Side::Before, at, place)
 }
 
-/// Takes the member `at` off, or returns [`NULL`](crate::NULL) at [`NONE`](crate::NONE). O(1).
+/// Removes the member `at`, or returns [`NULL`](crate::NULL) if `at` is [`NONE`](crate::NONE). O(1).
 #[unsafe(no_mangle)]
 pub extern "C" fn ic_list32_remove(table: &mut [RawNarrowTwo], list: &mut RawEnds, at: u32) -> u32
     ensures { RemoveCall narrow_words table.old table.new list.old list.new result (place_of at) }
@@ -113,9 +113,9 @@ pub extern "C" fn ic_list32_remove(table: &mut [RawNarrowTwo], list: &mut RawEnd
     list_calls::remove(table, list, at)
 }
 
-/// Puts a place where the member `at` is, which is unlinked then, or returns [`NULL`](crate::NULL) at [`NONE`](crate::NONE). O(1).
+/// Inserts a place where the member `at` is, and removes `at`, or returns [`NULL`](crate::NULL) if `at` is [`NONE`](crate::NONE). O(1).
 ///
-/// The place has to be one of the table, and not linked.
+/// The place must belong to the table and must not be linked.
 #[unsafe(no_mangle)]
 pub extern "C" fn ic_list32_replace(
     table: &mut [RawNarrowTwo],
@@ -128,9 +128,9 @@ pub extern "C" fn ic_list32_replace(
     list_calls::replace(table, list, at, place)
 }
 
-/// Puts all of the given list after the member `at`, at [`NONE`](crate::NONE) before all, and leaves the given one empty. O(1).
+/// Moves all members of `given` after the member `at`, or to the front if `at` is [`NONE`](crate::NONE), and leaves `given` empty. O(1).
 ///
-/// A list that begins with the same member, as the list itself, is [`BROKEN`](crate::BROKEN).
+/// If both lists begin with the same member, as if `given` is the list itself, it returns [`BROKEN`](crate::BROKEN).
 #[unsafe(no_mangle)]
 pub extern "C" fn ic_list32_splice_after(
     table: &mut [RawNarrowTwo],
@@ -143,9 +143,9 @@ pub extern "C" fn ic_list32_splice_after(
     list_calls::splice_at(table, list, at, given, Side::After)
 }
 
-/// Puts all of the given list before the member `at`, at [`NONE`](crate::NONE) after all, and leaves the given one empty. O(1).
+/// Moves all members of `given` before the member `at`, or to the back if `at` is [`NONE`](crate::NONE), and leaves `given` empty. O(1).
 ///
-/// A list that begins with the same member, as the list itself, is [`BROKEN`](crate::BROKEN).
+/// If both lists begin with the same member, as if `given` is the list itself, it returns [`BROKEN`](crate::BROKEN).
 #[unsafe(no_mangle)]
 pub extern "C" fn ic_list32_splice_before(
     table: &mut [RawNarrowTwo],
@@ -158,9 +158,9 @@ pub extern "C" fn ic_list32_splice_before(
     list_calls::splice_at(table, list, at, given, Side::Before)
 }
 
-/// Puts all of the given list after all members, and leaves the given one empty. O(1).
+/// Moves all members of `given` to the back of the list, and leaves `given` empty. O(1).
 ///
-/// A list that begins with the same member, as the list itself, is [`BROKEN`](crate::BROKEN).
+/// If both lists begin with the same member, as if `given` is the list itself, it returns [`BROKEN`](crate::BROKEN).
 #[unsafe(no_mangle)]
 pub extern "C" fn ic_list32_append(
     table: &mut [RawNarrowTwo],
@@ -172,9 +172,9 @@ pub extern "C" fn ic_list32_append(
     list_calls::splice_at(table, list, NONE, given, Side::Before)
 }
 
-/// Hands out what stands after the member `at`, at [`NONE`](crate::NONE) all of the list. O(1).
+/// Moves all members after the member `at` to `rest`, or all members of the list if `at` is [`NONE`](crate::NONE). O(1).
 ///
-/// Where `rest` is not empty, it returns [`BROKEN`](crate::BROKEN).
+/// If `rest` is not empty, it returns [`BROKEN`](crate::BROKEN).
 #[unsafe(no_mangle)]
 pub extern "C" fn ic_list32_split_after(
     table: &mut [RawNarrowTwo],
@@ -187,9 +187,9 @@ pub extern "C" fn ic_list32_split_after(
     list_calls::split_at(table, list, at, rest, Side::After)
 }
 
-/// Hands out what stands before the member `at`, at [`NONE`](crate::NONE) all of the list. O(1).
+/// Moves all members before the member `at` to `rest`, or all members of the list if `at` is [`NONE`](crate::NONE). O(1).
 ///
-/// Where `rest` is not empty, it returns [`BROKEN`](crate::BROKEN).
+/// If `rest` is not empty, it returns [`BROKEN`](crate::BROKEN).
 #[unsafe(no_mangle)]
 pub extern "C" fn ic_list32_split_before(
     table: &mut [RawNarrowTwo],
@@ -202,9 +202,9 @@ pub extern "C" fn ic_list32_split_before(
     list_calls::split_at(table, list, at, rest, Side::Before)
 }
 
-/// Takes all members off, which are unlinked then. O(n).
+/// Removes and unlinks all members. O(n).
 ///
-/// Where the places do not lead from the first member to the last, and back, it returns [`BROKEN`](crate::BROKEN).
+/// If the links do not lead from the first member to the last, and back, it returns [`BROKEN`](crate::BROKEN).
 #[unsafe(no_mangle)]
 pub extern "C" fn ic_list32_clear(table: &mut [RawNarrowTwo], list: &mut RawEnds) -> u32
     ensures { ClearCall narrow_words table.old table.new list.old list.new result }
@@ -212,10 +212,10 @@ pub extern "C" fn ic_list32_clear(table: &mut [RawNarrowTwo], list: &mut RawEnds
     list_calls::clear(table, list)
 }
 
-/// Moves the member `place` after the member `at`, at [`NONE`](crate::NONE) before all, or returns [`NULL`](crate::NULL) where
-/// `place` is [`NONE`](crate::NONE). It stays linked. O(1).
+/// Moves the member `place` after the member `at`, or to the front if `at` is [`NONE`](crate::NONE), or returns [`NULL`](crate::NULL) if `place` is
+/// [`NONE`](crate::NONE). The member stays linked during the call. O(1).
 ///
-/// Where it stands there already, as where `at` is the member itself, nothing is changed.
+/// If the member is already there, or if `at` is the member itself, nothing changes.
 #[unsafe(no_mangle)]
 pub extern "C" fn ic_list32_move_after(
     table: &mut [RawNarrowTwo],
@@ -228,10 +228,10 @@ pub extern "C" fn ic_list32_move_after(
     move_calls::move_at(table, list, Side::After, at, place)
 }
 
-/// Moves the member `place` before the member `at`, at [`NONE`](crate::NONE) after all, or returns [`NULL`](crate::NULL) where
-/// `place` is [`NONE`](crate::NONE). It stays linked. O(1).
+/// Moves the member `place` before the member `at`, or to the back if `at` is [`NONE`](crate::NONE), or returns [`NULL`](crate::NULL) if `place` is
+/// [`NONE`](crate::NONE). The member stays linked during the call. O(1).
 ///
-/// Where it stands there already, as where `at` is the member itself, nothing is changed.
+/// If the member is already there, or if `at` is the member itself, nothing changes.
 #[unsafe(no_mangle)]
 pub extern "C" fn ic_list32_move_before(
     table: &mut [RawNarrowTwo],
@@ -244,9 +244,10 @@ pub extern "C" fn ic_list32_move_before(
     move_calls::move_at(table, list, Side::Before, at, place)
 }
 
-/// Moves a member before all others, or returns [`NULL`](crate::NULL) at [`NONE`](crate::NONE). It stays linked. O(1).
+/// Moves a member to the front, or returns [`NULL`](crate::NULL) if the argument is [`NONE`](crate::NONE). The member stays linked during the call.
+/// O(1).
 ///
-/// Where it is the first already, nothing is changed.
+/// If it is already the first member, nothing changes.
 #[unsafe(no_mangle)]
 pub extern "C" fn ic_list32_move_to_front(
     table: &mut [RawNarrowTwo],
@@ -258,9 +259,10 @@ pub extern "C" fn ic_list32_move_to_front(
     move_calls::move_to_end(table, list, Side::After, place)
 }
 
-/// Moves a member after all others, or returns [`NULL`](crate::NULL) at [`NONE`](crate::NONE). It stays linked. O(1).
+/// Moves a member to the back, or returns [`NULL`](crate::NULL) if the argument is [`NONE`](crate::NONE). The member stays linked during the call.
+/// O(1).
 ///
-/// Where it is the last already, nothing is changed.
+/// If it is already the last member, nothing changes.
 #[unsafe(no_mangle)]
 pub extern "C" fn ic_list32_move_to_back(
     table: &mut [RawNarrowTwo],
@@ -272,9 +274,10 @@ pub extern "C" fn ic_list32_move_to_back(
     move_calls::move_to_end(table, list, Side::Before, place)
 }
 
-/// Hands out how many members the words represent for a doubly linked list, or returns [`BROKEN`](crate::BROKEN) where they represent no list. O(n).
+/// Checks that the words represent a doubly linked list, and stores the number of its members in `members`, or returns [`BROKEN`](crate::BROKEN) if
+/// they do not represent one. O(n).
 ///
-/// It writes nothing else. Where it returns [`OK`](crate::OK), each call does what it says of a list that is represented.
+/// It writes nothing else. If it returns [`OK`](crate::OK), every other call does with this list what its own comment says.
 #[unsafe(no_mangle)]
 pub extern "C" fn ic_list32_check(
     table: &mut [RawNarrowTwo],
@@ -286,10 +289,11 @@ pub extern "C" fn ic_list32_check(
     check_calls::check_list(table, list, members)
 }
 
-/// Moves the member `place` of the given list after the member `at` of the list, at [`NONE`](crate::NONE) to the front. It stays linked. O(1).
+/// Moves the member `place` of the given list after the member `at` of the list, or to the front if `at` is [`NONE`](crate::NONE). The member stays
+/// linked during the call. O(1).
 ///
-/// It returns [`NULL`](crate::NULL) where `place` is [`NONE`](crate::NONE), and else the first fault of the two, or
-/// [`BROKEN`](crate::BROKEN), as for lists that begin with the same member.
+/// It returns [`NULL`](crate::NULL) if `place` is [`NONE`](crate::NONE), else the first fault of the two places, or else [`BROKEN`](crate::BROKEN),
+/// for example if both lists begin with the same member.
 #[unsafe(no_mangle)]
 pub extern "C" fn ic_list32_transfer_after(
     table: &mut [RawNarrowTwo],
@@ -303,10 +307,11 @@ pub extern "C" fn ic_list32_transfer_after(
     transfer_calls::transfer_at(table, list, Side::After, at, given, place)
 }
 
-/// Moves the member `place` of the given list before the member `at` of the list, at [`NONE`](crate::NONE) to the back. It stays linked. O(1).
+/// Moves the member `place` of the given list before the member `at` of the list, or to the back if `at` is [`NONE`](crate::NONE). The member stays
+/// linked during the call. O(1).
 ///
-/// It returns [`NULL`](crate::NULL) where `place` is [`NONE`](crate::NONE), and else the first fault of the two, or
-/// [`BROKEN`](crate::BROKEN), as for lists that begin with the same member.
+/// It returns [`NULL`](crate::NULL) if `place` is [`NONE`](crate::NONE), else the first fault of the two places, or else [`BROKEN`](crate::BROKEN),
+/// for example if both lists begin with the same member.
 #[unsafe(no_mangle)]
 pub extern "C" fn ic_list32_transfer_before(
     table: &mut [RawNarrowTwo],

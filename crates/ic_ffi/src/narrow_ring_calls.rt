@@ -1,5 +1,5 @@
-//! The calls of rings whose links have words of 4 bytes, and so 8 bytes a place: each does what the call of `ring_calls` does that has its name
-//! without the number. Places from 536,870,911 on are out of range, because the words have no room for them.
+//! The calls of rings whose links have words of 4 bytes, which take 8 bytes for each place. Each call does what the call of `ring_calls` with the
+//! same name without the number `32` does. Places from 536,870,911 on are out of range, because such words cannot name them.
 //!
 //! ```text
 //! struct ic_link2_32 links[65] = {0};         // 64 objects, and a head at 64
@@ -18,7 +18,7 @@ use ic_raw::{RawNarrowTwo, Side, ring_calls};
 
 /// Makes a place the head of a ring with no members. O(1).
 ///
-/// The place has to be one of the table, and not linked. Linux: `INIT_LIST_HEAD`.
+/// The place must belong to the table and must not be linked. Linux: `INIT_LIST_HEAD`.
 #[unsafe(no_mangle)]
 pub extern "C" fn ic_ring32_init(table: &mut [RawNarrowTwo], head: u32) -> u32
     ensures { InitCall narrow_words table.old table.new result (place_of head) }
@@ -26,9 +26,9 @@ pub extern "C" fn ic_ring32_init(table: &mut [RawNarrowTwo], head: u32) -> u32
     ring_calls::init(table, head)
 }
 
-/// Puts a place after one that stands in a ring: after a head it is the first member. O(1).
+/// Inserts a place after another place of a ring. After the head, it is the first member. O(1).
 ///
-/// The place has to be one of the table, and not linked. Linux: `list_add`.
+/// The place must belong to the table and must not be linked. Linux: `list_add`.
 #[unsafe(no_mangle)]
 pub extern "C" fn ic_ring32_insert_after(table: &mut [RawNarrowTwo], at: u32, place: u32) -> u32
     ensures { InsertCall narrow_words table.old table.new result After (place_of at) (place_of place) }
@@ -36,9 +36,9 @@ pub extern "C" fn ic_ring32_insert_after(table: &mut [RawNarrowTwo], at: u32, pl
     ring_calls::insert(table, Side::After, at, place)
 }
 
-/// Puts a place before one that stands in a ring: before a head it is the last member. O(1).
+/// Inserts a place before another place of a ring. Before the head, it is the last member. O(1).
 ///
-/// The place has to be one of the table, and not linked. Linux: `list_add_tail`.
+/// The place must belong to the table and must not be linked. Linux: `list_add_tail`.
 #[unsafe(no_mangle)]
 pub extern "C" fn ic_ring32_insert_before(table: &mut [RawNarrowTwo], at: u32, place: u32) -> u32
     ensures { InsertCall narrow_words table.old table.new result Before (place_of at) (place_of place) }
@@ -46,9 +46,9 @@ pub extern "C" fn ic_ring32_insert_before(table: &mut [RawNarrowTwo], at: u32, p
     ring_calls::insert(table, Side::Before, at, place)
 }
 
-/// Takes a place out of its ring, whichever that is. O(1).
+/// Removes a place from the ring in which it is. O(1).
 ///
-/// A head that has no members leaves, too, and its ring is gone then. Linux: `list_del`.
+/// If the place is a head without members, it is unlinked, and its ring no longer exists. Linux: `list_del`.
 #[unsafe(no_mangle)]
 pub extern "C" fn ic_ring32_remove(table: &mut [RawNarrowTwo], place: u32) -> u32
     ensures { RemoveCall narrow_words table.old table.new result (place_of place) }
@@ -56,10 +56,10 @@ pub extern "C" fn ic_ring32_remove(table: &mut [RawNarrowTwo], place: u32) -> u3
     ring_calls::remove(table, place)
 }
 
-/// Two places that stand in rings exchange what stands after them. So two rings become one, and one becomes two. O(1).
+/// Exchanges the successors of two places. If they are in two rings, the rings become one. If they are in one ring, it becomes two. O(1).
 ///
-/// With the last member of one ring and the head of another, all members of the second are put after the first. The same call again takes
-/// it back.
+/// For the last member of one ring and the head of another, it moves all members of the second ring to the back of the first. A second call with the
+/// same arguments undoes the first.
 #[unsafe(no_mangle)]
 pub extern "C" fn ic_ring32_exchange(table: &mut [RawNarrowTwo], one: u32, other: u32) -> u32
     ensures { ExchangeCall narrow_words table.old table.new result (place_of one) (place_of other) }
@@ -67,7 +67,7 @@ pub extern "C" fn ic_ring32_exchange(table: &mut [RawNarrowTwo], one: u32, other
     ring_calls::exchange(table, one, other)
 }
 
-/// Takes the first member of a head out, and hands its number out. O(1).
+/// Removes the first member of the ring with this head, and stores its number in `popped`. O(1).
 #[unsafe(no_mangle)]
 pub extern "C" fn ic_ring32_pop_front(
     table: &mut [RawNarrowTwo],
@@ -79,7 +79,7 @@ pub extern "C" fn ic_ring32_pop_front(
     ring_calls::pop(table, Side::After, head, popped)
 }
 
-/// Takes the last member of a head out, and hands its number out. O(1).
+/// Removes the last member of the ring with this head, and stores its number in `popped`. O(1).
 #[unsafe(no_mangle)]
 pub extern "C" fn ic_ring32_pop_back(table: &mut [RawNarrowTwo], head: u32, popped: &mut u32) -> u32
     ensures { PopCall narrow_words table.old table.new result popped.old popped.new Before (place_of head) }
@@ -87,9 +87,9 @@ pub extern "C" fn ic_ring32_pop_back(table: &mut [RawNarrowTwo], head: u32, popp
     ring_calls::pop(table, Side::Before, head, popped)
 }
 
-/// Puts a place where another one stands in a ring, which leaves it. O(1).
+/// Inserts a place where another place is in a ring, and removes that one. O(1).
 ///
-/// The place has to be one of the table, and not linked. Linux: `list_replace`.
+/// The place must belong to the table and must not be linked. Linux: `list_replace`.
 #[unsafe(no_mangle)]
 pub extern "C" fn ic_ring32_replace(table: &mut [RawNarrowTwo], at: u32, place: u32) -> u32
     ensures { ReplaceCall narrow_words table.old table.new result (place_of at) (place_of place) }
@@ -97,9 +97,9 @@ pub extern "C" fn ic_ring32_replace(table: &mut [RawNarrowTwo], at: u32, place: 
     ring_calls::replace(table, at, place)
 }
 
-/// Moves a place, from whichever ring it stands in, after another one: after a head it is the first member. O(1).
+/// Moves a place after another place, out of any ring of the table. After a head, it is the first member. O(1).
 ///
-/// Beside itself it stays. Linux: `list_move`.
+/// If both places are the same, nothing changes. Linux: `list_move`.
 #[unsafe(no_mangle)]
 pub extern "C" fn ic_ring32_move_after(table: &mut [RawNarrowTwo], at: u32, place: u32) -> u32
     ensures { MoveCall narrow_words table.old table.new result After (place_of at) (place_of place) }
@@ -107,9 +107,9 @@ pub extern "C" fn ic_ring32_move_after(table: &mut [RawNarrowTwo], at: u32, plac
     ring_calls::move_beside(table, Side::After, at, place)
 }
 
-/// Moves a place, from whichever ring it stands in, before another one: before a head it is the last member. O(1).
+/// Moves a place before another place, out of any ring of the table. Before a head, it is the last member. O(1).
 ///
-/// Beside itself it stays. Linux: `list_move_tail`.
+/// If both places are the same, nothing changes. Linux: `list_move_tail`.
 #[unsafe(no_mangle)]
 pub extern "C" fn ic_ring32_move_before(table: &mut [RawNarrowTwo], at: u32, place: u32) -> u32
     ensures { MoveCall narrow_words table.old table.new result Before (place_of at) (place_of place) }
@@ -117,9 +117,9 @@ pub extern "C" fn ic_ring32_move_before(table: &mut [RawNarrowTwo], at: u32, pla
     ring_calls::move_beside(table, Side::Before, at, place)
 }
 
-/// Moves all members of a head after a place of another ring. O(1).
+/// Moves all members of a ring after a place of another ring. O(1).
 ///
-/// The head stands alone then. Linux: `list_splice_init`.
+/// Their head is then without members. Linux: `list_splice_init`.
 #[unsafe(no_mangle)]
 pub extern "C" fn ic_ring32_splice_after(table: &mut [RawNarrowTwo], at: u32, head: u32) -> u32
     ensures { SpliceCall narrow_words table.old table.new result After (place_of at) (place_of head) }
@@ -127,9 +127,9 @@ pub extern "C" fn ic_ring32_splice_after(table: &mut [RawNarrowTwo], at: u32, he
     ring_calls::splice(table, Side::After, at, head)
 }
 
-/// Moves all members of a head before a place of another ring. O(1).
+/// Moves all members of a ring before a place of another ring. O(1).
 ///
-/// The head stands alone then. Linux: `list_splice_tail_init`.
+/// Their head is then without members. Linux: `list_splice_tail_init`.
 #[unsafe(no_mangle)]
 pub extern "C" fn ic_ring32_splice_before(table: &mut [RawNarrowTwo], at: u32, head: u32) -> u32
     ensures { SpliceCall narrow_words table.old table.new result Before (place_of at) (place_of head) }

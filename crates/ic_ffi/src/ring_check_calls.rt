@@ -1,4 +1,4 @@
-//! The check of a ring: whether the words represent one with a head, and of how many members.
+//! The check of a ring: it tests that the words represent a ring with a head, and counts its members.
 //!
 //! ```text
 //! uint64_t members;
@@ -12,10 +12,11 @@ ghost use Rattle.ic_raw_lists.specs.RingCheckCalls.{RingCheckCall};
 use ic_raw::RawTwo;
 use ic_raw_lists::ring_check_calls;
 
-/// Hands out how many members a head has, without itself, or returns [`BROKEN`](crate::BROKEN) where the words represent no ring with it. O(n).
+/// Checks that the words represent a ring with this head, and stores the number of its members, not counting the head, in `members`, or returns
+/// [`BROKEN`](crate::BROKEN) if they do not represent one. O(n).
 ///
-/// It writes nothing else. It returns [`NULL`](crate::NULL) where `head` is [`NONE`](crate::NONE). Where it returns [`OK`](crate::OK), each call
-/// does what it says of a ring that is represented.
+/// It writes nothing else. It returns [`NULL`](crate::NULL) if `head` is [`NONE`](crate::NONE). If it returns [`OK`](crate::OK), every other call
+/// does with this ring what its own comment says.
 #[unsafe(no_mangle)]
 pub extern "C" fn ic_ring_check(table: &mut [RawTwo], head: u32, members: &mut u64) -> u32
     ensures { RingCheckCall table.old table.new result (place_of head) members.old members.new }

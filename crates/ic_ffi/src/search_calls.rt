@@ -1,4 +1,4 @@
-//! The calls of red-black trees by keys, which stand in an array of their own, one for each place.
+//! The calls of red-black trees by keys, which are in a separate array with one key for each place.
 //!
 //! ```text
 //! uint64_t keys[64] = {0};
@@ -16,9 +16,9 @@ ghost use Rattle.ic_raw.specs.SearchCalls.{FindCall, PutCall};
 
 use ic_raw::{RawRoot, RawThree, Target, search_calls};
 
-/// Puts a place in after all members with no greater key than its own. O(log n).
+/// Inserts a place by its key, after all members whose key is not greater. O(log n).
 ///
-/// The place has to be one of the table, and not linked, and there has to be a key for each place of the table.
+/// The place must belong to the table and must not be linked, and there must be a key for each place of the table.
 #[unsafe(no_mangle)]
 pub extern "C" fn ic_tree_insert(
     table: &mut [RawThree],
@@ -31,10 +31,11 @@ pub extern "C" fn ic_tree_insert(
     search_calls::insert(table, keys, tree, place)
 }
 
-/// Hands out the first member with this key, or returns [`NULL`](crate::NULL) where there is none. It writes nothing else. O(log n).
+/// Stores the number of the first member with this key in `found`, or returns [`NULL`](crate::NULL) if there is none. It writes nothing else. O(log
+/// n).
 ///
-/// There has to be a key for each place of the table, and from one member to the next the keys must not fall, else it may find another
-/// one or none.
+/// There must be a key for each place of the table, and the keys must not decrease from one member to the next. Otherwise it may find another member
+/// or none.
 #[unsafe(no_mangle)]
 pub extern "C" fn ic_tree_find(
     table: &mut [RawThree],
@@ -45,14 +46,14 @@ pub extern "C" fn ic_tree_find(
 ) -> u32
     ensures { FindCall keys.now table.old table.new result tree.now key Equal found.old found.new }
 {
-    search_calls::look_for(table, keys, tree, key, Target::Equal, found)
+    search_calls::find_target(table, keys, tree, key, Target::Equal, found)
 }
 
-/// Hands out the first member with a key of at least `key`, or returns [`NULL`](crate::NULL) where there is none. It writes nothing
+/// Stores the number of the first member whose key is at least `key` in `found`, or returns [`NULL`](crate::NULL) if there is none. It writes nothing
 /// else. O(log n).
 ///
-/// There has to be a key for each place of the table, and from one member to the next the keys must not fall, else it may find another
-/// one or none.
+/// There must be a key for each place of the table, and the keys must not decrease from one member to the next. Otherwise it may find another member
+/// or none.
 #[unsafe(no_mangle)]
 pub extern "C" fn ic_tree_lower_bound(
     table: &mut [RawThree],
@@ -63,14 +64,14 @@ pub extern "C" fn ic_tree_lower_bound(
 ) -> u32
     ensures { FindCall keys.now table.old table.new result tree.now key AtLeast found.old found.new }
 {
-    search_calls::look_for(table, keys, tree, key, Target::AtLeast, found)
+    search_calls::find_target(table, keys, tree, key, Target::AtLeast, found)
 }
 
-/// Hands out the last member with a key of at most `key`, or returns [`NULL`](crate::NULL) where there is none. It writes nothing
+/// Stores the number of the last member whose key is at most `key` in `found`, or returns [`NULL`](crate::NULL) if there is none. It writes nothing
 /// else. O(log n).
 ///
-/// There has to be a key for each place of the table, and from one member to the next the keys must not fall, else it may find another
-/// one or none.
+/// There must be a key for each place of the table, and the keys must not decrease from one member to the next. Otherwise it may find another member
+/// or none.
 #[unsafe(no_mangle)]
 pub extern "C" fn ic_tree_upper_bound(
     table: &mut [RawThree],
@@ -81,5 +82,5 @@ pub extern "C" fn ic_tree_upper_bound(
 ) -> u32
     ensures { FindCall keys.now table.old table.new result tree.now key AtMost found.old found.new }
 {
-    search_calls::look_for(table, keys, tree, key, Target::AtMost, found)
+    search_calls::find_target(table, keys, tree, key, Target::AtMost, found)
 }

@@ -14,9 +14,9 @@ ghost use Rattle.ic_raw.specs.StackCalls.{ClearCall, InsertCall, PopCall, Remove
 
 use ic_raw::{RawFront, RawOne, stack_calls};
 
-/// Puts a place before all members. O(1).
+/// Inserts a place at the front. O(1).
 ///
-/// The place has to be one of the table, and not linked. Where the first member is not linked, it returns [`BROKEN`](crate::BROKEN).
+/// The place must belong to the table and must not be linked. If the first member is not linked, it returns [`BROKEN`](crate::BROKEN).
 #[unsafe(no_mangle)]
 pub extern "C" fn ic_stack_push_front(table: &mut [RawOne], list: &mut RawFront, place: u32) -> u32
     ensures { InsertCall table.old table.new list.old list.new result None (place_of place) }
@@ -24,9 +24,9 @@ pub extern "C" fn ic_stack_push_front(table: &mut [RawOne], list: &mut RawFront,
     stack_calls::push_front(table, list, place)
 }
 
-/// Takes the first member off and hands it out, or returns [`NULL`](crate::NULL) where there is none. O(1).
+/// Removes the first member and stores its number in `popped`, or returns [`NULL`](crate::NULL) if there is none. O(1).
 ///
-/// Where the first member is not linked, it returns [`BROKEN`](crate::BROKEN).
+/// If the first member is not linked, it returns [`BROKEN`](crate::BROKEN).
 #[unsafe(no_mangle)]
 pub extern "C" fn ic_stack_pop_front(
     table: &mut [RawOne],
@@ -38,10 +38,9 @@ pub extern "C" fn ic_stack_pop_front(
     stack_calls::pop_front(table, list, popped)
 }
 
-/// Puts a place after the member `at`, at [`NONE`](crate::NONE) before all. O(1).
+/// Inserts a place after the member `at`, or at the front if `at` is [`NONE`](crate::NONE). O(1).
 ///
-/// The place has to be one of the table, and not linked. Where what stands after `at` is not linked, it returns
-/// [`BROKEN`](crate::BROKEN).
+/// The place must belong to the table and must not be linked. If the place after `at` is not linked, it returns [`BROKEN`](crate::BROKEN).
 #[unsafe(no_mangle)]
 pub extern "C" fn ic_stack_insert_after(
     table: &mut [RawOne],
@@ -54,10 +53,10 @@ pub extern "C" fn ic_stack_insert_after(
     stack_calls::insert_after(table, list, at, place)
 }
 
-/// Takes the member after `at` off, at [`NONE`](crate::NONE) the first one, and hands it out, or returns [`NULL`](crate::NULL) where there
-/// is none. O(1).
+/// Removes the member after `at`, or the first member if `at` is [`NONE`](crate::NONE), and stores its number in `removed`, or returns
+/// [`NULL`](crate::NULL) if there is none. O(1).
 ///
-/// Where what stands after `at` is not linked, it returns [`BROKEN`](crate::BROKEN).
+/// If the place after `at` is not linked, it returns [`BROKEN`](crate::BROKEN).
 #[unsafe(no_mangle)]
 pub extern "C" fn ic_stack_remove_after(
     table: &mut [RawOne],
@@ -70,11 +69,10 @@ pub extern "C" fn ic_stack_remove_after(
     stack_calls::remove_after(table, list, at, removed)
 }
 
-/// Puts a place where the member after `at` is, at [`NONE`](crate::NONE) where the first is, and hands out that member, which is unlinked then.
-/// Returns [`NULL`](crate::NULL) where there is none. O(1).
+/// Inserts a place where the member after `at` is, or where the first member is if `at` is [`NONE`](crate::NONE). It removes that member and stores
+/// its number in `replaced`. It returns [`NULL`](crate::NULL) if there is none. O(1).
 ///
-/// The place has to be one of the table, and not linked. Where what stands after `at` is not linked, it returns
-/// [`BROKEN`](crate::BROKEN).
+/// The place must belong to the table and must not be linked. If the place after `at` is not linked, it returns [`BROKEN`](crate::BROKEN).
 #[unsafe(no_mangle)]
 pub extern "C" fn ic_stack_replace_after(
     table: &mut [RawOne],
@@ -88,10 +86,10 @@ pub extern "C" fn ic_stack_replace_after(
     stack_calls::replace_after(table, list, at, place, replaced)
 }
 
-/// Puts all of the given list after the member `at`, at [`NONE`](crate::NONE) before all, and leaves the given one empty.
+/// Moves all members of `given` after the member `at`, or to the front if `at` is [`NONE`](crate::NONE), and leaves `given` empty.
 ///
-/// One reading for each of its members. Where what stands after `at` is not linked, it returns [`BROKEN`](crate::BROKEN), and so it does
-/// of a given list that begins with the same member, as the list itself, or whose places lead to no end.
+/// It reads one entry of the table for each member of `given`. If the place after `at` is not linked, it returns [`BROKEN`](crate::BROKEN). It also
+/// does if both lists begin with the same member, as if `given` is the list itself, or if the links of `given` lead to no end.
 #[unsafe(no_mangle)]
 pub extern "C" fn ic_stack_splice_after(
     table: &mut [RawOne],
@@ -104,9 +102,9 @@ pub extern "C" fn ic_stack_splice_after(
     stack_calls::splice_after(table, list, at, given)
 }
 
-/// Hands out what stands after the member `at`, at [`NONE`](crate::NONE) all of the list. O(1).
+/// Moves all members after the member `at` to `rest`, or all members of the list if `at` is [`NONE`](crate::NONE). O(1).
 ///
-/// Where `rest` is not empty, or what stands after `at` is not linked, it returns [`BROKEN`](crate::BROKEN).
+/// If `rest` is not empty, or the place after `at` is not linked, it returns [`BROKEN`](crate::BROKEN).
 #[unsafe(no_mangle)]
 pub extern "C" fn ic_stack_split_after(
     table: &mut [RawOne],
@@ -119,9 +117,9 @@ pub extern "C" fn ic_stack_split_after(
     stack_calls::split_after(table, list, at, rest)
 }
 
-/// Takes all members off, which are unlinked then. O(n).
+/// Removes and unlinks all members. O(n).
 ///
-/// Where the places lead to no end, it returns [`BROKEN`](crate::BROKEN).
+/// If the links lead to no end of the list, it returns [`BROKEN`](crate::BROKEN).
 #[unsafe(no_mangle)]
 pub extern "C" fn ic_stack_clear(table: &mut [RawOne], list: &mut RawFront) -> u32
     ensures { ClearCall table.old table.new list.old list.new result }

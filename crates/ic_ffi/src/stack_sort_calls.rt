@@ -1,4 +1,4 @@
-//! A sort and a merge of singly linked lists, by keys that stand in an array of their own, one for each place.
+//! A sort and a merge of singly linked lists, by keys in a separate array with one key for each place.
 //!
 //! ```text
 //! uint64_t keys[64] = {0};
@@ -18,9 +18,9 @@ ghost use Rattle.ic_raw_lists.specs.Stacks.{word_of};
 use ic_raw::{RawFront, RawOne};
 use ic_raw_lists::stack_sort_calls;
 
-/// Sorts the list by the keys: members with equal keys keep their order. O(n log n), and no memory but the stack.
+/// Sorts the list by the keys of its members. Members with equal keys keep their order. O(n log n). It uses no memory except the stack.
 ///
-/// There has to be a key for each place of the table. Where the words represent no list, it returns [`BROKEN`](crate::BROKEN).
+/// There must be a key for each place of the table. If the words do not represent a list, it returns [`BROKEN`](crate::BROKEN).
 #[unsafe(no_mangle)]
 pub extern "C" fn ic_stack_sort(table: &mut [RawOne], keys: &[u64], list: &mut RawFront) -> u32
     ensures { SortCall Represents no_word list_of word_of (list_from None) keys.now table.old table.new list.old list.new result }
@@ -28,10 +28,10 @@ pub extern "C" fn ic_stack_sort(table: &mut [RawOne], keys: &[u64], list: &mut R
     stack_sort_calls::sort(table, keys, list)
 }
 
-/// Merges the given list into this one, by the keys, and leaves the given one empty. O(n).
+/// Merges the members of `given` into this list by their keys, and leaves `given` empty. O(n).
 ///
-/// What was in order in both is in order then, and of members with equal keys those of this list go first. There has to be a key for each
-/// place of the table. Where the words represent no two lists, or both end with the same member, as lists do that share one, it returns
+/// If both were sorted, the result is sorted, and among members with equal keys those of this list come first. There must be a key for each place of
+/// the table. If the words do not represent two lists, or if both lists end with the same member, as lists that share members do, it returns
 /// [`BROKEN`](crate::BROKEN).
 #[unsafe(no_mangle)]
 pub extern "C" fn ic_stack_merge(

@@ -19,9 +19,9 @@ use ic_link_ops::Side;
 use ic_raw::{RawRoot, RawThree};
 use ic_raw_augmented::{Kind, RawSum, edit_calls, sum_calls};
 
-/// Puts a place in after all members with no greater key than its own, and joins the sums anew that change. O(log n).
+/// Inserts a place by its key, after all members whose key is not greater, and updates the sums that this changes. O(log n).
 ///
-/// The place has to be one of the table, and not linked, and there has to be a key and a sum for each place of the table.
+/// The place must belong to the table and must not be linked, and there must be a key and a sum for each place of the table.
 #[unsafe(no_mangle)]
 pub extern "C" fn ic_tree_sums_insert(
     table: &mut [RawThree],
@@ -36,9 +36,10 @@ pub extern "C" fn ic_tree_sums_insert(
     edit_calls::insert(table, keys, sums, Kind::of(kind), tree, place)
 }
 
-/// Puts a place in as the left child of the member `at`, at [`NONE`](crate::NONE) as the only member, and joins the sums anew that change. O(log n).
+/// Inserts a place as the left child of the member `at`, or as the only member if `at` is [`NONE`](crate::NONE), and updates the sums that this
+/// changes. O(log n).
 ///
-/// The place has to be one of the table, and not linked, and there has to be a sum for each place of the table.
+/// The place must belong to the table and must not be linked, and there must be a sum for each place of the table.
 #[unsafe(no_mangle)]
 pub extern "C" fn ic_tree_sums_insert_left(
     table: &mut [RawThree],
@@ -53,9 +54,10 @@ pub extern "C" fn ic_tree_sums_insert_left(
     edit_calls::insert_at(table, sums, Kind::of(kind), tree, Side::Left, at, place)
 }
 
-/// Puts a place in as the right child of the member `at`, at [`NONE`](crate::NONE) as the only member, and joins the sums anew that change. O(log n).
+/// Inserts a place as the right child of the member `at`, or as the only member if `at` is [`NONE`](crate::NONE), and updates the sums that this
+/// changes. O(log n).
 ///
-/// The place has to be one of the table, and not linked, and there has to be a sum for each place of the table.
+/// The place must belong to the table and must not be linked, and there must be a sum for each place of the table.
 #[unsafe(no_mangle)]
 pub extern "C" fn ic_tree_sums_insert_right(
     table: &mut [RawThree],
@@ -70,9 +72,10 @@ pub extern "C" fn ic_tree_sums_insert_right(
     edit_calls::insert_at(table, sums, Kind::of(kind), tree, Side::Right, at, place)
 }
 
-/// Takes the member `at` off, and joins the sums anew that change, or returns [`NULL`](crate::NULL) at [`NONE`](crate::NONE). O(log n).
+/// Removes the member `at`, and updates the sums that this changes, or returns [`NULL`](crate::NULL) if `at` is [`NONE`](crate::NONE).
+/// O(log n).
 ///
-/// There has to be a sum for each place of the table.
+/// There must be a sum for each place of the table.
 #[unsafe(no_mangle)]
 pub extern "C" fn ic_tree_sums_remove(
     table: &mut [RawThree],
@@ -86,10 +89,10 @@ pub extern "C" fn ic_tree_sums_remove(
     edit_calls::remove(table, sums, Kind::of(kind), tree, at)
 }
 
-/// Joins the sum at the member `at` anew, and those above it as far as they change, at [`NONE`](crate::NONE) all sums of the table. O(log n), at none
-/// O(p log p) for p places.
+/// Computes the sum at the member `at` and the sums above it again, after its value has changed. If `at` is [`NONE`](crate::NONE), it computes all
+/// sums of the table. O(log n), and for all sums O(p log p) for p places.
 ///
-/// There has to be a sum for each place of the table.
+/// There must be a sum for each place of the table.
 #[unsafe(no_mangle)]
 pub extern "C" fn ic_tree_sums_renew(
     table: &mut [RawThree],
@@ -102,10 +105,10 @@ pub extern "C" fn ic_tree_sums_renew(
     sum_calls::renew(table, sums, Kind::of(kind), at)
 }
 
-/// Hands out the first member after the member `at`, from [`NONE`](crate::NONE) the first of all, at which what the values of the members after `at`
-/// up to it make together is greater than `bound`, or returns [`NULL`](crate::NULL) if that of all is not. It writes nothing else. O(log n).
+/// Stores in `found` the number of the first member after `at`, or of all members if `at` is [`NONE`](crate::NONE), at which the combined values of
+/// the members after `at` up to it exceed `bound`. It returns [`NULL`](crate::NULL) if there is no such member. It writes nothing else. O(log n).
 ///
-/// There has to be a sum for each place of the table. If the sums of the tree are not right, it may hand out another member, or return
+/// There must be a sum for each place of the table. If the sums of the tree are not right, it may find another member, or return
 /// [`BROKEN`](crate::BROKEN).
 #[unsafe(no_mangle)]
 pub extern "C" fn ic_tree_sums_find(
@@ -122,10 +125,10 @@ pub extern "C" fn ic_tree_sums_find(
     sum_calls::find(table, sums, Kind::of(kind), tree, at, bound, found)
 }
 
-/// Hands out what the values of the members before the member `at` make together, or returns [`NULL`](crate::NULL) at [`NONE`](crate::NONE). It
-/// writes nothing else. O(log n).
+/// Stores the combined values of the members before `at` in `sum`, or returns [`NULL`](crate::NULL) if `at` is [`NONE`](crate::NONE). It writes
+/// nothing else. O(log n).
 ///
-/// There has to be a sum for each place of the table. If the words lead from the member to no root, it returns [`BROKEN`](crate::BROKEN).
+/// There must be a sum for each place of the table. If the links lead from the member to no root, it returns [`BROKEN`](crate::BROKEN).
 #[unsafe(no_mangle)]
 pub extern "C" fn ic_tree_sums_before(
     table: &mut [RawThree],
@@ -139,12 +142,12 @@ pub extern "C" fn ic_tree_sums_before(
     sum_calls::before(table, sums, Kind::of(kind), at, sum)
 }
 
-/// Hands out the first member after the member `at`, from [`NONE`](crate::NONE) the first of all, whose interval overlaps `[from, to)`, or returns
-/// [`NULL`](crate::NULL) if there is none. The interval starts at the key of its place and ends at its value, which it does not contain. It writes
-/// nothing else. O(log n).
+/// Stores in `found` the number of the first member after `at`, or of all members if `at` is [`NONE`](crate::NONE), whose interval overlaps `[from,
+/// to)`, or returns [`NULL`](crate::NULL) if there is none. The interval starts at the key of its place and ends at its value, which it does not
+/// contain. It writes nothing else. O(log n).
 ///
-/// There has to be a key and a sum for each place of the table. The sums are those of [`Kind::Greatest`], and from one member to the next the keys
-/// must not fall.
+/// There must be a key and a sum for each place of the table. The sums must be those of [`Kind::Greatest`], and the keys must not decrease from one
+/// member to the next.
 #[unsafe(no_mangle)]
 pub extern "C" fn ic_tree_sums_overlap(
     table: &mut [RawThree],

@@ -12,10 +12,11 @@ ghost use Rattle.ic_raw_lists.specs.TransferCalls.{TransferCall};
 use ic_raw::{RawEnds, RawTwo, Side};
 use ic_raw_lists::transfer_calls;
 
-/// Moves the member `place` of the given list after the member `at` of the list, at [`NONE`](crate::NONE) to the front. It stays linked. O(1).
+/// Moves the member `place` of the given list after the member `at` of the list, or to the front if `at` is [`NONE`](crate::NONE). The member stays
+/// linked during the call. O(1).
 ///
-/// It returns [`NULL`](crate::NULL) where `place` is [`NONE`](crate::NONE), and else the first fault of the two, or
-/// [`BROKEN`](crate::BROKEN), as for lists that begin with the same member.
+/// It returns [`NULL`](crate::NULL) if `place` is [`NONE`](crate::NONE), else the first fault of the two places, or else [`BROKEN`](crate::BROKEN),
+/// for example if both lists begin with the same member.
 #[unsafe(no_mangle)]
 pub extern "C" fn ic_list_transfer_after(
     table: &mut [RawTwo],
@@ -29,10 +30,11 @@ pub extern "C" fn ic_list_transfer_after(
     transfer_calls::transfer_at(table, list, Side::After, at, given, place)
 }
 
-/// Moves the member `place` of the given list before the member `at` of the list, at [`NONE`](crate::NONE) to the back. It stays linked. O(1).
+/// Moves the member `place` of the given list before the member `at` of the list, or to the back if `at` is [`NONE`](crate::NONE). The member stays
+/// linked during the call. O(1).
 ///
-/// It returns [`NULL`](crate::NULL) where `place` is [`NONE`](crate::NONE), and else the first fault of the two, or
-/// [`BROKEN`](crate::BROKEN), as for lists that begin with the same member.
+/// It returns [`NULL`](crate::NULL) if `place` is [`NONE`](crate::NONE), else the first fault of the two places, or else [`BROKEN`](crate::BROKEN),
+/// for example if both lists begin with the same member.
 #[unsafe(no_mangle)]
 pub extern "C" fn ic_list_transfer_before(
     table: &mut [RawTwo],

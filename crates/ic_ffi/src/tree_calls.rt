@@ -15,10 +15,10 @@ ghost use Rattle.ic_raw.specs.TreeCalls.{ClearCall, InsertCall, RemoveCall, Repl
 use ic_link_ops::Side;
 use ic_raw::{RawRoot, RawThree, tree_calls};
 
-/// Puts a place in as the left child of the member `at`, before it, at [`NONE`](crate::NONE) as the only member. O(log n).
+/// Inserts a place in as the left child of the member `at`, or as the only member if `at` is [`NONE`](crate::NONE). O(log n).
 ///
-/// The place has to be one of the table, and not linked. Where the member has a left child, or at none the tree a member, it returns
-/// [`BROKEN`](crate::BROKEN).
+/// The place must belong to the table and must not be linked. If the member already has a left child, or if `at` is none and the tree has members, it
+/// returns [`BROKEN`](crate::BROKEN).
 #[unsafe(no_mangle)]
 pub extern "C" fn ic_tree_insert_left(
     table: &mut [RawThree],
@@ -31,10 +31,10 @@ pub extern "C" fn ic_tree_insert_left(
     tree_calls::insert_at(table, tree, Side::Left, at, place)
 }
 
-/// Puts a place in as the right child of the member `at`, after it, at [`NONE`](crate::NONE) as the only member. O(log n).
+/// Inserts a place in as the right child of the member `at`, or as the only member if `at` is [`NONE`](crate::NONE). O(log n).
 ///
-/// The place has to be one of the table, and not linked. Where the member has a right child, or at none the tree a member, it
-/// returns [`BROKEN`](crate::BROKEN).
+/// The place must belong to the table and must not be linked. If the member already has a right child, or if `at` is none and the tree has members,
+/// it returns [`BROKEN`](crate::BROKEN).
 #[unsafe(no_mangle)]
 pub extern "C" fn ic_tree_insert_right(
     table: &mut [RawThree],
@@ -47,7 +47,7 @@ pub extern "C" fn ic_tree_insert_right(
     tree_calls::insert_at(table, tree, Side::Right, at, place)
 }
 
-/// Takes the member `at` off, or returns [`NULL`](crate::NULL) at [`NONE`](crate::NONE). O(log n).
+/// Removes the member `at`, or returns [`NULL`](crate::NULL) if `at` is [`NONE`](crate::NONE). O(log n).
 #[unsafe(no_mangle)]
 pub extern "C" fn ic_tree_remove(table: &mut [RawThree], tree: &mut RawRoot, at: u32) -> u32
     ensures { RemoveCall table.old table.new tree.old tree.new result (place_of at) }
@@ -55,9 +55,9 @@ pub extern "C" fn ic_tree_remove(table: &mut [RawThree], tree: &mut RawRoot, at:
     tree_calls::remove(table, tree, at)
 }
 
-/// Puts a place where the member `at` is, which is unlinked then, or returns [`NULL`](crate::NULL) at [`NONE`](crate::NONE). O(1).
+/// Inserts a place where the member `at` is, and removes `at`, or returns [`NULL`](crate::NULL) if `at` is [`NONE`](crate::NONE). O(1).
 ///
-/// The place has to be one of the table, and not linked.
+/// The place must belong to the table and must not be linked.
 #[unsafe(no_mangle)]
 pub extern "C" fn ic_tree_replace(
     table: &mut [RawThree],
@@ -70,8 +70,8 @@ pub extern "C" fn ic_tree_replace(
     tree_calls::replace(table, tree, at, place)
 }
 
-/// Hands out the member after the member `at`, from [`NONE`](crate::NONE) the first one, or returns [`NULL`](crate::NULL) where
-/// there is none. It writes nothing else. O(log n), and O(1) on average over a walk.
+/// Stores the number of the member after `at` in `found`, or of the first member if `at` is [`NONE`](crate::NONE), or returns [`NULL`](crate::NULL)
+/// if there is none. It writes nothing else. O(log n), and O(1) on average over a walk.
 #[unsafe(no_mangle)]
 pub extern "C" fn ic_tree_next(
     table: &mut [RawThree],
@@ -84,8 +84,8 @@ pub extern "C" fn ic_tree_next(
     tree_calls::step_at(table, tree, Side::Right, at, found)
 }
 
-/// Hands out the member before the member `at`, from [`NONE`](crate::NONE) the last one, or returns [`NULL`](crate::NULL) where
-/// there is none. It writes nothing else. O(log n), and O(1) on average over a walk.
+/// Stores the number of the member before `at` in `found`, or of the last member if `at` is [`NONE`](crate::NONE), or returns [`NULL`](crate::NULL)
+/// if there is none. It writes nothing else. O(log n), and O(1) on average over a walk.
 #[unsafe(no_mangle)]
 pub extern "C" fn ic_tree_prev(
     table: &mut [RawThree],
@@ -98,10 +98,10 @@ pub extern "C" fn ic_tree_prev(
     tree_calls::step_at(table, tree, Side::Left, at, found)
 }
 
-/// Takes all members off, which are unlinked then. O(n).
+/// Removes and unlinks all members. O(n).
 ///
-/// Where steps from the first member on do not lead through linked places to an end, as many as the table has places at most, it
-/// returns [`BROKEN`](crate::BROKEN).
+/// If steps from the first member on do not lead through linked places to an end, as many as the table has places at most, it returns
+/// [`BROKEN`](crate::BROKEN).
 #[unsafe(no_mangle)]
 pub extern "C" fn ic_tree_clear(table: &mut [RawThree], tree: &mut RawRoot) -> u32
     ensures { ClearCall table.old table.new tree.old tree.new result }

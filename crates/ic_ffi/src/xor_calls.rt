@@ -20,9 +20,9 @@ ghost use Rattle.ic_raw.specs.XorCalls.{AppendCall, ClearCall, InsertCall, PopCa
 
 use ic_raw::{RawEnds, RawOne, xor_calls};
 
-/// Puts a place before all members. O(1).
+/// Inserts a place at the front. O(1).
 ///
-/// The place has to be one of the table, and not linked. Where the first member is none of the table, it returns [`BROKEN`](crate::BROKEN).
+/// The place must belong to the table and must not be linked. If the first member does not belong to the table, it returns [`BROKEN`](crate::BROKEN).
 #[unsafe(no_mangle)]
 pub extern "C" fn ic_xor_push_front(table: &mut [RawOne], list: &mut RawEnds, place: u32) -> u32
     ensures { PushCall table.old table.new list.old list.new result None (ends_of list.old).head (place_of place) }
@@ -30,9 +30,9 @@ pub extern "C" fn ic_xor_push_front(table: &mut [RawOne], list: &mut RawEnds, pl
     xor_calls::push_front(table, list, place)
 }
 
-/// Puts a place after all members. O(1).
+/// Inserts a place at the back. O(1).
 ///
-/// The place has to be one of the table, and not linked. Where the last member is none of the table, it returns [`BROKEN`](crate::BROKEN).
+/// The place must belong to the table and must not be linked. If the last member does not belong to the table, it returns [`BROKEN`](crate::BROKEN).
 #[unsafe(no_mangle)]
 pub extern "C" fn ic_xor_push_back(table: &mut [RawOne], list: &mut RawEnds, place: u32) -> u32
     ensures { PushCall table.old table.new list.old list.new result (ends_of list.old).tail None (place_of place) }
@@ -40,9 +40,9 @@ pub extern "C" fn ic_xor_push_back(table: &mut [RawOne], list: &mut RawEnds, pla
     xor_calls::push_back(table, list, place)
 }
 
-/// Takes the first member off and hands it out, or returns [`NULL`](crate::NULL) where there is none. O(1).
+/// Removes the first member and stores its number in `popped`, or returns [`NULL`](crate::NULL) if there is none. O(1).
 ///
-/// Where the words tell of no such member, it returns [`BROKEN`](crate::BROKEN).
+/// If the links beside the member do not lead back to it, it returns [`BROKEN`](crate::BROKEN).
 #[unsafe(no_mangle)]
 pub extern "C" fn ic_xor_pop_front(
     table: &mut [RawOne],
@@ -54,9 +54,9 @@ pub extern "C" fn ic_xor_pop_front(
     xor_calls::pop_front(table, list, popped)
 }
 
-/// Takes the last member off and hands it out, or returns [`NULL`](crate::NULL) where there is none. O(1).
+/// Removes the last member and stores its number in `popped`, or returns [`NULL`](crate::NULL) if there is none. O(1).
 ///
-/// Where the words tell of no such member, it returns [`BROKEN`](crate::BROKEN).
+/// If the links beside the member do not lead back to it, it returns [`BROKEN`](crate::BROKEN).
 #[unsafe(no_mangle)]
 pub extern "C" fn ic_xor_pop_back(table: &mut [RawOne], list: &mut RawEnds, popped: &mut u32) -> u32
     ensures { PopCall table.old table.new list.old list.new result Before popped.old popped.new }
@@ -64,25 +64,25 @@ pub extern "C" fn ic_xor_pop_back(table: &mut [RawOne], list: &mut RawEnds, popp
     xor_calls::pop_back(table, list, popped)
 }
 
-/// Puts a place between the neighbors `before` and `behind`, which are [`NONE`](crate::NONE) beyond an end. O(1).
+/// Inserts a place between the neighbors `before` and `after`, which are [`NONE`](crate::NONE) beyond an end. O(1).
 ///
-/// The place has to be one of the table, and not linked. Where the words tell of no gap between the two, it returns [`BROKEN`](crate::BROKEN).
+/// The place must belong to the table and must not be linked. If the two are not neighbors by their links, it returns [`BROKEN`](crate::BROKEN).
 #[unsafe(no_mangle)]
 pub extern "C" fn ic_xor_insert_between(
     table: &mut [RawOne],
     list: &mut RawEnds,
     before: u32,
     place: u32,
-    behind: u32,
+    after: u32,
 ) -> u32
-    ensures { InsertCall table.old table.new list.old list.new result (place_of before) (place_of behind) (place_of place) }
+    ensures { InsertCall table.old table.new list.old list.new result (place_of before) (place_of after) (place_of place) }
 {
-    xor_calls::insert_between(table, list, before, place, behind)
+    xor_calls::insert_between(table, list, before, place, after)
 }
 
-/// Takes the member `at` off, before which `before` stands, or returns [`NULL`](crate::NULL) at [`NONE`](crate::NONE). O(1).
+/// Removes the member `at`, whose previous member is `before`, or returns [`NULL`](crate::NULL) if `at` is [`NONE`](crate::NONE). O(1).
 ///
-/// Where the words tell of no such member, it returns [`BROKEN`](crate::BROKEN).
+/// If the links beside the member do not lead back to it, it returns [`BROKEN`](crate::BROKEN).
 #[unsafe(no_mangle)]
 pub extern "C" fn ic_xor_remove(
     table: &mut [RawOne],
@@ -95,10 +95,11 @@ pub extern "C" fn ic_xor_remove(
     xor_calls::remove(table, list, before, at)
 }
 
-/// Puts a place where the member `at` is, before which `before` stands, or returns [`NULL`](crate::NULL) at [`NONE`](crate::NONE). The member is
-/// unlinked then. O(1).
+/// Inserts a place where the member `at` is, whose previous member is `before`, and removes `at`, or returns [`NULL`](crate::NULL) if `at` is
+/// [`NONE`](crate::NONE). O(1).
 ///
-/// The place has to be one of the table, and not linked. Where the words tell of no such member, it returns [`BROKEN`](crate::BROKEN).
+/// The place must belong to the table and must not be linked. If the links beside the member do not lead back to it, it returns
+/// [`BROKEN`](crate::BROKEN).
 #[unsafe(no_mangle)]
 pub extern "C" fn ic_xor_replace(
     table: &mut [RawOne],
@@ -112,26 +113,27 @@ pub extern "C" fn ic_xor_replace(
     xor_calls::replace(table, list, before, at, place)
 }
 
-/// Puts all of the given list between the neighbors `before` and `behind`, and leaves the given one empty. O(1).
+/// Moves all members of `given` between the neighbors `before` and `after`, and leaves `given` empty. O(1).
 ///
-/// Where the words tell of no gap between the two or of no list that is given, and where both lists begin with the same member, it
-/// returns [`BROKEN`](crate::BROKEN).
+/// If the two are not neighbors by their links or of no list that is given, or if both lists begin with the same member, it returns
+/// [`BROKEN`](crate::BROKEN).
 #[unsafe(no_mangle)]
 pub extern "C" fn ic_xor_splice_between(
     table: &mut [RawOne],
     list: &mut RawEnds,
     before: u32,
     given: &mut RawEnds,
-    behind: u32,
+    after: u32,
 ) -> u32
-    ensures { SpliceCall table.old table.new list.old list.new result (place_of before) (place_of behind) given.old given.new }
+    ensures { SpliceCall table.old table.new list.old list.new result (place_of before) (place_of after) given.old given.new }
 {
-    xor_calls::splice_between(table, list, before, given, behind)
+    xor_calls::splice_between(table, list, before, given, after)
 }
 
-/// Puts all of the given list after all members, and leaves the given one empty. O(1).
+/// Moves all members of `given` to the back of the list, and leaves `given` empty. O(1).
 ///
-/// A list that begins with the same member, as the list itself, is [`BROKEN`](crate::BROKEN), and so are two whose ends are none of the table.
+/// If both lists begin with the same member, as if `given` is the list itself, or if an end of one does not belong to the table, it returns
+/// [`BROKEN`](crate::BROKEN).
 #[unsafe(no_mangle)]
 pub extern "C" fn ic_xor_append(
     table: &mut [RawOne],
@@ -143,25 +145,25 @@ pub extern "C" fn ic_xor_append(
     xor_calls::append(table, list, given)
 }
 
-/// Cuts the list between the neighbors `before` and `behind`, and hands out what stands after the cut. O(1).
+/// Cuts the list between the neighbors `before` and `after`, and moves the members from `after` on to `rest`. O(1).
 ///
-/// Where the words tell of no gap between the two, and where `rest` is not empty, it returns [`BROKEN`](crate::BROKEN).
+/// If the two are not neighbors by their links, or if `rest` is not empty, it returns [`BROKEN`](crate::BROKEN).
 #[unsafe(no_mangle)]
 pub extern "C" fn ic_xor_split_between(
     table: &mut [RawOne],
     list: &mut RawEnds,
     before: u32,
-    behind: u32,
+    after: u32,
     rest: &mut RawEnds,
 ) -> u32
-    ensures { SplitCall table.old table.new list.old list.new result (place_of before) (place_of behind) rest.old rest.new }
+    ensures { SplitCall table.old table.new list.old list.new result (place_of before) (place_of after) rest.old rest.new }
 {
-    xor_calls::split_between(table, list, before, behind, rest)
+    xor_calls::split_between(table, list, before, after, rest)
 }
 
-/// Takes all members off, which are unlinked then. O(n).
+/// Removes and unlinks all members. O(n).
 ///
-/// Where the places do not lead from the first member to the last, it returns [`BROKEN`](crate::BROKEN).
+/// If the links do not lead from the first member to the last, it returns [`BROKEN`](crate::BROKEN).
 #[unsafe(no_mangle)]
 pub extern "C" fn ic_xor_clear(table: &mut [RawOne], list: &mut RawEnds) -> u32
     ensures { ClearCall table.old table.new list.old list.new result }
@@ -169,7 +171,7 @@ pub extern "C" fn ic_xor_clear(table: &mut [RawOne], list: &mut RawEnds) -> u32
     xor_calls::clear(table, list)
 }
 
-/// Turns the list round. O(1): it reads no table, and always returns [`OK`](crate::OK).
+/// Reverses the list. O(1): it reads no entry of the table, and always returns [`OK`](crate::OK).
 #[unsafe(no_mangle)]
 pub extern "C" fn ic_xor_reverse(list: &mut RawEnds) -> u32
     ensures ok { result ≡ OK }

@@ -149,9 +149,9 @@ module _ {E A B T : Type 0} {succ : E → Successor} {linked : E → Bool} (alik
         let c = chain_of a.held k used in
         let test : T → Bool = λ v. nat_eq (slot_of table.slots (hash table.adapter v)) k in
         let parts = subst IsDistinct c.parts a.held.distinct in
-        let distinct = distinct_left c.chain c.behind (distinct_right c.ahead (c.chain ++ c.behind) parts) in
+        let distinct = distinct_left c.chain c.after (distinct_right c.ahead (c.chain ++ c.after) parts) in
         let few = no_more c.chain (filter (matches test objects) order) distinct (λ q member.
-        let in_members : IsMember q a.members = λ out. member (absent_left q c.chain c.behind (absent_right q c.ahead (c.chain ++ c.behind) (subst (IsAbsent q) c.parts out))) in
+        let in_members : IsMember q a.members = λ out. member (absent_left q c.chain c.after (absent_right q c.ahead (c.chain ++ c.after) (subst (IsAbsent q) c.parts out))) in
         let is = member_placed objects a.members a.held.placed q in_members in
         let there = there_is objects q is in
         let passed : matches test objects q ≡ true = ap (passes test) there.1 ∙ eq-eqb _ _ (at_member (BelongsIn table.slots (hash table.adapter) objects k) c.chain c.own q member there.0 there.1) in

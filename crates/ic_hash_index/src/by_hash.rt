@@ -1,4 +1,4 @@
-//! The hashes of keys.
+//! The adapter by which a hash table hashes keys.
 //!
 //! ```text
 //! let table = HashTable::new(ByHash::new(), buckets); // finds pages by their numbers
@@ -16,21 +16,22 @@ use ic_link_ops::{OneNarrowWord, OneWord, TwoNarrowWords};
 use std::alloc::AllocError;
 use std::marker::PhantomData;
 
-/// The hashes of keys: the upper half of the key times 2^64 over the golden ratio, so that keys in a row are in different chains.
+/// The adapter by which a hash table hashes keys. A hash is the upper half of the product of the key and 2^64 divided by the golden ratio, so that
+/// consecutive keys are in different chains.
 ///
-/// Who chooses the keys can choose them so that all are in one chain. `W`: the words of the hash table's links, `O`: those of
-/// the links of the order beside it.
+/// A user who chooses the keys can choose them so that all are in one chain. `W` is the type of the words of the hash table's links, and `O` that of
+/// the links of the list beside it.
 pub struct ByHash<T, W = OneWord<Singly>, O = TwoWords> {
     of: PhantomData<T>,
     words: PhantomData<W>,
     order: PhantomData<O>,
 }
 
-/// The same over links of 4-byte words: half the memory for links, and 536,870,911 places at most.
+/// The same over links of 4-byte words. The links take half the memory, and there can be at most 536,870,911 objects.
 pub type NarrowByHash<T> = ByHash<T, OneNarrowWord<Singly>, TwoNarrowWords>;
 
 impl<T> ByHash<T> {
-    /// The hashes of keys. O(1).
+    /// Makes the adapter, which has no data. O(1).
     #[inline]
     pub fn new() -> ByHash<T> {
         ByHash::with_words()
@@ -38,7 +39,7 @@ impl<T> ByHash<T> {
 }
 
 impl<T, W, O> ByHash<T, W, O> {
-    /// The hashes of keys, for links of these words. O(1).
+    /// Makes the hashes of keys, for links with words of this type. O(1).
     #[inline]
     pub fn with_words() -> ByHash<T, W, O> {
         ByHash {

@@ -1,4 +1,4 @@
-//! A hash table finds objects by their keys.
+//! The hash table as an index, which finds objects by their keys.
 //!
 //! ```text
 //! let buckets = empty_buckets(rt.alloc(), 1024)?;
@@ -25,15 +25,15 @@ use std::alloc::{Allocator, Global};
 
 /// A hash table as the index of a container.
 ///
-/// A clause sees how many chains it has (`chains_of`), and whether it is new (`IsNewIndex`). `B`: its buckets, which need room for each place that
-/// the links can name. So narrow links can have buckets of 4 bytes or of 8, and wide ones have buckets of 8. `W`: the words of its links, `O`: those
-/// of the links of the order beside it.
+/// A contract sees how many chains it has (`chains_of`), and whether it is new (`IsNewIndex`). `B` is the type of its buckets, which must be able to
+/// name every place that the links can name. So links of 4-byte words can have buckets of 4 or 8 bytes, and links of 8-byte words have buckets of 8
+/// bytes. `W` is the type of the words of its links, and `O` that of the links of the list beside it.
 #[derive(Drop)]
 pub struct HashIndex<T, B, W = OneWord<Singly>, O = TwoWords> {
     table: HashTable<ByHash<T, W, O>, B>,
 }
 
-/// The same over links of 4-byte words: half the memory for links, and 536,870,911 places at most.
+/// The same over links of 4-byte words. The links take half the memory, and there can be at most 536,870,911 objects.
 pub type NarrowHashIndex<T, B> = HashIndex<T, B, OneNarrowWord<Singly>, TwoNarrowWords>;
 
 /// Objects in a hash table by their keys and in a list.
@@ -43,10 +43,10 @@ pub type HashIndexed<T, B, A = Global> = Indexed<T, HashIndex<T, B>, A>;
 pub type NarrowHashIndexed<T, B, A = Global> = Indexed<T, NarrowHashIndex<T, B>, A>;
 
 impl<T: HasKey, B: BucketRow> HashIndex<T, B> {
-    /// A new index over these buckets.
+    /// Makes an index over these buckets.
     ///
-    /// It requires that the buckets are empty, and that there is one at least and at most 4,294,967,296. With as many buckets as there
-    /// are objects a search looks at one or two objects on average. O(log n) of n buckets, and no memory.
+    /// It requires that the buckets are empty, and that there is at least one and at most 4,294,967,296. With as many buckets as objects, a search
+    /// compares one or two objects on average. It costs O(log n) for n buckets, and takes no memory.
     pub fn new(buckets: B) -> HashIndex<T, B>
         requires some { 1 ≤ length (B.fronts buckets) }
         requires few { length (B.fronts buckets) ≤ 4294967296 }
@@ -59,7 +59,8 @@ impl<T: HasKey, B: BucketRow> HashIndex<T, B> {
 }
 
 impl<T: HasKey, B: BucketRow, W: NextWord, O: PrevPlace> HashIndex<T, B, W, O> {
-    /// A new index over these buckets, for links of these words: `NarrowHashIndex::with_words(buckets)`. Else as `new`.
+    /// Makes an index over these buckets, for links with words of this type: `NarrowHashIndex::with_words(buckets)`. Everything else is as for `new`.
+    /// O(1).
     pub fn with_words(buckets: B) -> HashIndex<T, B, W, O>
         requires some { 1 ≤ length (B.fronts buckets) }
         requires few { length (B.fronts buckets) ≤ 4294967296 }

@@ -84,20 +84,20 @@ module _ {E : Type 0} (successor : E → Successor) (Belongs : ℕ → Place →
   pub record Between (t : Table E) (i k n : ℕ) (fronts : List (Option Place)) (s : List Place) : Type 1 where
     pub ahead : List Place
     pub chain : List Place
-    pub behind : List Place
-    pub parts : s ≡ ahead ++ (chain ++ behind)
+    pub after : List Place
+    pub parts : s ≡ ahead ++ (chain ++ after)
     pub shown : RepresentsFrom successor t (slice_index_or fronts k None) chain
     pub own : AllByRecursion (Belongs n) chain
     pub ahead_others : AllByRecursion (Elsewhere Belongs n) ahead
-    pub after_others : AllByRecursion (Elsewhere Belongs n) behind
+    pub after_others : AllByRecursion (Elsewhere Belongs n) after
     pub ahead_below : AllByRecursion (Below Belongs n) ahead
-    pub after_above : AllByRecursion (Above Belongs n) behind
+    pub after_above : AllByRecursion (Above Belongs n) after
     pub put : {new : Table E} (Other : ℕ → Place → Type 0) → ((j : ℕ) (p : Place) → j ≢ n → Belongs j p → Other j p) → (front : Option Place) (instead touched : List Place)
         → RepresentsFrom successor new front instead → AllByRecursion (Other n) instead
-        → IsDisjoint ahead touched → IsDisjoint behind touched → ((q : Place) → IsAbsent q touched → new.entry q ≡ t.entry q)
-        → AreChained successor Other new i (slice_set fronts k front) (ahead ++ (instead ++ behind))
+        → IsDisjoint ahead touched → IsDisjoint after touched → ((q : Place) → IsAbsent q touched → new.entry q ≡ t.entry q)
+        → AreChained successor Other new i (slice_set fronts k front) (ahead ++ (instead ++ after))
     -- the members after it are those of the chains after
-    pub more : AreChained successor Belongs t (suc n) (drop (suc k) fronts) behind
+    pub more : AreChained successor Belongs t (suc n) (drop (suc k) fronts) after
     -- where the chains before are empty, nothing is ahead
     pub none_ahead : ((j : ℕ) → j < k → slice_index_or fronts j None ≡ None) → ahead ≡ []
 
@@ -132,7 +132,7 @@ module _ {E : Type 0} (successor : E → Successor) (Belongs : ℕ → Place →
       let here : i ≡ n = omega (arith, is_n) in record {
         ahead = [];
         chain = chain;
-        behind = rest;
+        after = rest;
         parts = is;
         shown = shown;
         own = subst (λ j. AllByRecursion (Belongs j) chain) here own;
@@ -155,8 +155,8 @@ module _ {E : Type 0} (successor : E → Successor) (Belongs : ℕ → Place →
       let r = chain_at t (suc i) k n fs rest (omega (arith, is_n)) (omega (arith, within)) more in record {
         ahead = chain ++ r.ahead;
         chain = r.chain;
-        behind = r.behind;
-        parts = is ∙ ap (λ l. chain ++ l) r.parts ∙ sym (append_assoc chain r.ahead (r.chain ++ r.behind));
+        after = r.after;
+        parts = is ∙ ap (λ l. chain ++ l) r.parts ∙ sym (append_assoc chain r.ahead (r.chain ++ r.after));
         shown = r.shown;
         own = r.own;
         ahead_others = all_both (Elsewhere Belongs n) chain r.ahead (all_map (λ p b. (i, (λ e. absurd (omega (arith, is_n, e))), b)) chain own) r.ahead_others;
@@ -167,8 +167,8 @@ module _ {E : Type 0} (successor : E → Successor) (Belongs : ℕ → Place →
         none_ahead = λ none. ap (λ l. l ++ r.ahead) (empty_chain chain (none 0 (omega arith)) shown) ∙ r.none_ahead (λ j less. none (suc j) (omega (arith, less)));
         put = λ {new} Other other front instead touched shows belongs apart_ahead apart_after same. (
           chain,
-          r.ahead ++ (instead ++ r.behind),
-          append_assoc chain r.ahead (instead ++ r.behind),
+          r.ahead ++ (instead ++ r.after),
+          append_assoc chain r.ahead (instead ++ r.after),
           represents_frame touched shown (disjoint_ahead chain r.ahead touched apart_ahead) same,
           all_map (λ p b. other i p (λ e. absurd (omega (arith, is_n, e))) b) chain own,
           r.put Other other front instead touched shows belongs (disjoint_after chain r.ahead touched apart_ahead) apart_after same,

@@ -42,18 +42,18 @@ module _ {L E : Type 0} (successor : E → Successor) (table : L → Table E) (T
         → Trace mid new (releases_each next_chain.chain) → ChangesOnlyIn (table mid) (table new) next_chain.chain → Empties old new (at + 1) (slice_set fronts at None) s
     empties_more does_on new none distinct steps frame =
         let c = next_chain in
-        let rest : k.rest ≡ c.chain ++ c.behind = c.parts ∙ ap (λ l. l ++ (c.chain ++ c.behind)) (c.none_ahead none) in
-        let d : IsDistinct (c.chain ++ c.behind) = subst IsDistinct rest (distinct_right k.done k.rest (subst IsDistinct k.parts distinct)) in
+        let rest : k.rest ≡ c.chain ++ c.after = c.parts ∙ ap (λ l. l ++ (c.chain ++ c.after)) (c.none_ahead none) in
+        let d : IsDistinct (c.chain ++ c.after) = subst IsDistinct rest (distinct_right k.done k.rest (subst IsDistinct k.parts distinct)) in
         record {
           done = k.done ++ c.chain;
-          rest = c.behind;
-          parts = k.parts ∙ ap (λ l. k.done ++ l) rest ∙ sym (append_assoc k.done c.chain c.behind);
-          chained = subst (λ l. AreChained successor (λ i p. ⊤) (table new) 0 (slice_set fronts at None) (l ++ c.behind)) (c.none_ahead none)
-              (c.put (λ i p. ⊤) (λ j p n b. tt) None [] c.chain (record { distinct = tt; chain = tt; head = refl; tail = refl }) tt (subst (λ l. IsDisjoint l c.chain) (sym (c.none_ahead none)) tt) (disjoint_sym c.chain c.behind (distinct_disjoint c.chain c.behind d)) frame.others);
+          rest = c.after;
+          parts = k.parts ∙ ap (λ l. k.done ++ l) rest ∙ sym (append_assoc k.done c.chain c.after);
+          chained = subst (λ l. AreChained successor (λ i p. ⊤) (table new) 0 (slice_set fronts at None) (l ++ c.after)) (c.none_ahead none)
+              (c.put (λ i p. ⊤) (λ j p n b. tt) None [] c.chain (record { distinct = tt; chain = tt; head = refl; tail = refl }) tt (subst (λ l. IsDisjoint l c.chain) (sym (c.none_ahead none)) tt) (disjoint_sym c.chain c.after (distinct_disjoint c.chain c.after d)) frame.others);
           steps = subst (Trace old new) (sym (releases_append k.done c.chain)) (does_on old mid new (releases_each k.done) (releases_each c.chain) k.steps steps);
           frame = record {
             extent = frame.extent ∙ k.frame.extent;
-            others = λ q out. frame.others q (absent_left q c.chain c.behind (subst (IsAbsent q) rest (absent_right q k.done k.rest (subst (IsAbsent q) k.parts out)))) ∙ k.frame.others q out;
+            others = λ q out. frame.others q (absent_left q c.chain c.after (subst (IsAbsent q) rest (absent_right q k.done k.rest (subst (IsAbsent q) k.parts out)))) ∙ k.frame.others q out;
           };
         }
 

@@ -25,7 +25,7 @@ module _ {E A B V : Type 0} {successor : E → Successor} {hash : A → V → �
       let c = chain_of in record {
         members = c.chain;
         shown = c.shown;
-        placed = all_front _ c.chain c.behind (all_back _ c.ahead (c.chain ++ c.behind) (subst (AllByRecursion _) c.parts held.placed));
+        placed = all_front _ c.chain c.after (all_back _ c.ahead (c.chain ++ c.after) (subst (AllByRecursion _) c.parts held.placed));
       }
 
 -- where equal values have their number in this chain, none elsewhere equals
@@ -41,21 +41,21 @@ module _ {V : Type 0} (slots : Slots) (hash : V → ℕ) (objects : Objects V) {
   none_elsewhere p (j, differs, belongs) = not_here (object_at objects p) (λ v there e. differs (sym (belongs v there) ∙ e))
 
 -- A WALK ALONG A CHAIN FINDS IT, among members of which no other passes
-pub finds_among : {is : Place → Bool} (ahead chain behind : List Place) → AllByRecursion (λ p. is p ≡ false) ahead → AllByRecursion (λ p. is p ≡ false) behind
-    → {before : Option Place} (at : Option Place) → StopsAt is chain before at → Finds is (ahead ++ (chain ++ behind)) at
-finds_among {is = is} ahead chain behind none_ahead none_after None stop =
+pub finds_among : {is : Place → Bool} (ahead chain after : List Place) → AllByRecursion (λ p. is p ≡ false) ahead → AllByRecursion (λ p. is p ≡ false) after
+    → {before : Option Place} (at : Option Place) → StopsAt is chain before at → Finds is (ahead ++ (chain ++ after)) at
+finds_among {is = is} ahead chain after none_ahead none_after None stop =
     let P : Place → Type 0 = λ p. is p ≡ false in
     let none : AllByRecursion P chain =
     subst (AllByRecursion P) stop.whole
     (all_both P stop.gap.front stop.gap.back stop.passed (subst (AllByRecursion P) (sym (nothing_first stop.gap.back stop.here)) tt)) in
-    all_both P ahead (chain ++ behind) none_ahead (all_both P chain behind none none_after)
-finds_among {is = is} ahead chain behind none_ahead none_after (Some p) stop =
+    all_both P ahead (chain ++ after) none_ahead (all_both P chain after none none_after)
+finds_among {is = is} ahead chain after none_ahead none_after (Some p) stop =
     let f = stop.gap.front in
     let rest = drop 1 stop.gap.back in
     let whole : chain ≡ f ++ p ∷ rest = sym stop.whole ∙ ap (λ l. f ++ l) (first_is stop.gap.back stop.here) in (
       ahead ++ f,
-      rest ++ behind,
-      ap (λ l. ahead ++ (l ++ behind)) whole ∙ ap (λ l. ahead ++ l) (append_assoc f (p ∷ rest) behind) ∙ sym (append_assoc ahead f (p ∷ rest ++ behind)),
+      rest ++ after,
+      ap (λ l. ahead ++ (l ++ after)) whole ∙ ap (λ l. ahead ++ l) (append_assoc f (p ∷ rest) after) ∙ sym (append_assoc ahead f (p ∷ rest ++ after)),
       all_both (λ q. is q ≡ false) ahead f none_ahead stop.passed,
       stop.stops,
     )
@@ -65,7 +65,7 @@ pub finds : {E : Type 0} {successor : E → Successor} {Belongs : ℕ → Place 
     → (c : Between successor Belongs t 0 k k fronts s) → ((p : Place) → Elsewhere Belongs k p → is p ≡ false)
     → {before : Option Place} (at : Option Place) → StopsAt is c.chain before at → Finds is s at
 finds {is = is} c elsewhere at stop =
-    subst (λ l. Finds is l at) (sym c.parts) (finds_among c.ahead c.chain c.behind (all_map elsewhere c.ahead c.ahead_others) (all_map elsewhere c.behind c.after_others) at stop)
+    subst (λ l. Finds is l at) (sym c.parts) (finds_among c.ahead c.chain c.after (all_map elsewhere c.ahead c.ahead_others) (all_map elsewhere c.after c.after_others) at stop)
 
 -- where it stopped at a member, that stands after the one before
 pub stops_at : {E : Type 0} {successor : E → Successor} {t : Table E} {front : Option Place} {chain : List Place} {is : Place → Bool} {before : Option Place} {p : Place} → StopsAt is chain before (Some p)

@@ -66,7 +66,7 @@ module _ {E A B V : Type 0} (successor : E → Successor) (hash : A → V → �
   beyond {t} {table} {objects} {s} held room =
       let c = chain_at successor (BelongsIn table.slots (hash table.adapter) objects) t 0 table.slots.used table.slots.used (fronts table.buckets) s (omega arith) room held.chained in
       let placed : AllByRecursion (λ p. IsSome (object_at objects p)) c.chain =
-      all_front (λ p. IsSome (object_at objects p)) c.chain c.behind (all_back (λ p. IsSome (object_at objects p)) c.ahead (c.chain ++ c.behind) (subst (AllByRecursion (λ p. IsSome (object_at objects p))) c.parts held.placed)) in
+      all_front (λ p. IsSome (object_at objects p)) c.chain c.after (all_back (λ p. IsSome (object_at objects p)) c.ahead (c.chain ++ c.after) (subst (AllByRecursion (λ p. IsSome (object_at objects p))) c.parts held.placed)) in
       c.shown.head ∙ ap first (nobody c.chain placed c.own)
     where
       never : (p : Place) (o : Option V) → object_at objects p ≡ o → IsSome o → BelongsIn table.slots (hash table.adapter) objects table.slots.used p → ⊥
@@ -99,21 +99,21 @@ module _ {E A B V : Type 0} (successor : E → Successor) (hash : A → V → �
       all_parts : (q : Place) → IsAbsent q (part.staying ++ part.moving) → IsAbsent q parted_chain.chain
       all_parts q out = part.all q (subst (λ l. IsAbsent q (l ++ (part.staying ++ part.moving))) (sym no_left) out)
 
-      whole : IsDistinct (parted_chain.ahead ++ (parted_chain.chain ++ parted_chain.behind))
+      whole : IsDistinct (parted_chain.ahead ++ (parted_chain.chain ++ parted_chain.after))
       whole = subst IsDistinct parted_chain.parts held.distinct
 
       -- with those alone that stay
-      chained_stays : AreChained successor (BelongsIn slots (hash table.adapter) objects) new 0 (slice_set (fronts table.buckets) (split_of slots table.slots.used) stays) (parted_chain.ahead ++ (part.staying ++ parted_chain.behind))
+      chained_stays : AreChained successor (BelongsIn slots (hash table.adapter) objects) new 0 (slice_set (fronts table.buckets) (split_of slots table.slots.used) stays) (parted_chain.ahead ++ (part.staying ++ parted_chain.after))
       chained_stays =
           let c = parted_chain in
           let own = of_members (BelongsIn table.slots (hash table.adapter) objects (split_of slots table.slots.used)) c.chain part.staying (λ q out. absent_left q part.staying part.moving (within_parts q out)) c.own in
           c.put (BelongsIn slots (hash table.adapter) objects) (others_belong table.slots slots (hash table.adapter) objects split) stays part.staying c.chain part.represents_staying
           (all_two (stays_belong table.slots slots (hash table.adapter) objects split) part.staying part.stay own)
-          (disjoint_left c.ahead c.chain c.behind (distinct_disjoint c.ahead (c.chain ++ c.behind) whole)) (disjoint_sym c.chain c.behind (distinct_disjoint c.chain c.behind (distinct_right c.ahead (c.chain ++ c.behind) whole))) frame.others
+          (disjoint_left c.ahead c.chain c.after (distinct_disjoint c.ahead (c.chain ++ c.after) whole)) (disjoint_sym c.chain c.after (distinct_disjoint c.chain c.after (distinct_right c.ahead (c.chain ++ c.after) whole))) frame.others
 
-      new_chain : Between successor (BelongsIn slots (hash table.adapter) objects) new 0 table.slots.used table.slots.used (slice_set (fronts table.buckets) (split_of slots table.slots.used) stays) (parted_chain.ahead ++ (part.staying ++ parted_chain.behind))
+      new_chain : Between successor (BelongsIn slots (hash table.adapter) objects) new 0 table.slots.used table.slots.used (slice_set (fronts table.buckets) (split_of slots table.slots.used) stays) (parted_chain.ahead ++ (part.staying ++ parted_chain.after))
       new_chain =
-          chain_at successor (BelongsIn slots (hash table.adapter) objects) new 0 table.slots.used table.slots.used (slice_set (fronts table.buckets) (split_of slots table.slots.used) stays) (parted_chain.ahead ++ (part.staying ++ parted_chain.behind))
+          chain_at successor (BelongsIn slots (hash table.adapter) objects) new 0 table.slots.used table.slots.used (slice_set (fronts table.buckets) (split_of slots table.slots.used) stays) (parted_chain.ahead ++ (part.staying ++ parted_chain.after))
           (omega arith) (omega (arith, room, length-set (fronts table.buckets) (split_of slots table.slots.used) stays)) chained_stays
 
       none_yet : new_chain.chain ≡ []
@@ -121,74 +121,74 @@ module _ {E A B V : Type 0} (successor : E → Successor) (hash : A → V → �
           nothing_first new_chain.chain
           (sym (get_or-set_other (fronts table.buckets) (split_of slots table.slots.used) table.slots.used stays None (λ e. absurd (omega (arith, split.apart, e))) ∙ beyond held room) ∙ new_chain.shown.head)
 
-      new_parts : parted_chain.ahead ++ (part.staying ++ parted_chain.behind) ≡ new_chain.ahead ++ new_chain.behind
-      new_parts = subst (λ m. parted_chain.ahead ++ (part.staying ++ parted_chain.behind) ≡ new_chain.ahead ++ (m ++ new_chain.behind)) none_yet new_chain.parts
+      new_parts : parted_chain.ahead ++ (part.staying ++ parted_chain.after) ≡ new_chain.ahead ++ new_chain.after
+      new_parts = subst (λ m. parted_chain.ahead ++ (part.staying ++ parted_chain.after) ≡ new_chain.ahead ++ (m ++ new_chain.after)) none_yet new_chain.parts
 
-      chained_moves : AreChained successor (BelongsIn slots (hash table.adapter) objects) new 0 (fronts buckets) (new_chain.ahead ++ (part.moving ++ new_chain.behind))
+      chained_moves : AreChained successor (BelongsIn slots (hash table.adapter) objects) new 0 (fronts buckets) (new_chain.ahead ++ (part.moving ++ new_chain.after))
       chained_moves =
           rw (second_set, first_set)
           (new_chain.put (BelongsIn slots (hash table.adapter) objects) (λ j p n b. b) moves part.moving [] part.represents_moving
-          (all_map (moves_belong table.slots slots (hash table.adapter) objects split) part.moving part.move) (disjoint_nothing new_chain.ahead) (disjoint_nothing new_chain.behind) (λ q out. refl))
+          (all_map (moves_belong table.slots slots (hash table.adapter) objects split) part.moving part.move) (disjoint_nothing new_chain.ahead) (disjoint_nothing new_chain.after) (λ q out. refl))
 
-      moving_apart : IsDisjoint part.moving (parted_chain.ahead ++ (part.staying ++ parted_chain.behind))
+      moving_apart : IsDisjoint part.moving (parted_chain.ahead ++ (part.staying ++ parted_chain.after))
       moving_apart =
           let c = parted_chain in
-          let beside = absent_swap (c.ahead ++ c.behind) c.chain (disjoint_sym c.chain (c.ahead ++ c.behind) (middle_apart c.ahead c.chain c.behind whole)) part.moving (λ q out. absent_right q part.staying part.moving (within_parts q out)) in
-          let out = disjoint_sym (c.ahead ++ c.behind) part.moving beside in
-          disjoint_sym (c.ahead ++ (part.staying ++ c.behind)) part.moving
-          (disjoint_both c.ahead (part.staying ++ c.behind) part.moving (disjoint_sym part.moving c.ahead (disjoint_left part.moving c.ahead c.behind out))
-          (disjoint_both part.staying c.behind part.moving (distinct_disjoint part.staying part.moving distinct_parts) (disjoint_sym part.moving c.behind (disjoint_right part.moving c.ahead c.behind out))))
+          let beside = absent_swap (c.ahead ++ c.after) c.chain (disjoint_sym c.chain (c.ahead ++ c.after) (middle_apart c.ahead c.chain c.after whole)) part.moving (λ q out. absent_right q part.staying part.moving (within_parts q out)) in
+          let out = disjoint_sym (c.ahead ++ c.after) part.moving beside in
+          disjoint_sym (c.ahead ++ (part.staying ++ c.after)) part.moving
+          (disjoint_both c.ahead (part.staying ++ c.after) part.moving (disjoint_sym part.moving c.ahead (disjoint_left part.moving c.ahead c.after out))
+          (disjoint_both part.staying c.after part.moving (distinct_disjoint part.staying part.moving distinct_parts) (disjoint_sym part.moving c.after (disjoint_right part.moving c.ahead c.after out))))
 
-      distinct_again : IsDistinct (new_chain.ahead ++ (part.moving ++ new_chain.behind))
+      distinct_again : IsDistinct (new_chain.ahead ++ (part.moving ++ new_chain.after))
       distinct_again =
           let c = parted_chain in
-          let stays_distinct = within_middle c.ahead c.chain c.behind part.staying whole (distinct_left part.staying part.moving distinct_parts) (λ q out. absent_left q part.staying part.moving (within_parts q out)) in
-          distinct_splice new_chain.ahead part.moving new_chain.behind (subst IsDistinct new_parts stays_distinct) (distinct_right part.staying part.moving distinct_parts) (subst (IsDisjoint part.moving) new_parts moving_apart)
+          let stays_distinct = within_middle c.ahead c.chain c.after part.staying whole (distinct_left part.staying part.moving distinct_parts) (λ q out. absent_left q part.staying part.moving (within_parts q out)) in
+          distinct_splice new_chain.ahead part.moving new_chain.after (subst IsDistinct new_parts stays_distinct) (distinct_right part.staying part.moving distinct_parts) (subst (IsDisjoint part.moving) new_parts moving_apart)
 
-      within_again : (q : Place) → IsAbsent q s → IsAbsent q (new_chain.ahead ++ (part.moving ++ new_chain.behind))
+      within_again : (q : Place) → IsAbsent q s → IsAbsent q (new_chain.ahead ++ (part.moving ++ new_chain.after))
       within_again q out =
           let c = parted_chain in
           let a = subst (IsAbsent q) c.parts out in
-          let m = within_parts q (absent_left q c.chain c.behind (absent_right q c.ahead (c.chain ++ c.behind) a)) in
-          let stay = absent_both q c.ahead (part.staying ++ c.behind) (absent_left q c.ahead (c.chain ++ c.behind) a)
-          (absent_both q part.staying c.behind (absent_left q part.staying part.moving m) (absent_right q c.chain c.behind (absent_right q c.ahead (c.chain ++ c.behind) a))) in
+          let m = within_parts q (absent_left q c.chain c.after (absent_right q c.ahead (c.chain ++ c.after) a)) in
+          let stay = absent_both q c.ahead (part.staying ++ c.after) (absent_left q c.ahead (c.chain ++ c.after) a)
+          (absent_both q part.staying c.after (absent_left q part.staying part.moving m) (absent_right q c.chain c.after (absent_right q c.ahead (c.chain ++ c.after) a))) in
           let beside = subst (IsAbsent q) new_parts stay in
-          absent_both q new_chain.ahead (part.moving ++ new_chain.behind) (absent_left q new_chain.ahead new_chain.behind beside)
-          (absent_both q part.moving new_chain.behind (absent_right q part.staying part.moving m) (absent_right q new_chain.ahead new_chain.behind beside))
+          absent_both q new_chain.ahead (part.moving ++ new_chain.after) (absent_left q new_chain.ahead new_chain.after beside)
+          (absent_both q part.moving new_chain.after (absent_right q part.staying part.moving m) (absent_right q new_chain.ahead new_chain.after beside))
 
-      all_again : (q : Place) → IsAbsent q (new_chain.ahead ++ (part.moving ++ new_chain.behind)) → IsAbsent q s
+      all_again : (q : Place) → IsAbsent q (new_chain.ahead ++ (part.moving ++ new_chain.after)) → IsAbsent q s
       all_again q out =
           let c = parted_chain in
-          let tail = absent_right q new_chain.ahead (part.moving ++ new_chain.behind) out in
-          let stay = subst (IsAbsent q) (sym new_parts) (absent_both q new_chain.ahead new_chain.behind (absent_left q new_chain.ahead (part.moving ++ new_chain.behind) out) (absent_right q part.moving new_chain.behind tail)) in
-          let rest = absent_right q c.ahead (part.staying ++ c.behind) stay in
-          let chain = all_parts q (absent_both q part.staying part.moving (absent_left q part.staying c.behind rest) (absent_left q part.moving new_chain.behind tail)) in
-          subst (IsAbsent q) (sym c.parts) (absent_both q c.ahead (c.chain ++ c.behind) (absent_left q c.ahead (part.staying ++ c.behind) stay) (absent_both q c.chain c.behind chain (absent_right q part.staying c.behind rest)))
+          let tail = absent_right q new_chain.ahead (part.moving ++ new_chain.after) out in
+          let stay = subst (IsAbsent q) (sym new_parts) (absent_both q new_chain.ahead new_chain.after (absent_left q new_chain.ahead (part.moving ++ new_chain.after) out) (absent_right q part.moving new_chain.after tail)) in
+          let rest = absent_right q c.ahead (part.staying ++ c.after) stay in
+          let chain = all_parts q (absent_both q part.staying part.moving (absent_left q part.staying c.after rest) (absent_left q part.moving new_chain.after tail)) in
+          subst (IsAbsent q) (sym c.parts) (absent_both q c.ahead (c.chain ++ c.after) (absent_left q c.ahead (part.staying ++ c.after) stay) (absent_both q c.chain c.after chain (absent_right q part.staying c.after rest)))
 
       -- the members then: those that move stand where their chain does
       abbrev grown : List Place
-      grown = new_chain.ahead ++ (part.moving ++ new_chain.behind)
+      grown = new_chain.ahead ++ (part.moving ++ new_chain.after)
 
       grown_holds : Holds successor hash fronts new (record { adapter = table.adapter; buckets = buckets; slots = slots; len = table.len }) objects grown
       grown_holds =
           let c = parted_chain in record {
             distinct = distinct_again;
             chained = chained_moves;
-            placed = of_members (λ p. IsSome (object_at objects p)) s (new_chain.ahead ++ (part.moving ++ new_chain.behind)) within_again held.placed;
+            placed = of_members (λ p. IsSome (object_at objects p)) s (new_chain.ahead ++ (part.moving ++ new_chain.after)) within_again held.placed;
             counted = omega (
               arith,
               held.counted,
               ap length c.parts,
-              length-append c.ahead (c.chain ++ c.behind),
-              length-append c.chain c.behind,
+              length-append c.ahead (c.chain ++ c.after),
+              length-append c.chain c.after,
               part.count,
               ap length no_left,
               ap length new_parts,
-              length-append c.ahead (part.staying ++ c.behind),
-              length-append part.staying c.behind,
-              length-append new_chain.ahead new_chain.behind,
-              length-append new_chain.ahead (part.moving ++ new_chain.behind),
-              length-append part.moving new_chain.behind,
+              length-append c.ahead (part.staying ++ c.after),
+              length-append part.staying c.after,
+              length-append new_chain.ahead new_chain.after,
+              length-append new_chain.ahead (part.moving ++ new_chain.after),
+              length-append part.moving new_chain.after,
             );
             well_formed = well_formed;
             enough = omega (arith, split.used, room, ap length second_set, length-set (fronts middle) table.slots.used moves, ap length first_set, length-set (fronts table.buckets) (split_of slots table.slots.used) stays);
@@ -208,14 +208,14 @@ module _ {E A B V : Type 0} (successor : E → Successor) (hash : A → V → �
           let Old = BelongsIn table.slots (hash table.adapter) objects in
           let New = BelongsIn slots (hash table.adapter) objects in
           let whole = subst (AreSideBySide alike) c.parts side in
-          let rest = back_beside alike c.ahead (c.chain ++ c.behind) whole in
-          let turned = part.beside alike laws (front_beside alike c.chain c.behind rest) in
+          let rest = back_beside alike c.ahead (c.chain ++ c.after) whole in
+          let turned = part.beside alike laws (front_beside alike c.chain c.after rest) in
           let own = of_members (Old (split_of slots table.slots.used)) c.chain part.staying (λ q out. absent_left q part.staying part.moving (within_parts q out)) c.own in
-          let stays = middle_beside Old alike together (split_of slots table.slots.used) c.ahead part.staying c.behind (front_beside alike c.ahead (c.chain ++ c.behind) whole) turned.0.side
-          (back_beside alike c.chain c.behind rest) c.ahead_below own c.after_above in
+          let stays = middle_beside Old alike together (split_of slots table.slots.used) c.ahead part.staying c.after (front_beside alike c.ahead (c.chain ++ c.after) whole) turned.0.side
+          (back_beside alike c.chain c.after rest) c.ahead_below own c.after_above in
           let again = subst (AreSideBySide alike) new_parts stays in (
             grown,
             grown_holds,
-            middle_beside New alike together_new table.slots.used n.ahead part.moving n.behind (front_beside alike n.ahead n.behind again) turned.1.side (back_beside alike n.ahead n.behind again)
+            middle_beside New alike together_new table.slots.used n.ahead part.moving n.after (front_beside alike n.ahead n.after again) turned.1.side (back_beside alike n.ahead n.after again)
                 n.ahead_below (all_map (moves_belong table.slots slots (hash table.adapter) objects split) part.moving part.move) n.after_above,
           )

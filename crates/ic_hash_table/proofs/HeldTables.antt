@@ -44,10 +44,10 @@ regrouped : (a f y z : List Place) → (a ++ f) ++ (y ++ z) ≡ a ++ ((f ++ y) +
 regrouped a f y z = append_assoc a f (y ++ z) ∙ ap (λ (l : List Place). a ++ l) (sym (append_assoc f y z))
 
 -- the first of the first part is that of both
-first_ahead : (found : Option Place) (back behind : List Place) → found ≡ first back → IfSome found (λ q. Some q ≡ first (back ++ behind))
-first_ahead None back behind here = tt
-first_ahead (Some q) [] behind here = absurd (none_not q (sym here))
-first_ahead (Some q) (x ∷ back) behind here = here
+first_ahead : (found : Option Place) (back after : List Place) → found ≡ first back → IfSome found (λ q. Some q ≡ first (back ++ after))
+first_ahead None back after here = tt
+first_ahead (Some q) [] after here = absurd (none_not q (sym here))
+first_ahead (Some q) (x ∷ back) after here = here
 
 -- a place whose object belongs in one of the chains up to number k
 abbrev UpTo : {V : Type 0} → Slots → (V → ℕ) → Objects V → ℕ → Place → Type 0
@@ -71,33 +71,33 @@ module _ {E A B V : Type 0} (successor : E → Successor) (hash : A → V → �
         let Own : Place → Type 0 = BelongsIn table.slots (hash table.adapter) objects k in
         let Placed : Place → Type 0 = λ q. IsSome (object_at objects q) in
         let is : c.chain ≡ f ++ b = chain_one c.shown was in
-        let parts : s ≡ c.ahead ++ ((f ++ b) ++ c.behind) = subst (λ m. s ≡ c.ahead ++ (m ++ c.behind)) is c.parts in
-        let flat : s ≡ (c.ahead ++ f) ++ (b ++ c.behind) = parts ∙ sym (regrouped c.ahead f b c.behind) in
+        let parts : s ≡ c.ahead ++ ((f ++ b) ++ c.after) = subst (λ m. s ≡ c.ahead ++ (m ++ c.after)) is c.parts in
+        let flat : s ≡ (c.ahead ++ f) ++ (b ++ c.after) = parts ∙ sym (regrouped c.ahead f b c.after) in
         let d = subst IsDistinct parts held.distinct in
         let out' = subst (IsAbsent p) parts out in
         record {
           ahead = c.ahead;
-          behind = c.behind;
+          after = c.after;
           parts = flat;
           holds = record {
-            distinct = distinct_insert (c.ahead ++ f) (b ++ c.behind) p (subst IsDistinct flat held.distinct) (subst (IsAbsent p) flat out);
-            chained = subst (λ l. AreChained successor (BelongsIn table.slots (hash table.adapter) objects) new 0 l ((c.ahead ++ f) ++ p ∷ (b ++ c.behind))) (sym set)
-                (subst (AreChained successor (BelongsIn table.slots (hash table.adapter) objects) new 0 (slice_set (fronts table.buckets) k front)) (sym (regrouped c.ahead f (p ∷ b) c.behind))
+            distinct = distinct_insert (c.ahead ++ f) (b ++ c.after) p (subst IsDistinct flat held.distinct) (subst (IsAbsent p) flat out);
+            chained = subst (λ l. AreChained successor (BelongsIn table.slots (hash table.adapter) objects) new 0 l ((c.ahead ++ f) ++ p ∷ (b ++ c.after))) (sym set)
+                (subst (AreChained successor (BelongsIn table.slots (hash table.adapter) objects) new 0 (slice_set (fronts table.buckets) k front)) (sym (regrouped c.ahead f (p ∷ b) c.after))
                 (c.put (BelongsIn table.slots (hash table.adapter) objects) (λ j q n own. own) front (f ++ p ∷ b) (p ∷ (f ++ b)) shows (all_with Own f p b belongs (subst (AllByRecursion Own) is c.own))
-                (disjoint_cons p c.ahead (f ++ b) (absent_left p c.ahead ((f ++ b) ++ c.behind) out') (middle_ahead c.ahead (f ++ b) c.behind d))
-                (disjoint_cons p c.behind (f ++ b) (absent_right p (f ++ b) c.behind (absent_right p c.ahead ((f ++ b) ++ c.behind) out')) (middle_after c.ahead (f ++ b) c.behind d))
+                (disjoint_cons p c.ahead (f ++ b) (absent_left p c.ahead ((f ++ b) ++ c.after) out') (middle_ahead c.ahead (f ++ b) c.after d))
+                (disjoint_cons p c.after (f ++ b) (absent_right p (f ++ b) c.after (absent_right p c.ahead ((f ++ b) ++ c.after) out')) (middle_after c.ahead (f ++ b) c.after d))
                 frame.others));
-            placed = all_with Placed (c.ahead ++ f) p (b ++ c.behind) placed (subst (AllByRecursion Placed) flat held.placed);
-            counted = omega (arith, counted, held.counted, ap length flat, length-append (c.ahead ++ f) (b ++ c.behind), length-append (c.ahead ++ f) (p ∷ (b ++ c.behind)));
+            placed = all_with Placed (c.ahead ++ f) p (b ++ c.after) placed (subst (AllByRecursion Placed) flat held.placed);
+            counted = omega (arith, counted, held.counted, ap length flat, length-append (c.ahead ++ f) (b ++ c.after), length-append (c.ahead ++ f) (p ∷ (b ++ c.after)));
             well_formed = held.well_formed;
             enough = omega (arith, held.enough, ap length set, length-set (fronts table.buckets) k front);
           };
-          apart = λ x y member behind v w at_x at_y same.
+          apart = λ x y member after v w at_x at_y same.
               let up_to = all_both (UpTo table.slots (hash table.adapter) objects k) c.ahead f
               (all_map (λ q j. (j.0, omega (arith, j.1), j.2)) c.ahead c.ahead_below)
               (all_map (λ q b. (k, (omega arith), b)) f (all_front Own f b (subst (AllByRecursion Own) is c.own))) in
               let one = of_member (UpTo table.slots (hash table.adapter) objects k) (c.ahead ++ f) x up_to member in
-              let other = of_member (Above (BelongsIn table.slots (hash table.adapter) objects) k) c.behind y c.after_above behind in
+              let other = of_member (Above (BelongsIn table.slots (hash table.adapter) objects) k) c.after y c.after_above after in
               let e : one.0 ≡ other.0 = sym (one.2 v at_x) ∙ ap (slot_of table.slots) same ∙ other.2 w at_y in
               absurd (omega (arith, one.1, other.1, e));
         }
@@ -109,18 +109,18 @@ module _ {E A B V : Type 0} (successor : E → Successor) (hash : A → V → �
     held_taken a b held ahead back was shows frame counted =
         let c = chain_of held k used in
         let is : c.chain ≡ ahead ++ p ∷ back = chain_one c.shown was in
-        let Q : List Place → Type 0 = λ m. a ++ p ∷ b ≡ c.ahead ++ (m ++ c.behind) in
+        let Q : List Place → Type 0 = λ m. a ++ p ∷ b ≡ c.ahead ++ (m ++ c.after) in
         let parts : Q (ahead ++ p ∷ back) = subst Q is c.parts in
         let d = subst IsDistinct parts held.distinct in
-        let cut = one_cut a b (c.ahead ++ ahead) (back ++ c.behind) p held.distinct (parts ∙ ap (λ l. c.ahead ++ l) (append_assoc ahead (p ∷ back) c.behind) ∙ sym (append_assoc c.ahead ahead (p ∷ back ++ c.behind))) in
-        let rest : c.ahead ++ ((ahead ++ back) ++ c.behind) ≡ a ++ b =
-        ap (λ l. c.ahead ++ l) (append_assoc ahead back c.behind) ∙ sym (append_assoc c.ahead ahead (back ++ c.behind)) ∙ ap (λ l. l ++ (back ++ c.behind)) (sym cut.0) ∙ ap (λ l. a ++ l) (sym cut.1) in
+        let cut = one_cut a b (c.ahead ++ ahead) (back ++ c.after) p held.distinct (parts ∙ ap (λ l. c.ahead ++ l) (append_assoc ahead (p ∷ back) c.after) ∙ sym (append_assoc c.ahead ahead (p ∷ back ++ c.after))) in
+        let rest : c.ahead ++ ((ahead ++ back) ++ c.after) ≡ a ++ b =
+        ap (λ l. c.ahead ++ l) (append_assoc ahead back c.after) ∙ sym (append_assoc c.ahead ahead (back ++ c.after)) ∙ ap (λ l. l ++ (back ++ c.after)) (sym cut.0) ∙ ap (λ l. a ++ l) (sym cut.1) in
         record {
           distinct = distinct_remove a b p held.distinct;
           chained = subst (λ l. AreChained successor (BelongsIn table.slots (hash table.adapter) objects) new 0 l (a ++ b)) (sym set)
               (subst (AreChained successor (BelongsIn table.slots (hash table.adapter) objects) new 0 (slice_set (fronts table.buckets) k front)) rest
               (c.put (BelongsIn table.slots (hash table.adapter) objects) (λ j q n b. b) front (ahead ++ back) (ahead ++ p ∷ back) shows (all_without (BelongsIn table.slots (hash table.adapter) objects k) ahead p back (subst (AllByRecursion (BelongsIn table.slots (hash table.adapter) objects k)) is c.own))
-              (middle_ahead c.ahead (ahead ++ p ∷ back) c.behind d) (middle_after c.ahead (ahead ++ p ∷ back) c.behind d) frame.others));
+              (middle_ahead c.ahead (ahead ++ p ∷ back) c.after d) (middle_after c.ahead (ahead ++ p ∷ back) c.after d) frame.others));
           placed = all_without (λ q. IsSome (object_at objects q)) a p b held.placed;
           counted = omega (arith, counted, held.counted, length-append a (p ∷ b), length-append a b);
           well_formed = held.well_formed;
@@ -130,7 +130,7 @@ module _ {E A B V : Type 0} (successor : E → Successor) (hash : A → V → �
 -- THE FRAME over all members, of that over one chain
 module _ {E : Type 0} {successor : E → Successor} {Belongs : ℕ → Place → Type 0} {t : Table E} {k : ℕ} {fronts : List (Option Place)} {s : List Place} (c : Between successor Belongs t 0 k k fronts s) where
   pub absent_chain : (q : Place) → IsAbsent q s → IsAbsent q c.chain
-  absent_chain q out = absent_left q c.chain c.behind (absent_right q c.ahead (c.chain ++ c.behind) (subst (IsAbsent q) c.parts out))
+  absent_chain q out = absent_left q c.chain c.after (absent_right q c.ahead (c.chain ++ c.after) (subst (IsAbsent q) c.parts out))
 
   -- and a member of it is one of all
   pub of_chain : (ahead back : List Place) (q : Place) → RepresentsFrom successor t (slice_index_or fronts k None) (ahead ++ q ∷ back) → IsMember q s
@@ -149,19 +149,19 @@ module _ {E : Type 0} {successor : E → Successor} {Belongs : ℕ → Place →
 -- put in at a gap of a chain, it is put in somewhere
 pub held_with : {E A B V : Type 0} {successor : E → Successor} {hash : A → V → ℕ} {fronts : B → List (Option Place)} {t : Table E} {table : HashTable A B} {objects : Objects V} {s : List Place} {gap : Cut} {p : Place}
     → HoldsAt successor hash fronts t table objects s gap p → HoldsWith successor hash fronts t table objects s p
-held_with {gap = gap} h = (record { front = h.ahead ++ gap.front; back = gap.back ++ h.behind }, sym h.parts, h.holds)
+held_with {gap = gap} h = (record { front = h.ahead ++ gap.front; back = gap.back ++ h.after }, sym h.parts, h.holds)
 
 -- where a walk along its chain stopped, it is put in before the first member that passes
 pub held_before : {E A B V : Type 0} {successor : E → Successor} {hash : A → V → ℕ} {fronts : B → List (Option Place)} {t : Table E} {table : HashTable A B} {objects : Objects V} {is : Place → Bool}
     {s chain : List Place} {p : Place} {before : Option Place} (found : Option Place) (stop : StopsAt is chain before found) → Finds is s found
     → HoldsAt successor hash fronts t table objects s stop.gap p → HoldsBefore successor hash fronts t table objects is s p
 held_before found stop finds h = record {
-  gap = record { front = h.ahead ++ stop.gap.front; back = stop.gap.back ++ h.behind };
+  gap = record { front = h.ahead ++ stop.gap.front; back = stop.gap.back ++ h.after };
   whole = sym h.parts;
   holds = h.holds;
   found = found;
   finds = finds;
-  in_front = first_ahead found stop.gap.back h.behind stop.here;
+  in_front = first_ahead found stop.gap.back h.after stop.here;
 }
 
 -- what follows of an answer follows where it is one
@@ -175,7 +175,7 @@ pub some_counted : {E A B V : Type 0} {successor : E → Successor} {hash : A �
     → RepresentsFrom successor t (slice_index_or (fronts table.buckets) k None) (ahead ++ p ∷ back) → 1 ≤ table.len
 some_counted held k used ahead back p was =
     let c = chain_of held k used in
-    omega (arith, held.counted, ap length c.parts, length-append c.ahead (c.chain ++ c.behind), length-append c.chain c.behind, ap length (chain_one c.shown was), length-append ahead (p ∷ back))
+    omega (arith, held.counted, ap length c.parts, length-append c.ahead (c.chain ++ c.after), length-append c.chain c.after, ap length (chain_one c.shown was), length-append ahead (p ∷ back))
 
 -- the five facts of hash tables, over objects that stay
 pub hash_tables : {E A B V : Type 0} (successor : E → Successor) {linked : E → Bool} (hash : A → V → ℕ) (fronts : B → List (Option Place)) → ((e : E) → (successor e).linked ≡ linked e)

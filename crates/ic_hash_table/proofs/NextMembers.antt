@@ -68,9 +68,9 @@ all_chained {successor = successor} {hash = hash} {fronts = fronts} {t = t} {tab
 module _ {E A B V : Type 0} {successor : E → Successor} {hash : A → V → ℕ} {fronts : B → List (Option Place)} {t : Table E} {table : HashTable A B} {objects : Objects V} {s : List Place}
     (held : Holds successor hash fronts t table objects s) (k : ℕ) (used : k < table.slots.used) where
   -- the members after one chain, as the chains from there on
-  pub after_chained : AreChained successor (λ i p. ⊤) t (suc k) (drop (suc k) (fronts table.buckets)) (chain_of held k used).behind
+  pub after_chained : AreChained successor (λ i p. ⊤) t (suc k) (drop (suc k) (fronts table.buckets)) (chain_of held k used).after
   after_chained =
-      chains_weakened successor (BelongsIn table.slots (hash table.adapter) objects) (λ i p. ⊤) (λ i p b. tt) t (suc k) (drop (suc k) (fronts table.buckets)) (chain_of held k used).behind (chain_of held k used).more
+      chains_weakened successor (BelongsIn table.slots (hash table.adapter) objects) (λ i p. ⊤) (λ i p b. tt) t (suc k) (drop (suc k) (fronts table.buckets)) (chain_of held k used).after (chain_of held k used).more
 
   module _ (place : Place) (placed : IsSome (object_at objects place)) (belongs : BelongsIn table.slots (hash table.adapter) objects k place) where
     none_aside : (q : List Place) → AllByRecursion (Elsewhere (BelongsIn table.slots (hash table.adapter) objects) k) q → IsAbsent place q
@@ -79,29 +79,29 @@ module _ {E A B V : Type 0} {successor : E → Successor} {hash : A → V → �
     pub in_chain : IsMember place s → IsMember place (chain_of held k used).chain
     in_chain member out =
         let c = chain_of held k used in
-        member (subst (IsAbsent place) (sym c.parts) (absent_both place c.ahead (c.chain ++ c.behind) (none_aside c.ahead c.ahead_others) (absent_both place c.chain c.behind out (none_aside c.behind c.after_others))))
+        member (subst (IsAbsent place) (sym c.parts) (absent_both place c.ahead (c.chain ++ c.after) (none_aside c.ahead c.ahead_others) (absent_both place c.chain c.after out (none_aside c.after c.after_others))))
 
     -- the members after it: those of its chain, and those of the chains after
-    pub after_place : (front back : List Place) → s ≡ front ++ place ∷ back → (c1 c2 : List Place) × ((chain_of held k used).chain ≡ c1 ++ place ∷ c2) × (back ≡ c2 ++ (chain_of held k used).behind)
+    pub after_place : (front back : List Place) → s ≡ front ++ place ∷ back → (c1 c2 : List Place) × ((chain_of held k used).chain ≡ c1 ++ place ∷ c2) × (back ≡ c2 ++ (chain_of held k used).after)
     after_place front back is =
         let c = chain_of held k used in
         let m = member_split place c.chain (in_chain (λ out. split_member front place back (subst (IsAbsent place) is out))) in
-        let whole : front ++ place ∷ back ≡ (c.ahead ++ m.0) ++ place ∷ (m.1 ++ c.behind) =
-        sym is ∙ c.parts ∙ ap (λ l. c.ahead ++ (l ++ c.behind)) m.2 ∙ ap (λ l. c.ahead ++ l) (append_assoc m.0 (place ∷ m.1) c.behind) ∙ sym (append_assoc c.ahead m.0 (place ∷ m.1 ++ c.behind)) in
-        (m.0, m.1, m.2, (one_cut front back (c.ahead ++ m.0) (m.1 ++ c.behind) place (subst IsDistinct is held.distinct) whole).1)
+        let whole : front ++ place ∷ back ≡ (c.ahead ++ m.0) ++ place ∷ (m.1 ++ c.after) =
+        sym is ∙ c.parts ∙ ap (λ l. c.ahead ++ (l ++ c.after)) m.2 ∙ ap (λ l. c.ahead ++ l) (append_assoc m.0 (place ∷ m.1) c.after) ∙ sym (append_assoc c.ahead m.0 (place ∷ m.1 ++ c.after)) in
+        (m.0, m.1, m.2, (one_cut front back (c.ahead ++ m.0) (m.1 ++ c.after) place (subst IsDistinct is held.distinct) whole).1)
 
 -- a gap after a place
 pub gap_after : (gap : Cut) (place : Place) → Some place ≡ last gap.front → join gap ≡ but_last gap.front ++ place ∷ gap.back
 gap_after gap place after = ap (λ l. l ++ gap.back) (split_last gap.front (sym after)) ∙ append_assoc (but_last gap.front) (place ∷ []) gap.back
 
 -- the first after it: that of the chain, or where its chain ends that of the others
-pub first_is_chains : (next : Option Place) (c2 behind : List Place) → next ≡ first c2 → is_some next ≡ true → next ≡ first (c2 ++ behind)
-first_is_chains next [] behind is some = absurd (true≢false (sym some ∙ ap is_some is))
-first_is_chains next (x ∷ c2) behind is some = is
+pub first_is_chains : (next : Option Place) (c2 after : List Place) → next ≡ first c2 → is_some next ≡ true → next ≡ first (c2 ++ after)
+first_is_chains next [] after is some = absurd (true≢false (sym some ∙ ap is_some is))
+first_is_chains next (x ∷ c2) after is some = is
 
-pub first_is_others : (next : Option Place) (c2 behind : List Place) → next ≡ first c2 → is_some next ≡ false → first behind ≡ first (c2 ++ behind)
-first_is_others next [] behind is none = refl
-first_is_others next (x ∷ c2) behind is none = absurd (true≢false (sym (ap is_some is) ∙ none))
+pub first_is_others : (next : Option Place) (c2 after : List Place) → next ≡ first c2 → is_some next ≡ false → first after ≡ first (c2 ++ after)
+first_is_others next [] after is none = refl
+first_is_others next (x ∷ c2) after is none = absurd (true≢false (sym (ap is_some is) ∙ none))
 
 -- the chain of an object
 module _ {V : Type 0} (slots : Slots) (hash : V → ℕ) (objects : Objects V) (half : slots.mask / 2 < slots.used) where
@@ -122,7 +122,7 @@ module _ {E A B V : Type 0} {successor : E → Successor} {hash : A → V → �
       (all_back (λ p. IsSome (object_at objects p)) (but_last gap.front) (place ∷ gap.back) all).0
 
   module _ (k : ℕ) (used : k < table.slots.used) (belongs : BelongsIn table.slots (hash table.adapter) objects k place) where
-    pub stands_in : (c2 : List Place) × IsFollowed successor (t.entry place) None (first c2) × (gap.back ≡ c2 ++ (chain_of held k used).behind)
+    pub stands_in : (c2 : List Place) × IsFollowed successor (t.entry place) None (first c2) × (gap.back ≡ c2 ++ (chain_of held k used).after)
     stands_in =
         let b = after_place held k used place place_placed belongs (but_last gap.front) gap.back (gap_after gap place after) in
         let e = represents_middle b.0 b.1 ((subst (RepresentsFrom successor t (slice_index_or (fronts table.buckets) k None)) b.2 (chain_of held k used).shown)) in
@@ -151,12 +151,12 @@ rest_of_chain {successor = successor} {hash = hash} {fronts = fronts} {t = t} {t
     record {
       slot = k.0;
       rest = b.1;
-      others = c.behind;
+      others = c.after;
       linked = (represents_middle b.0 b.1 shown).linked;
       belongs = k.2;
       parts = b.3;
       shown = represents_after b.0 b.1 p shown refl;
-      placed = all_front (λ q. IsSome (object_at objects q)) b.1 c.behind (subst (AllByRecursion (λ q. IsSome (object_at objects q))) b.3 placed.1);
+      placed = all_front (λ q. IsSome (object_at objects q)) b.1 c.after (subst (AllByRecursion (λ q. IsSome (object_at objects q))) b.3 placed.1);
       elsewhere = c.after_others;
     }
 

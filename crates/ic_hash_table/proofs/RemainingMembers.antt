@@ -14,7 +14,7 @@ use Rattle.ic_link_ops.proofs.Walks.{yields_placed, makes_progress}
 use Rattle.ic_hash_table.specs.declared.iter.Iter.{Iter}
 use Rattle.ic_hash_table.specs.Chains.{AreChained}
 use Rattle.ic_hash_table.specs.HashTable.{BelongsIn, Holds}
-use Rattle.ic_hash_table.specs.Iter.{members_of, behind, objects_left, CanWalk}
+use Rattle.ic_hash_table.specs.Iter.{members_of, after, objects_left, CanWalk}
 use Rattle.ic_hash_table.proofs.FoundMembers.{not_place}
 use Rattle.ic_hash_table.proofs.NextMembers.{gap_after}
 
@@ -25,17 +25,17 @@ members_are successor t covered Belongs i [] s h = sym h
 members_are successor t covered Belongs i (f ∷ fs) s (chain, rest, is, shown, own, more) =
     ap (λ c. c ++ members_of successor t fs) (members_represented t covered (list_from f) chain shown) ∙ ap (λ r. chain ++ r) (members_are successor t covered Belongs (suc i) fs rest more) ∙ sym is
 
--- BEHIND A MEMBER stands what follows it, and after a gap its back
-pub after_member : (front back : List Place) (p : Place) → IsDistinct (front ++ p ∷ back) → behind (Some p) (front ++ p ∷ back) ≡ back
-after_member [] back p d = ap (λ b. cond b back (behind (Some p) back)) (eq-eqb p.word p.word refl)
+-- AFTER A MEMBER stands what follows it, and after a gap its back
+pub after_member : (front back : List Place) (p : Place) → IsDistinct (front ++ p ∷ back) → after (Some p) (front ++ p ∷ back) ≡ back
+after_member [] back p d = ap (λ b. cond b back (after (Some p) back)) (eq-eqb p.word p.word refl)
 after_member (x ∷ front) back p d =
-    ap (λ b. cond b (front ++ p ∷ back) (behind (Some p) (front ++ p ∷ back))) (not_place p x (λ e. (absent_right x front (p ∷ back) d.0).0 (sym e))) ∙ after_member front back p d.1
+    ap (λ b. cond b (front ++ p ∷ back) (after (Some p) (front ++ p ∷ back))) (not_place p x (λ e. (absent_right x front (p ∷ back) d.0).0 (sym e))) ∙ after_member front back p d.1
 
-after_gap : (gap : Cut) (at : Option Place) → IsDistinct (join gap) → IsAfter gap at → behind at (join gap) ≡ gap.back
-after_gap gap None d after = ap (λ l. l ++ gap.back) (nothing_last gap.front after)
-after_gap gap (Some p) d after =
-    let is = gap_after gap p after in
-    ap (behind (Some p)) is ∙ after_member (but_last gap.front) gap.back p (subst IsDistinct is d)
+after_gap : (gap : Cut) (at : Option Place) → IsDistinct (join gap) → IsAfter gap at → after at (join gap) ≡ gap.back
+after_gap gap None d is_after = ap (λ l. l ++ gap.back) (nothing_last gap.front is_after)
+after_gap gap (Some p) d is_after =
+    let is = gap_after gap p is_after in
+    ap (after (Some p)) is ∙ after_member (but_last gap.front) gap.back p (subst IsDistinct is d)
 
 -- what follows is placed
 pub back_placed : {A B L O V K E : Type 0} (successor : E → Successor) (table : L → Table E) (hash : A → V → ℕ) (fronts : B → List (Option Place)) (values : O → Objects V)
@@ -49,7 +49,7 @@ module _ {A B L O V K E : Type 0} (successor : E → Successor) (table : L → T
   pub left_is : (t : Iter A B L O V K) (can : CanWalk successor table hash fronts values t) → objects_left successor table fronts values t ≡ values_at (values t.objects.now) can.0.back
   left_is t can =
       let own = BelongsIn t.table.now.slots (hash t.table.now.adapter) (values t.objects.now) in
-      ap (λ s. values_at (values t.objects.now) (behind t.at s)) (members_are successor (table t.links.now) (law t.links.now) own 0 (fronts t.table.now.buckets) (join can.0) can.1.chained)
+      ap (λ s. values_at (values t.objects.now) (after t.at s)) (members_are successor (table t.links.now) (law t.links.now) own 0 (fronts t.table.now.buckets) (join can.0) can.1.chained)
       ∙ ap (values_at (values t.objects.now)) (after_gap can.0 t.at can.1.distinct can.2)
 
   -- where nothing follows, nothing is left

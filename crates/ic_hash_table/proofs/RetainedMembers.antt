@@ -6,21 +6,21 @@ use Rattle.ic_link_ops.proofs.SequenceLemmas.{absent_without, first_is, none_not
 use Rattle.ic_link_ops.proofs.StepLemmas.{releases_append}
 use Rattle.ic_hash_table.specs.declared.table.HashTable.{HashTable}
 use Rattle.ic_hash_table.specs.HashTable.{BelongsIn, Holds}
-use Rattle.ic_hash_table.specs.Iter.{members_of, behind}
+use Rattle.ic_hash_table.specs.Iter.{members_of, after}
 use Rattle.ic_hash_table.specs.Retained.{TellsAt, AreAnswers, passing, failing}
 use Rattle.ic_hash_table.proofs.RemainingMembers.{members_are, after_member}
 
 -- the members of s from this one on, and of none none
 abbrev pub ahead_of : Option Place → List Place → List Place
 ahead_of None s = []
-ahead_of (Some p) s = p ∷ behind (Some p) s
+ahead_of (Some p) s = p ∷ after (Some p) s
 
 ahead_is : (front back : List Place) (at : Option Place) → IsDistinct (front ++ back) → at ≡ first back → ahead_of at (front ++ back) ≡ back
 ahead_is front [] None d here = refl
 ahead_is front [] (Some p) d here = absurd (none_not p (sym here))
 ahead_is front (x ∷ back) None d here = absurd (none_not x here)
 ahead_is front (x ∷ back) (Some p) d here =
-    subst (λ y. y ∷ behind (Some y) (front ++ x ∷ back) ≡ x ∷ back) (sym (some_same here)) (ap (λ l. x ∷ l) (after_member front back x d))
+    subst (λ y. y ∷ after (Some y) (front ++ x ∷ back) ≡ x ∷ back) (sym (some_same here)) (ap (λ l. x ∷ l) (after_member front back x d))
 
 module _ {L E A B V F : Type 0} (successor : E → Successor) (table : L → Table E) (Trace : L → L → List LinkStep → Type 0) (hash : A → V → ℕ) (fronts : B → List (Option Place)) (objects : Objects V)
     (tells : F → V → Bool → F → Type 0) where

@@ -28,36 +28,36 @@ module _ {E : Type 0} (successor : E → Successor) (Belongs Fewer : ℕ → Pla
   pub last_chain : Between successor Belongs old 0 last last fronts s
   last_chain = chain_at successor Belongs old 0 last last fronts s (omega arith) within chained
 
-  without_last : AreChained successor Fewer old 0 (slice_set fronts last None) (last_chain.ahead ++ last_chain.behind)
-  without_last = last_chain.put Fewer others None [] [] (nothing_represented old) tt (disjoint_nothing last_chain.ahead) (disjoint_nothing last_chain.behind) (λ q out. refl)
+  without_last : AreChained successor Fewer old 0 (slice_set fronts last None) (last_chain.ahead ++ last_chain.after)
+  without_last = last_chain.put Fewer others None [] [] (nothing_represented old) tt (disjoint_nothing last_chain.ahead) (disjoint_nothing last_chain.after) (λ q out. refl)
 
-  pub joined_chain : Between successor Fewer old 0 to to (slice_set fronts last None) (last_chain.ahead ++ last_chain.behind)
-  joined_chain = chain_at successor Fewer old 0 to to (slice_set fronts last None) (last_chain.ahead ++ last_chain.behind) (omega arith) (omega (arith, less, within, length-set fronts last None)) without_last
+  pub joined_chain : Between successor Fewer old 0 to to (slice_set fronts last None) (last_chain.ahead ++ last_chain.after)
+  joined_chain = chain_at successor Fewer old 0 to to (slice_set fronts last None) (last_chain.ahead ++ last_chain.after) (omega arith) (omega (arith, less, within, length-set fronts last None)) without_last
 
   pub joined_represented : RepresentsFrom successor old (slice_index_or fronts to None) joined_chain.chain
   joined_represented = subst (λ f. RepresentsFrom successor old f joined_chain.chain) (get_or-set_other fronts last to None None (λ e. absurd (omega (arith, less, e)))) joined_chain.shown
 
   -- the members, with those of the last chain before those of the other
   abbrev pub joined : List Place
-  joined = joined_chain.ahead ++ ((last_chain.chain ++ joined_chain.chain) ++ joined_chain.behind)
+  joined = joined_chain.ahead ++ ((last_chain.chain ++ joined_chain.chain) ++ joined_chain.after)
 
-  whole : IsDistinct (last_chain.ahead ++ (last_chain.chain ++ last_chain.behind))
+  whole : IsDistinct (last_chain.ahead ++ (last_chain.chain ++ last_chain.after))
   whole = subst IsDistinct last_chain.parts distinct
 
   pub joined_distinct : IsDistinct joined
   joined_distinct =
       let l = last_chain in
       let j = joined_chain in
-      subst (λ m. IsDistinct (j.ahead ++ m)) (sym (append_assoc l.chain j.chain j.behind))
-      (distinct_splice j.ahead l.chain (j.chain ++ j.behind) (subst IsDistinct j.parts (without_middle l.ahead l.chain l.behind whole))
-      (distinct_left l.chain l.behind (distinct_right l.ahead (l.chain ++ l.behind) whole)) (subst (IsDisjoint l.chain) j.parts (middle_apart l.ahead l.chain l.behind whole)))
+      subst (λ m. IsDistinct (j.ahead ++ m)) (sym (append_assoc l.chain j.chain j.after))
+      (distinct_splice j.ahead l.chain (j.chain ++ j.after) (subst IsDistinct j.parts (without_middle l.ahead l.chain l.after whole))
+      (distinct_left l.chain l.after (distinct_right l.ahead (l.chain ++ l.after) whole)) (subst (IsDisjoint l.chain) j.parts (middle_apart l.ahead l.chain l.after whole)))
 
   -- the two share no member
   pub chains_apart : IsDisjoint last_chain.chain joined_chain.chain
   chains_apart =
       let l = last_chain in
       let j = joined_chain in
-      distinct_disjoint l.chain j.chain (distinct_left (l.chain ++ j.chain) j.behind (distinct_right j.ahead ((l.chain ++ j.chain) ++ j.behind) joined_distinct))
+      distinct_disjoint l.chain j.chain (distinct_left (l.chain ++ j.chain) j.after (distinct_right j.ahead ((l.chain ++ j.chain) ++ j.after) joined_distinct))
 
   -- and all members are the old ones
   pub joined_within : (q : Place) → IsAbsent q s → IsAbsent q joined
@@ -65,30 +65,30 @@ module _ {E : Type 0} (successor : E → Successor) (Belongs Fewer : ℕ → Pla
       let l = last_chain in
       let j = joined_chain in
       let a = subst (IsAbsent q) l.parts out in
-      let tail = absent_right q l.ahead (l.chain ++ l.behind) a in
-      let rest = subst (IsAbsent q) j.parts (absent_both q l.ahead l.behind (absent_left q l.ahead (l.chain ++ l.behind) a) (absent_right q l.chain l.behind tail)) in
-      let end = absent_right q j.ahead (j.chain ++ j.behind) rest in
-      absent_both q j.ahead ((l.chain ++ j.chain) ++ j.behind) (absent_left q j.ahead (j.chain ++ j.behind) rest)
-      (absent_both q (l.chain ++ j.chain) j.behind (absent_both q l.chain j.chain (absent_left q l.chain l.behind tail) (absent_left q j.chain j.behind end)) (absent_right q j.chain j.behind end))
+      let tail = absent_right q l.ahead (l.chain ++ l.after) a in
+      let rest = subst (IsAbsent q) j.parts (absent_both q l.ahead l.after (absent_left q l.ahead (l.chain ++ l.after) a) (absent_right q l.chain l.after tail)) in
+      let end = absent_right q j.ahead (j.chain ++ j.after) rest in
+      absent_both q j.ahead ((l.chain ++ j.chain) ++ j.after) (absent_left q j.ahead (j.chain ++ j.after) rest)
+      (absent_both q (l.chain ++ j.chain) j.after (absent_both q l.chain j.chain (absent_left q l.chain l.after tail) (absent_left q j.chain j.after end)) (absent_right q j.chain j.after end))
 
   pub joined_all : (q : Place) → IsAbsent q joined → IsAbsent q s
   joined_all q out =
       let l = last_chain in
       let j = joined_chain in
-      let tail = absent_right q j.ahead ((l.chain ++ j.chain) ++ j.behind) out in
-      let both = absent_left q (l.chain ++ j.chain) j.behind tail in
-      let rest = absent_both q j.ahead (j.chain ++ j.behind) (absent_left q j.ahead ((l.chain ++ j.chain) ++ j.behind) out)
-      (absent_both q j.chain j.behind (absent_right q l.chain j.chain both) (absent_right q (l.chain ++ j.chain) j.behind tail)) in
+      let tail = absent_right q j.ahead ((l.chain ++ j.chain) ++ j.after) out in
+      let both = absent_left q (l.chain ++ j.chain) j.after tail in
+      let rest = absent_both q j.ahead (j.chain ++ j.after) (absent_left q j.ahead ((l.chain ++ j.chain) ++ j.after) out)
+      (absent_both q j.chain j.after (absent_right q l.chain j.chain both) (absent_right q (l.chain ++ j.chain) j.after tail)) in
       let beside = subst (IsAbsent q) (sym j.parts) rest in
       subst (IsAbsent q) (sym l.parts)
-      (absent_both q l.ahead (l.chain ++ l.behind) (absent_left q l.ahead l.behind beside) (absent_both q l.chain l.behind (absent_left q l.chain j.chain both) (absent_right q l.ahead l.behind beside)))
+      (absent_both q l.ahead (l.chain ++ l.after) (absent_left q l.ahead l.after beside) (absent_both q l.chain l.after (absent_left q l.chain j.chain both) (absent_right q l.ahead l.after beside)))
 
   pub joined_frame : {new : Table E} → ChangesOnlyIn old new (last_chain.chain ++ joined_chain.chain) → ChangesOnlyIn old new s
   joined_frame frame =
       let l = last_chain in
       let j = joined_chain in record {
         extent = frame.extent;
-        others = λ q out. frame.others q (absent_left q (l.chain ++ j.chain) j.behind (absent_right q j.ahead ((l.chain ++ j.chain) ++ j.behind) (joined_within q out)));
+        others = λ q out. frame.others q (absent_left q (l.chain ++ j.chain) j.after (absent_right q j.ahead ((l.chain ++ j.chain) ++ j.after) (joined_within q out)));
       }
 
   pub joined_length : length joined ≡ length s
@@ -98,14 +98,14 @@ module _ {E : Type 0} (successor : E → Successor) (Belongs Fewer : ℕ → Pla
       omega (
         arith,
         ap length l.parts,
-        length-append l.ahead (l.chain ++ l.behind),
-        length-append l.chain l.behind,
+        length-append l.ahead (l.chain ++ l.after),
+        length-append l.chain l.after,
         ap length j.parts,
-        length-append l.ahead l.behind,
-        length-append j.ahead (j.chain ++ j.behind),
-        length-append j.chain j.behind,
-        length-append j.ahead ((l.chain ++ j.chain) ++ j.behind),
-        length-append (l.chain ++ j.chain) j.behind,
+        length-append l.ahead l.after,
+        length-append j.ahead (j.chain ++ j.after),
+        length-append j.chain j.after,
+        length-append j.ahead ((l.chain ++ j.chain) ++ j.after),
+        length-append (l.chain ++ j.chain) j.after,
         length-append l.chain j.chain,
       )
 
@@ -115,7 +115,7 @@ module _ {E : Type 0} (successor : E → Successor) (Belongs Fewer : ℕ → Pla
       let l = last_chain in
       let j = joined_chain in
       j.put Fewer (λ i p n b. b) front (l.chain ++ j.chain) (l.chain ++ j.chain) shown (all_both (Fewer to) l.chain j.chain (all_map moved l.chain l.own) j.own)
-      (middle_ahead j.ahead (l.chain ++ j.chain) j.behind joined_distinct) (middle_after j.ahead (l.chain ++ j.chain) j.behind joined_distinct) frame.others
+      (middle_ahead j.ahead (l.chain ++ j.chain) j.after joined_distinct) (middle_after j.ahead (l.chain ++ j.chain) j.after joined_distinct) frame.others
 
   -- ALIKE MEMBERS STAND SIDE BY SIDE STILL: none of the last chain is alike one of the other
   pub joined_beside : {alike : Place → Place → Bool} → BelongTogether Belongs alike → BelongTogether Fewer alike → AreSideBySide alike s → AreSideBySide alike joined
@@ -124,15 +124,15 @@ module _ {E : Type 0} (successor : E → Successor) (Belongs Fewer : ℕ → Pla
       let j = joined_chain in
       let Elsewhere : Place → Type 0 = λ p. (i : ℕ) × (i ≢ last) × Belongs i p in
       let split = subst (AreSideBySide alike) l.parts side in
-      let rest = back_beside alike l.ahead (l.chain ++ l.behind) split in
-      let beside = middle_beside Belongs alike together last l.ahead [] l.behind (front_beside alike l.ahead (l.chain ++ l.behind) split) tt (back_beside alike l.chain l.behind rest) l.ahead_below tt l.after_above in
+      let rest = back_beside alike l.ahead (l.chain ++ l.after) split in
+      let beside = middle_beside Belongs alike together last l.ahead [] l.after (front_beside alike l.ahead (l.chain ++ l.after) split) tt (back_beside alike l.chain l.after rest) l.ahead_below tt l.after_above in
       let parts = subst (AreSideBySide alike) j.parts beside in
-      let end = back_beside alike j.ahead (j.chain ++ j.behind) parts in
-      let others = subst (AllByRecursion Elsewhere) j.parts (all_both Elsewhere l.ahead l.behind l.ahead_others l.after_others) in
-      let strangers = all_front Elsewhere j.chain j.behind (all_back Elsewhere j.ahead (j.chain ++ j.behind) others) in
-      let both = join_beside alike l.chain j.chain (front_beside alike l.chain l.behind rest) (front_beside alike j.chain j.behind end)
+      let end = back_beside alike j.ahead (j.chain ++ j.after) parts in
+      let others = subst (AllByRecursion Elsewhere) j.parts (all_both Elsewhere l.ahead l.after l.ahead_others l.after_others) in
+      let strangers = all_front Elsewhere j.chain j.after (all_back Elsewhere j.ahead (j.chain ++ j.after) others) in
+      let both = join_beside alike l.chain j.chain (front_beside alike l.chain l.after rest) (front_beside alike j.chain j.after end)
       (in_others Belongs alike together (λ i. i ≡ last) (λ i. i ≢ last) (λ i e other. other e) l.chain j.chain (all_map (λ p o. (last, refl, o)) l.chain l.own) strangers) in
-      middle_beside Fewer alike fewer to j.ahead (l.chain ++ j.chain) j.behind (front_beside alike j.ahead (j.chain ++ j.behind) parts) both (back_beside alike j.chain j.behind end)
+      middle_beside Fewer alike fewer to j.ahead (l.chain ++ j.chain) j.after (front_beside alike j.ahead (j.chain ++ j.after) parts) both (back_beside alike j.chain j.after end)
       j.ahead_below (all_both (Fewer to) l.chain j.chain (all_map moved l.chain l.own) j.own) j.after_above
 
 -- where fewer chains are in use, what belongs in another than the last belongs there still, and what belonged in the last goes back

@@ -32,10 +32,10 @@ module _ (Belongs : ℕ → Place → Type 0) (alike : Place → Place → Bool)
   -- ONE CHAIN between the others
   pub middle_beside : (n : ℕ) (a m b : List Place) → AreSideBySide alike a → AreSideBySide alike m → AreSideBySide alike b
       → AllByRecursion (Below Belongs n) a → AllByRecursion (Belongs n) m → AllByRecursion (Above Belongs n) b → AreSideBySide alike (a ++ (m ++ b))
-  middle_beside n a m b ahead middle behind below own above =
+  middle_beside n a m b ahead middle after below own above =
       let rest = all_both (In (λ j. n ≤ j)) m b (all_map (λ p o. (n, omega arith, o)) m own) (all_map (λ p k. (k.0, omega (arith, k.1), k.2)) b above) in
       join_beside alike a (m ++ b) ahead
-      (join_beside alike m b middle behind (in_others (λ j. j ≡ n) (λ j. n < j) (λ i e less. omega (arith, e, less)) m b (all_map (λ p o. (n, refl, o)) m own) above))
+      (join_beside alike m b middle after (in_others (λ j. j ≡ n) (λ j. n < j) (λ i e less. omega (arith, e, less)) m b (all_map (λ p o. (n, refl, o)) m own) above))
       (in_others (λ j. j < n) (λ j. n ≤ j) (λ i less more. omega (arith, less, more)) a (m ++ b) below rest)
 
 -- MEMBERS WITH EQUAL KEYS belong together, since their numbers are equal

@@ -62,7 +62,7 @@ module _ {is : Place → Bool} {same : Place → Place → Bool} (laws : IsParti
   in_front f b q side none here =
       let out : (x : Place) → IsMember x f → same x p ≡ true → ⊥ = λ x member e. strange x (of_member (λ x. is x ≡ false) f x none member) e in
       put_beside same p f (q ∷ b) side
-      (λ x y member behind e. out x member (laws.trans x q p (spans same laws f b q side x y member behind e) (laws.symm q p ∙ is_same q ∙ here)))
+      (λ x y member after e. out x member (laws.trans x q p (spans same laws f b q side x y member after e) (laws.symm q p ∙ is_same q ∙ here)))
       out
       (λ y member e. is_same q ∙ here)
 
@@ -78,20 +78,20 @@ module _ {is : Place → Bool} {same : Place → Place → Bool} (laws : IsParti
       → (h : HoldsAt successor hash fronts t table objects s stop.gap p) → (u : List Place) × Holds successor hash fronts t table objects u × AreSideBySide same u
   beside_put numbers {s = s} None stop d none side h =
       let f = h.ahead ++ stop.gap.front in
-      let b = stop.gap.back ++ h.behind in
-      let over : b ≡ h.behind = ap (λ l. l ++ h.behind) (nothing_first stop.gap.back stop.here) in (
+      let b = stop.gap.back ++ h.after in
+      let over : b ≡ h.after = ap (λ l. l ++ h.after) (nothing_first stop.gap.back stop.here) in (
         f ++ p ∷ b,
         h.holds,
         at_end f b (subst (AreSideBySide same) h.parts side) (subst (AllByRecursion (λ x. is x ≡ false)) h.parts none)
-            (λ x y member behind e. numbers x y e (h.apart x y member (subst (IsMember y) over behind))),
+            (λ x y member after e. numbers x y e (h.apart x y member (subst (IsMember y) over after))),
       )
   beside_put numbers {s = s} (Some q) stop d found side h =
       let f = h.ahead ++ stop.gap.front in
-      let rest = drop 1 stop.gap.back ++ h.behind in
-      let here : stop.gap.back ++ h.behind ≡ q ∷ rest = ap (λ l. l ++ h.behind) (first_is stop.gap.back stop.here) in
+      let rest = drop 1 stop.gap.back ++ h.after in
+      let here : stop.gap.back ++ h.after ≡ q ∷ rest = ap (λ l. l ++ h.after) (first_is stop.gap.back stop.here) in
       let whole : s ≡ f ++ q ∷ rest = h.parts ∙ ap (λ b. f ++ b) here in
       let cut = one_cut found.0 found.1 f rest q (subst IsDistinct found.2 d) (sym found.2 ∙ whole) in (
-        f ++ p ∷ (stop.gap.back ++ h.behind),
+        f ++ p ∷ (stop.gap.back ++ h.after),
         h.holds,
         subst (λ b. AreSideBySide same (f ++ p ∷ b)) (sym here)
             (in_front f rest q (subst (AreSideBySide same) whole side) (subst (AllByRecursion (λ x. is x ≡ false)) cut.0 found.3) found.4),

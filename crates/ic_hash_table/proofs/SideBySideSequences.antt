@@ -38,18 +38,18 @@ module _ (alike : Place → Place → Bool) where
 module _ (alike : Place → Place → Bool) (laws : IsPartialEquivalence alike) where
   -- WHAT SPANS A GAP is alike the member right after it
   pub spans : (f b : List Place) (q : Place) → AreSideBySide alike (f ++ q ∷ b) → (x y : Place) → IsMember x f → IsMember y (q ∷ b) → alike x y ≡ true → alike x q ≡ true
-  spans [] b q side x y member behind same = absurd (member tt)
-  spans (z ∷ []) b q side x y member behind same = elim (same_or_not x z) [
-    | inl e ↦ subst (λ x. alike x q ≡ true) (sym e) (side.0 y behind (subst (λ x. alike x y ≡ true) e same))
+  spans [] b q side x y member after same = absurd (member tt)
+  spans (z ∷ []) b q side x y member after same = elim (same_or_not x z) [
+    | inl e ↦ subst (λ x. alike x q ≡ true) (sym e) (side.0 y after (subst (λ x. alike x y ≡ true) e same))
     | inr other ↦ absurd (member (other, tt))
   ]
-  spans (z ∷ w ∷ f) b q side x y member behind same = elim (same_or_not x z) [
+  spans (z ∷ w ∷ f) b q side x y member after same = elim (same_or_not x z) [
     | inl e ↦
         let here : alike z y ≡ true = subst (λ x. alike x y ≡ true) e same in
-        let next : alike z w ≡ true = side.0 y (λ out. behind (absent_right y (w ∷ f) (q ∷ b) out)) here in
-        let on : alike w q ≡ true = spans (w ∷ f) b q side.1 w y (λ out. out.0 refl) behind (laws.trans w z y (laws.symm w z ∙ next) here) in
+        let next : alike z w ≡ true = side.0 y (λ out. after (absent_right y (w ∷ f) (q ∷ b) out)) here in
+        let on : alike w q ≡ true = spans (w ∷ f) b q side.1 w y (λ out. out.0 refl) after (laws.trans w z y (laws.symm w z ∙ next) here) in
         subst (λ x. alike x q ≡ true) (sym e) (laws.trans z w q next on)
-    | inr other ↦ spans (w ∷ f) b q side.1 x y (λ out. member (other, out)) behind same
+    | inr other ↦ spans (w ∷ f) b q side.1 x y (λ out. member (other, out)) after same
   ]
 
   -- A MEMBER IS TAKEN OUT

@@ -54,7 +54,7 @@ module _ {W : Type 0} {front_of : W → Option Place} {fronts : List W → List 
   pub fronts_set : (words : List W) (i : ℕ) (w : W) (front : Option Place) → front_of w ≡ front → fronts (set words i w) ≡ set (fronts words) i front
   fronts_set words i w front e = are (set words i w) ∙ map-set front_of words i w ∙ ap (λ f. set (map front_of words) i f) e ∙ ap (λ l. set l i front) (sym (are words))
 
-  -- as many words name as many places
+  -- the row of places is as long as the row of words
   pub fronts_alike : (vs ws : List W) → length ws ≡ length vs → length (fronts ws) ≡ length (fronts vs)
   fronts_alike vs ws e = sym (fronts_count ws) ∙ e ∙ fronts_count vs
 

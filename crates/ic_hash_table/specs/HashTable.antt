@@ -10,7 +10,7 @@ use Rattle.ic_hash_table.specs.Chains.{AreChained}
 use Rattle.ic_hash_table.specs.Searches.{Finds}
 
 module _ {A B : Type 0} where
-  -- the adapter that a table was made with, how many members it has counted, and in which chains it puts them
+  -- the adapter of a table, how many members it has counted, and the slots that assign them to chains
   abbrev pub adapter_of : HashTable A B → A
   adapter_of table = table.adapter
 
@@ -20,7 +20,7 @@ module _ {A B : Type 0} where
   abbrev pub slots_of : HashTable A B → Slots
   slots_of table = table.slots
 
-  -- the first members of its chains, and that of the chain where a number belongs
+  -- the first members of its chains, and the first member of the chain where a number belongs
   abbrev pub fronts_of : (B → List (Option Place)) → HashTable A B → List (Option Place)
   fronts_of fronts table = fronts table.buckets
 
@@ -31,12 +31,13 @@ module _ {A B : Type 0} where
   abbrev pub buckets_of : HashTable A B → B
   buckets_of table = table.buckets
 
-  -- IT HAS ITS BUCKETS STILL: as many, in the same memory, and each has the word that it had, or that of its first member now
+  -- THE TABLE KEEPS ITS BUCKETS: as many, in the same memory, and each has the word that it had, or the word of its present
+  -- first member
   pub record KeepsBuckets (fronts : B → List (Option Place)) (Rewrites : B → B → Type 0) (old new : HashTable A B) : Type 0 where
     pub count : length (fronts new.buckets) ≡ length (fronts old.buckets)
     pub rewrites : Rewrites old.buckets new.buckets
 
-  -- ITS CHAINS ARE WELL FORMED and within its buckets, as those of each table that a call has made
+  -- ITS CHAINS ARE WELL FORMED and within its buckets. This holds for each table that a call has made
   pub record HasChains (fronts : B → List (Option Place)) (table : HashTable A B) : Type 0 where
     pub well_formed : IsWellFormed table.slots
     pub enough : table.slots.used ≤ length (fronts table.buckets)
@@ -56,18 +57,19 @@ pub record IsRepresented {E A B : Type 0} (successor : E → Successor) (fronts 
   pub enough : table.slots.used ≤ length (fronts table.buckets)
 
 module _ {E A B : Type 0} (successor : E → Successor) (fronts : B → List (Option Place)) (Rewrites : B → B → Type 0) where
-  -- AN EDIT LEAVES what is beside its chains: the adapter, the buckets, and the entry of each place but its members and these
+  -- AN EDIT KEEPS all except the chains: the adapter, the buckets, and the entry of each place other than its members and
+  -- these
   pub record ChangesOnlyInChains (old new : Table E) (table table' : HashTable A B) (places : List Place) : Type 0 where
     pub adapter : adapter_of table' ≡ adapter_of table
     pub buckets : KeepsBuckets fronts Rewrites table table'
     pub frame : (s : List Place) → IsRepresented successor fronts old table s → ChangesOnlyIn old new (places ++ s)
 
-  -- and it leaves which chains are in use
+  -- such an edit, which also leaves the same chains in use
   pub record ChangesOnlyInMembers (old new : Table E) (table table' : HashTable A B) (places : List Place) : Type 0 where
     pub chains : ChangesOnlyInChains old new table table' places
     pub slots : slots_of table' ≡ slots_of table
 
--- the number of a value: that of its key
+-- the number of a value: the hash of its key
 abbrev pub number : {A V K : Type 0} → (A → V → K) → (A → K → ℕ) → A → V → ℕ
 number key_of hash_of adapter value = hash_of adapter (key_of adapter value)
 
@@ -81,7 +83,8 @@ DifferInNumber {V} hash objects x y = (v w : V) → object_at objects x ≡ Some
 
 -- `hash`: the number of a value. `fronts`: the first members of the chains
 module _ {E A B V : Type 0} (successor : E → Successor) (hash : A → V → ℕ) (fronts : B → List (Option Place)) where
-  -- THE TABLE HOLDS s: its chains have the members s, each in the chain of its number, no place twice, and an object stands at each
+  -- THE TABLE HOLDS s: its chains have the members s, each in the chain of its number, no place twice, and each member has an
+  -- object
   pub record Holds (t : Table E) (table : HashTable A B) (objects : Objects V) (s : List Place) : Type 0 where
     pub distinct : IsDistinct s
     pub chained : AreChained successor (BelongsIn table.slots (hash table.adapter) objects) t 0 (fronts table.buckets) s
@@ -90,24 +93,24 @@ module _ {E A B V : Type 0} (successor : E → Successor) (hash : A → V → �
     pub well_formed : IsWellFormed table.slots
     pub enough : table.slots.used ≤ length (fronts table.buckets)
 
-  -- it holds some sequence
+  -- the table holds some sequence
   abbrev pub HoldsSome : Table E → HashTable A B → Objects V → Type 0
   HoldsSome t table objects = (s : List Place) × Holds t table objects s
 
-  -- it holds s with p put in somewhere
+  -- the table holds s with p inserted somewhere
   abbrev pub HoldsWith : Table E → HashTable A B → Objects V → List Place → Place → Type 0
   HoldsWith t table objects s p = (gap : Cut) × (join gap ≡ s) × Holds t table objects (insert gap p)
 
-  -- it holds s with p put in at this gap of one of its chains
+  -- the table holds s with p inserted at this gap of one of its chains
   pub record HoldsAt (t : Table E) (table : HashTable A B) (objects : Objects V) (s : List Place) (gap : Cut) (p : Place) : Type 0 where
     pub ahead : List Place
-    pub behind : List Place
-    pub parts : s ≡ (ahead ++ gap.front) ++ (gap.back ++ behind)
-    pub holds : Holds t table objects ((ahead ++ gap.front) ++ p ∷ (gap.back ++ behind))
-    -- no member up to the gap has the number of one after the chain
-    pub apart : (x y : Place) → IsMember x (ahead ++ gap.front) → IsMember y behind → DifferInNumber (hash table.adapter) objects x y
+    pub after : List Place
+    pub parts : s ≡ (ahead ++ gap.front) ++ (gap.back ++ after)
+    pub holds : Holds t table objects ((ahead ++ gap.front) ++ p ∷ (gap.back ++ after))
+    -- no member up to the gap has the same number as a member after the chain
+    pub apart : (x y : Place) → IsMember x (ahead ++ gap.front) → IsMember y after → DifferInNumber (hash table.adapter) objects x y
 
-  -- it holds s with p put in: directly before the first member that passes, where one does
+  -- the table holds s with p inserted: directly before the first member that passes, if one does
   pub record HoldsBefore (t : Table E) (table : HashTable A B) (objects : Objects V) (is : Place → Bool) (s : List Place) (p : Place) : Type 0 where
     pub gap : Cut
     pub whole : join gap ≡ s

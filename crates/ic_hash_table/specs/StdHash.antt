@@ -1,17 +1,17 @@
--- What a hasher of std makes of a key.
+-- How a hasher of std hashes a key.
 use Rattle.std.specs.Prelude.{ℕ, List}
 use Rattle.std.specs.List.{fold}
 use Rattle.ic_hash_table.specs.declared.std_hash.StdHash.{StdHash}
 
 module _ {G S : Type 0} where
-  -- what gives the keys, and what makes the hashers
+  -- the part of the adapter that finds the keys, and the one that makes the hashers
   abbrev pub keys_of : StdHash G S → G
   keys_of a = a.keys
 
   abbrev pub state_of : StdHash G S → S
   state_of a = a.state
 
-  -- the hash of what a key writes, and that of a key
+  -- the hash of the data that a key writes, and the hash of a key
   module _ {H : Type 0} (build_hasher : S → H) (write : H → List ℕ → H) (finish : H → ℕ) where
     abbrev pub hash_of_writes : StdHash G S → List (List ℕ) → ℕ
     hash_of_writes a writes = finish (fold write (build_hasher (state_of a)) writes)

@@ -17,15 +17,15 @@
 
 ghost use Rattle.std.specs.Prelude.{◌≡◌, ℕ, IsTrue};
 
-/// Says which part of an object is its key, and gives a hash for each key.
+/// An adapter says which part of an object is its key, and computes a hash of each key.
 ///
-/// Key and hash are functions of adapter and value: while a value is not changed, both are the same. All that is required of the hashes is
-/// that equal keys have the same one. How far a search walks depends on how well they spread; what it finds does not.
+/// The key and the hash are functions of the adapter and the value: while a value is not changed, both stay the same. The only requirement
+/// is that equal keys have the same hash. How well the hashes spread determines how far a search walks, but not what it finds.
 pub trait HashAdapter: Copy {
-    /// What is placed: the objects whose keys the adapter gives.
+    /// The type of the objects whose keys the adapter returns.
     type Value;
 
-    /// What the table compares, by its `Eq`.
+    /// The type of the keys, which the table compares by its `Eq`.
     type Key: Eq;
 
     // The key of a value.
@@ -38,7 +38,7 @@ pub trait HashAdapter: Copy {
     fn get_key<'v>(&self, value: &'v Self::Value) -> &'v Self::Key
         ensures { result.now ≡ key_of self.now value.now };
 
-    /// The hash of `key`. Its bits from the lowest on choose the chain.
+    /// The hash of `key`. The lowest bits choose the chain.
     fn hash(&self, key: &Self::Key) -> u64
         ensures { result ≡ hash_of self.now key.now };
 

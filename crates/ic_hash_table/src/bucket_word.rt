@@ -11,9 +11,9 @@ ghost use Rattle.ic_link_ops.specs.Widths.{HasRoom, narrow};
 use ic_link_ops::{LinkOps, NarrowPlaceWord, PlaceWord};
 use ic_unsafe_ref::Place;
 
-/// A word that keeps the first member of a chain, or none: a bucket.
+/// A bucket: a word that stores the first member of a chain, or none.
 pub trait BucketWord: Drop {
-    // The place that a word names, none where it names no place.
+    // The place that a word names, none if it names no place.
     ghost front_of: { Self → Option Place };
 
     // The places that a row of words names.
@@ -30,17 +30,18 @@ pub trait BucketWord: Drop {
         requires kept { IsNameable CanKeep front }
         ensures { result ≡ word_for front };
 
-    /// The place, or none where the word names no place. O(1).
+    /// The place, or `None` if the word names no place. O(1).
     fn get(&self) -> Option<Place>
         ensures { result ≡ front_of self.now };
 
-    // The laws: a row names what each of its words names, and a word that has room for a place names it.
+    // The laws: a row names the places that its words name, and the word of a place that has room for it names that
+    // place.
     ghost fronts_are: { (words : List Self) → fronts words ≡ map front_of words };
 
     ghost word_names: { (front : Option Place) → IsNameable CanKeep front → front_of (word_for front) ≡ front };
 }
 
-/// A word that has room for each place that links of this type can name.
+/// A bucket word with room for each place that links of this type can name.
 pub trait BucketWordFor<L: LinkOps>: BucketWord {
     ghost keeps_named: { (place : Place) → L.CanName place → Self.CanKeep place };
 }
@@ -106,7 +107,7 @@ impl BucketWord for NarrowPlaceWord {
 // The word of a place is a multiple of 8 below this number, 2^36, as `Place::from_word` requires.
 const WORDS_END: u64 = 68_719_476_736;
 
-// The place that a word names, and none where it is no place's word.
+// The place that a word names, none if it is not the word of a place.
 #[inline]
 #[tactic(auto, using(ic_unsafe_ref::proofs::PlaceLemmas::place_at_other))]
 fn place_named_by(word: u64) -> Option<Place>
@@ -118,7 +119,8 @@ fn place_named_by(word: u64) -> Option<Place>
     Place::from_word(word)
 }
 
-/// A plain word: `8 * (index + 1)` of the first member, and 0 for none. A number that is no place's word is read as 0 is.
+/// A plain word: `8 * (index + 1)` of the first member, and 0 for none. A number that is not the word of a place is read
+/// as none, too.
 impl BucketWord for u64 {
     ghost use Rattle.std.specs.Prelude.{refl};
     ghost use Rattle.ic_unsafe_ref.proofs.PlaceLemmas.{place_at_word};
@@ -150,7 +152,7 @@ impl<L: LinkOps> BucketWordFor<L> for u64 {
     ghost keeps_named = { λ place named. tt };
 }
 
-/// A plain word of 4 bytes, with the numbers of one of 8.
+/// A plain word of 4 bytes. It stores the same numbers as one of 8 bytes.
 impl BucketWord for u32 {
     ghost use Rattle.std.specs.Prelude.{refl};
     ghost use Rattle.ic_unsafe_ref.proofs.PlaceLemmas.{place_at_word};

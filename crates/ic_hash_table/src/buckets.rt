@@ -13,35 +13,37 @@ use ic_link_ops::LinkOps;
 use ic_unsafe_ref::Place;
 use std::alloc::Allocator;
 
-/// A row of first members, of fixed length: a `Vec` that the caller has made, an array, or memory that is lent. It has no call that could
-/// take memory.
+/// A row of first members, of fixed length: a `Vec` that the caller has made, an array, or lent memory. No call of it can take memory.
 pub trait BucketRow {
-    // The first member of each chain, none where it is empty.
+    // The first member of each chain, none if the chain is empty.
     ghost fronts: { Self → List (Option Place) };
 
     // The buckets have room for the name of this place.
     ghost CanKeep: { Place → Type 0 };
 
-    // THE SAME BUCKETS, as many and in the same memory: each has the word that it had, or that of its first member now.
+    // THE SAME BUCKETS, as many and in the same memory: each has the word that it had, or the word of its present first
+    // member.
     ghost Rewrites: { Self → Self → Type 0 };
 
-    /// How many there are. O(1).
+    /// The number of buckets. O(1).
     fn count(&self) -> usize
         ensures { result ≡ length (fronts self.now) };
 
-    /// The first member of chain `at`, `None` where it is empty. It requires that there is such a bucket. O(1).
+    /// The first member of chain `at`, `None` if the chain is empty. It requires that `at` is less than the number of
+    /// buckets. O(1).
     fn front(&self, at: usize) -> Option<Place>
         requires within { at < length (fronts self.now) }
         ensures { result ≡ slice_index_or (fronts self.now) at None };
 
-    /// Sets the first member of chain `at`, `None` for an empty one. It requires that there is such a bucket, with room for the name. O(1).
+    /// Sets the first member of chain `at`, `None` for an empty chain. It requires that `at` is less than the number of buckets, and that
+    /// the buckets have room for the name of the place. O(1).
     fn set_front(&mut self, at: usize, front: Option<Place>)
         requires within { at < length (fronts self.old) }
         requires kept { IsNameable CanKeep front }
         ensures fronts { fronts self.new ≡ set (fronts self.old) at front }
         ensures rewrites { Rewrites self.old self.new };
 
-    // The laws: what stays is the same; the same of the same is the same; and as many.
+    // The laws: buckets are the same as themselves; being the same is transitive; and the same buckets are as many.
     ghost rewrites_none: { (b : Self) → Rewrites b b };
 
     ghost rewrites_on: { (a b c : Self) → Rewrites a b → Rewrites b c → Rewrites a c };
@@ -127,8 +129,7 @@ impl<L: LinkOps, W: BucketWordFor<L>, const N: usize> BucketsFor<L> for [W; N] {
     ghost keeps_named = { W.keeps_named };
 }
 
-/// Buckets that stand elsewhere, in memory that is lent, as of a file that is mapped. Whoever lends them has them back when the table is
-/// gone.
+/// Buckets in lent memory, for example of a mapped file. The lender gets them back when the table is gone.
 impl<W: BucketWord> BucketRow for &mut [W] {
     ghost use Rattle.ic_hash_table.specs.Buckets.{AreRewrittenIn};
     ghost use Rattle.ic_hash_table.specs.BucketLaws.{lent_none, lent_on, rewritten_count, fronts_alike};

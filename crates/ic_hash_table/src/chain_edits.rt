@@ -1,4 +1,5 @@
-//! Edits of one chain: a member is put before it, or is taken out after another, and a second chain is put before it.
+//! Edits of one chain: an insert of a member at its front, the removal of the member after another, and the insert of a
+//! second chain at its front.
 //!
 //! ```text
 //! let front = unlink_after(&mut links, front, before, place);
@@ -14,7 +15,7 @@ use ic_link_ops::singly_linked_list::SinglyLinkedListOps;
 use ic_singly_linked_list::SinglyLinkedList;
 use ic_unsafe_ref::Place;
 
-// Takes the member after `before` out of the chain and unlinks it. Returns the first member that the chain has then.
+// Removes the member after `before` from the chain and unlinks it. Returns the chain's first member then.
 #[inline]
 pub(crate) fn unlink_after<L: SinglyLinkedListOps>(
     links: &mut L,
@@ -31,13 +32,14 @@ pub(crate) fn unlink_after<L: SinglyLinkedListOps>(
         → before ≡ last ahead → ChangesOnlyIn (L.table links.old) (L.table links.new) (ahead ++ place ∷ back) }
 {
     let mut chain: SinglyLinkedList<()> = SinglyLinkedList::from_front(front);
-    let behind = links.next(place);
-    chain.bypass(links, before, place, behind);
+    let after = links.next(place);
+    chain.bypass(links, before, place, after);
     links.release_link(place);
     chain.first()
 }
 
-// Puts a place that is linked, and in no chain, before one. Returns the first member, which it is.
+// Inserts a place that is linked, and in no chain, at the front of a chain. Returns the first member, which is this
+// place.
 #[inline]
 pub(crate) fn link_front<L: SinglyLinkedListOps>(
     links: &mut L,
@@ -57,7 +59,7 @@ pub(crate) fn link_front<L: SinglyLinkedListOps>(
     chain.first()
 }
 
-// Puts all members of one chain before those of another. Returns the first member that the second has then.
+// Inserts all members of one chain before those of another. Returns the first member of the second chain then.
 pub(crate) fn join_chains<L: SinglyLinkedListOps>(
     links: &mut L,
     front: Option<Place>,

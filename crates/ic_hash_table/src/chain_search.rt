@@ -14,7 +14,7 @@ use ic_link_ops::LinkOps;
 use ic_link_ops::singly_linked_list::SinglyLinkedListOps;
 use ic_unsafe_ref::{Place, UnsafeRef, Values};
 
-// The reference to what stands at a place, if there is one.
+// The reference to the object at a place, if there is a place.
 #[inline]
 pub(crate) fn reference<V>(place: Option<Place>) -> Option<UnsafeRef<V>>
     ensures { result ≡ place }
@@ -25,7 +25,7 @@ pub(crate) fn reference<V>(place: Option<Place>) -> Option<UnsafeRef<V>>
     }
 }
 
-// Whether what is searched equals the object of a member.
+// Whether the searched key equals the object of a member.
 #[inline]
 fn is_match<V, P: Probe<V>, O: Values<V>>(objects: &O, probe: &mut P, place: Place) -> bool
     requires placed { is_placed (O.values objects.now) place ≡ true }
@@ -38,7 +38,7 @@ fn is_match<V, P: Probe<V>, O: Values<V>>(objects: &O, probe: &mut P, place: Pla
     probe.is_equal(objects.value(place))
 }
 
-// Walks along a chain to the first member that equals what is searched: that member, and the one before it.
+// Walks along a chain to the first member that equals the searched key. Returns that member, and the one before it.
 #[inline]
 pub(crate) fn find_in_chain<V, L: SinglyLinkedListOps, P: Probe<V>, O: Values<V>>(
     links: &L,
@@ -66,7 +66,7 @@ pub(crate) fn find_in_chain<V, L: SinglyLinkedListOps, P: Probe<V>, O: Values<V>
     (before, None)
 }
 
-// Walks along a chain to this place: the place, if it is a member, and the member before it. No look.
+// Walks along a chain to this place. Returns the place, if it is a member, and the member before it. It makes no look.
 pub(crate) fn find_place_in_chain<L: SinglyLinkedListOps>(
     links: &L,
     front: Option<Place>,

@@ -43,7 +43,7 @@ impl<A, B, L> Drop for OccupiedEntry<'_, A, B, L> {
     }
 }
 
-/// The chain where objects with a key belong that no member has, with its table and the table of its links.
+/// The chain of objects with a key that no member has, with its table and the table of its links.
 pub struct VacantEntry<'a, A, B, L> {
     table: &'a mut HashTable<A, B>,
     links: &'a mut L,
@@ -63,29 +63,29 @@ impl<A, B, L> Drop for VacantEntry<'_, A, B, L> {
     }
 }
 
-/// An insert that was refused, since the object is linked: the entry, as it was, and the object.
+/// The error of an insert that was refused since the object is linked. It has the entry, as it was, and the object.
 #[derive(Drop)]
 pub struct RefusedInsert<'a, A: HashAdapter, B, L> {
-    /// The entry, of a table as it was.
+    /// The entry. The table is as it was.
     pub entry: VacantEntry<'a, A, B, L>,
-    /// The object that came back.
+    /// The object that was refused.
     pub object: UnsafeRef<A::Value>,
 }
 
-/// What [`entry`](HashTable::entry) finds.
+/// The result of [`entry`](HashTable::entry).
 #[derive(Drop)]
 pub enum Entry<'a, A, B, L> {
     /// A member has the key.
     Occupied(OccupiedEntry<'a, A, B, L>),
-    /// No member has it.
+    /// No member has the key.
     Vacant(VacantEntry<'a, A, B, L>),
 }
 
 impl<A: HashAdapter, B: BucketRow> HashTable<A, B> {
     /// The first member with this key, or the chain where an object with it belongs.
     ///
-    /// It requires that all members are placed, with the keys that they were put in by. It looks as [`find`](HashTable::find), and takes no
-    /// memory.
+    /// It requires that all members are placed, with the keys that they were inserted by. It makes as many looks as
+    /// [`find`](HashTable::find), and takes no memory. O(length of the chain).
     #[inline]
     pub fn entry<'a, L: SinglyLinkedListOps, O: Values<A::Value>>(
         &'a mut self,
@@ -130,9 +130,9 @@ impl<A: HashAdapter, B: BucketsFor<L>, L: SinglyLinkedListOps> OccupiedEntry<'_,
         UnsafeRef::new(self.member.place())
     }
 
-    /// Takes the member out and returns it. O(1): no hash, no look, and no memory.
+    /// Removes the member and returns it. O(1): no hash, no look, and no memory.
     ///
-    /// It requires that the table holds its members still, and that the entry is one that [`entry`](HashTable::entry) found in it.
+    /// It requires that the table still holds its members, and that [`entry`](HashTable::entry) has returned this entry for it.
     #[inline]
     pub fn remove<O: Values<A::Value>>(self, objects: &O) -> UnsafeRef<A::Value>
         requires held { HoldsSome L.successor (number A.key_of A.hash_of) B.fronts (L.table self.links.now) self.table.now (O.values objects.now) }
@@ -158,10 +158,10 @@ impl<A: HashAdapter, B: BucketsFor<L>, L: SinglyLinkedListOps> OccupiedEntry<'_,
 }
 
 impl<'a, A: HashAdapter, B: BucketsFor<L>, L: SinglyLinkedListOps> VacantEntry<'a, A, B, L> {
-    /// Puts the object in, unless its link is refused. O(1): no hash, no look, and no memory.
+    /// Inserts the object, unless its link is refused. O(1): no hash, no look, and no memory.
     ///
-    /// It requires that the object is placed, that its place is covered, and that the chain is the one of its key, as it is if its key
-    /// equals the one that was searched. A refused object comes back, and the table is as it was.
+    /// It requires that the object is placed, that its place is covered, and that the chain is that of its key. This holds if its key
+    /// equals the searched one. If the link is refused, the object is returned and the table is as it was.
     #[inline]
     pub fn insert<O: Values<A::Value>>(
         self,
@@ -184,9 +184,10 @@ impl<'a, A: HashAdapter, B: BucketsFor<L>, L: SinglyLinkedListOps> VacantEntry<'
         let front = table.buckets.front(at);
         table.insert_at(links, at, (None, front), object)
     }
-    /// Puts the object in as [`insert`](VacantEntry::insert) does, and returns the entry of the member that it is then. O(1).
+    /// Inserts the object as [`insert`](VacantEntry::insert) does, and returns the occupied entry of this new member. O(1).
     ///
-    /// It requires what `insert` does. A refused object comes back with the entry, and the table is as it was.
+    /// It requires what `insert` does. If the link is refused, the object and the entry are returned, and the table is
+    /// as it was.
     #[inline]
     pub fn insert_entry<O: Values<A::Value>>(
         self,
@@ -218,10 +219,11 @@ impl<'a, A: HashAdapter, B: BucketsFor<L>, L: SinglyLinkedListOps> VacantEntry<'
 }
 
 impl<'a, A: HashAdapter, B: BucketsFor<L>, L: SinglyLinkedListOps> Entry<'a, A, B, L> {
-    /// The entry of the member that has the key, or of the object, which is put in where none has it.
+    /// Returns the occupied entry of the member that has the key. If no member has it, inserts the object and returns
+    /// its entry.
     ///
-    /// Where the entry is vacant, it requires what [`VacantEntry::insert`] does, and a refused object comes back with the entry, the table as
-    /// it was. Where it is occupied, nothing has changed.
+    /// If the entry is vacant, it requires what [`VacantEntry::insert`] does; if the link is refused, the object and the entry are returned,
+    /// and the table is as it was. If the entry is occupied, nothing changes. O(length of the chain).
     #[inline]
     pub fn or_insert<O: Values<A::Value>>(
         self,

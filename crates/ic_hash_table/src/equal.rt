@@ -23,9 +23,9 @@ use ic_unsafe_ref::{UnsafeRef, Values};
 impl<A: HashAdapter, B: BucketRow> HashTable<A, B> {
     /// The next member after this one that has an equal key, or `None` if none follows.
     ///
-    /// It requires that the object is a member, with the key that it was put in by. From the one that [`find`](HashTable::find) returns on,
-    /// these are all members with that key, in their order. It makes one look for each member of one chain, from after this one up to the
-    /// one that it finds. No memory.
+    /// It requires that the object is a member, with the key that it was inserted by. Begin with the member that [`find`](HashTable::find)
+    /// returns to get all members with a key, in their order. It makes one look for each member of the chain from the next one up to the
+    /// one that it finds. No memory. O(length of the chain).
     #[inline]
     pub fn next_equal<L: SinglyLinkedListOps, O: Values<A::Value>>(
         &self,
@@ -51,10 +51,11 @@ impl<A: HashAdapter, B: BucketRow> HashTable<A, B> {
 }
 
 impl<A: HashAdapter, B> HashTable<A, B> {
-    /// Puts the object in, directly before the first member with an equal key where there is one, unless its link is refused.
+    /// Inserts the object, directly before the first member with an equal key if there is one, unless its link is refused.
     ///
-    /// Then it is the first one with its key, and [`next_equal`](HashTable::next_equal) finds the others right after it, where they stand
-    /// side by side. It requires and refuses what [`insert`](HashTable::insert) does, looks as [`find`](HashTable::find), and takes no memory.
+    /// The object is then the first one with its key. If the others are side by side, [`next_equal`](HashTable::next_equal) finds them right
+    /// after it. It requires and refuses what [`insert`](HashTable::insert) does, makes as many looks as [`find`](HashTable::find), and takes
+    /// no memory. O(length of the chain).
     #[inline]
     pub fn insert_equal<L: SinglyLinkedListOps, O: Values<A::Value>>(
         &mut self,

@@ -40,7 +40,7 @@ fn belongs<A: HashAdapter, O: Values<A::Value>>(
     slots.slot(adapter.hash(key)) == to
 }
 
-// Puts a linked place before the one or the other of two chains.
+// Inserts a linked place at the front of one of two chains.
 #[inline]
 fn link_either<L: SinglyLinkedListOps>(
     links: &mut L,
@@ -66,7 +66,8 @@ fn link_either<L: SinglyLinkedListOps>(
     }
 }
 
-// Parts a chain in two: the first members of those that stay, and of those that belong in chain `to`. No link is acquired or released.
+// Splits a chain in two. Returns the first of the members that stay, and the first of those that belong in chain `to`. No link is
+// acquired or released.
 pub(crate) fn part_chain<A: HashAdapter, L: SinglyLinkedListOps, O: Values<A::Value>>(
     adapter: A,
     slots: Slots,
@@ -100,12 +101,12 @@ impl<A: HashAdapter, B> HashTable<A, B> {
     ghost use Rattle.ic_hash_table.specs.Growth.{HoldsSameMembers};
     ghost use Rattle.ic_hash_table.specs.SideBySide.{HoldsSideBySide};
 
-    /// Takes one bucket more into use: the members of one chain are parted between that chain and a new one. False, and nothing has
-    /// changed, if all buckets are in use, or 4,294,967,295 are.
+    /// Takes one more bucket into use, and splits the members of one chain between that chain and a new one. Returns false, and
+    /// changes nothing, if all buckets or 4,294,967,295 buckets are in use.
     ///
-    /// It requires that all members are placed, with the keys that they were put in by. All members stay, in some order, and where those
-    /// with equal keys stood side by side, they still do. O(members of that chain): one hash and one write each, no look, no link is
-    /// acquired or released, and it takes no memory.
+    /// It requires that all members are placed, with the keys that they were inserted by. All members stay, in some order. If members
+    /// with equal keys were side by side, they still are. O(members of that chain), with one hash and one write for each. It makes no
+    /// look, acquires and releases no link, and takes no memory.
     pub fn grow_one<L: SinglyLinkedListOps, O: Values<A::Value>>(
         &mut self,
         links: &mut L,
@@ -144,11 +145,12 @@ impl<A: HashAdapter, B> HashTable<A, B> {
         true
     }
 
-    /// Takes the last bucket out of use: its members go back to the chain that growth parted them from. False, and nothing has changed, if
-    /// one bucket alone is in use. It undoes [`grow_one`](HashTable::grow_one), but for the order of the members.
+    /// Takes the last bucket out of use: its members return to the chain from which growth split them. Returns false, and changes nothing,
+    /// if only one bucket is in use. It undoes [`grow_one`](HashTable::grow_one), except for the order of the members.
     ///
-    /// It requires that the links represent its chains, and reads no object. All members stay, in some order, and where those with equal keys
-    /// stood side by side, they still do. O(members of that chain): no hash, no look, no link is acquired or released, and it takes no memory.
+    /// It requires that the links represent its chains, and reads no object. All members stay, in some order. If members with equal keys were
+    /// side by side, they still are. O(members of that chain). It makes no hash and no look, acquires and releases no link, and takes no
+    /// memory.
     pub fn shrink_one<L: SinglyLinkedListOps>(&mut self, links: &mut L) -> bool
     where
         B: BucketsFor<L>,

@@ -20,9 +20,10 @@ use ic_unsafe_ref::{Objects, Place, Values};
 use std::alloc::AllocError;
 use std::marker::PhantomData;
 
-/// The objects of a hash table that are not given out yet: chain by chain, each from its first member on.
+/// A walk over the objects of a hash table, chain by chain, each from its first member on.
 ///
-/// `A::Key: 'a` holds of every key that is a part of its object: it is said for callers that are generic in the adapter.
+/// The bound `A::Key: 'a` holds for every key that is a part of its object. Only callers that are generic in the adapter
+/// have to write it.
 pub struct Iter<'a, A: HashAdapter, B, L, O = Objects<<A as HashAdapter>::Value>>
 where
     A::Key: 'a,
@@ -59,7 +60,8 @@ impl<'a, A: HashAdapter, B: BucketRow, L: SinglyLinkedListOps, O: Values<A::Valu
 
     ghost remaining = { item_count (objects_left L.successor L.table B.fronts O.values) };
 
-    /// The next object. In all, one step a member and one a bucket, and no look.
+    /// The next object, or `None` if none is left. The whole walk takes one step for each member and each bucket, and
+    /// no look.
     fn next(&mut self) -> Option<&'a A::Value> {
         let place = self.table.next(self.links, self.objects, self.at)?;
         let objects: &'a O = self.objects;
@@ -89,8 +91,8 @@ impl<A: HashAdapter, B, L, O> Clone for Iter<'_, A, B, L, O> {
 impl<A: HashAdapter, B: BucketRow> HashTable<A, B> {
     ghost use Rattle.ic_hash_table.specs.Iter.{objects_left, CanWalk};
 
-    /// A walk over the objects of the table, chain by chain. It requires that all members are placed, with the keys that they were put in
-    /// by. O(1).
+    /// A walk over the objects of the table, chain by chain. It requires that all members are placed, with the keys that they were
+    /// inserted by. O(1).
     pub fn iter<'a, L: SinglyLinkedListOps, O: Values<A::Value>>(
         &'a self,
         links: &'a L,
@@ -111,7 +113,7 @@ impl<A: HashAdapter, B: BucketRow> HashTable<A, B> {
     }
 
     /// A value that prints the objects of the table, chain by chain: `{:?}` writes `[10, 20]`, and `{:#?}` writes each object on lines of
-    /// its own. It requires that all members are placed, with the keys that they were put in by. O(1), and no memory.
+    /// its own. It requires that all members are placed, with the keys that they were inserted by. O(1), and no memory.
     pub fn debug<'a, L: SinglyLinkedListOps, O: Values<A::Value>>(
         &'a self,
         links: &'a L,

@@ -1,4 +1,5 @@
-//! Calls over a table of links that keeps the values beside them: a look at a member reads one entry, which has its value and its link.
+//! Calls over a table of links that stores the values beside them. A look at a member reads one entry, which has both its value and its
+//! link.
 //!
 //! ```text
 //! links.set_value(object.place(), 7);
@@ -19,10 +20,11 @@ use ic_link_ops::{AlreadyLinked, LinkOps, LinkValues};
 use ic_unsafe_ref::UnsafeRef;
 
 impl<A: HashAdapter, B> HashTable<A, B> {
-    /// Puts the object in, unless its link is refused: [`insert`](HashTable::insert) where the table of links keeps the values. O(1).
+    /// Inserts the object, unless its link is refused: [`insert`](HashTable::insert) for a table of links that stores the values.
+    /// O(1).
     ///
-    /// It requires that the object's place is covered, and that the members and the object are placed. A refused object comes back, and the
-    /// table is as it was.
+    /// It requires that the object's place is covered, and that the members and the object are placed. If the link is refused, the object
+    /// is returned and the table is as it was.
     #[inline]
     pub fn insert_keyed<L: SinglyLinkedListOps + LinkValues<A::Value>>(
         &mut self,
@@ -47,10 +49,11 @@ impl<A: HashAdapter, B> HashTable<A, B> {
         self.insert_at(links, at, (None, front), object)
     }
 
-    /// Takes the object out, and says whether it was a member: [`remove`](HashTable::remove) where the table of links keeps the values.
+    /// Removes the object, and returns whether it was a member: [`remove`](HashTable::remove) for a table of links that stores the
+    /// values.
     ///
-    /// It requires that the object is placed, with the key that it was put in by. Where it was none, nothing has changed. It walks along its
-    /// chain: one hash, no look, and no memory.
+    /// It requires that the object is placed, with the key that it was inserted by. If it was not a member, nothing has changed. It walks
+    /// along its chain: one hash, no look, and no memory. O(length of the chain).
     pub fn remove_keyed<L: SinglyLinkedListOps + LinkValues<A::Value>>(
         &mut self,
         links: &mut L,
@@ -77,9 +80,10 @@ impl<A: HashAdapter, B> HashTable<A, B> {
         true
     }
 
-    /// Takes the first member with this key out and returns it: [`remove_by`](HashTable::remove_by) where the table of links keeps the values.
+    /// Removes the first member with this key and returns it: [`remove_by`](HashTable::remove_by) for a table of links that stores the values.
     ///
-    /// `None`, and nothing has changed, if there is none. It looks as [`find`](HashTable::find), and takes no memory.
+    /// If there is none, it returns `None` and changes nothing. It makes as many looks as [`find`](HashTable::find),
+    /// and takes no memory. O(length of the chain).
     #[inline]
     pub fn remove_by_keyed<L: SinglyLinkedListOps + LinkValues<A::Value>>(
         &mut self,

@@ -1,8 +1,8 @@
-//! An intrusive hash table over any table of singly links.
+//! An intrusive hash table over any table for singly linked lists.
 //!
-//! Each bucket keeps the first member of a chain, and a member's link names the next one of its chain. The caller hands in the buckets,
-//! and the objects stand where they stand, so no call takes memory: a table that grows takes buckets into use that it has already, one at
-//! a time, and never hashes all of its members anew.
+//! Each bucket stores the first member of a chain, and a member's link names the next one of its chain. The caller provides the buckets,
+//! and the objects stay at their places, so no call takes memory. A table grows by taking buckets that it has already into use, one at a
+//! time, and never hashes all of its members again.
 //!
 //! ```text
 //! let mut table = HashTable::new(ById, buckets); // a `Vec` of empty buckets, or an array
@@ -11,8 +11,8 @@
 //! let taken = table.remove_by(&mut links, &objects, &7);
 //! ```
 //!
-//! A clause sees which sequence of members the table holds: those of one chain after those of the one before. An insert puts the object
-//! somewhere into the sequence, a removal takes it out, and growth orders it anew.
+//! In contracts the table holds a sequence of members: those of each chain after those of the chain before. An insert adds the object
+//! somewhere in the sequence, a removal removes it, and growth reorders the sequence.
 #![tactic(auto)]
 
 mod adapter;

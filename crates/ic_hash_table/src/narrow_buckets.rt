@@ -34,7 +34,7 @@ impl NarrowWords for ThreeNarrowWords {
     ghost is_narrow = { refl };
 }
 
-/// A table of links whose words can name no place that 4 bytes have no room for.
+/// A table of links that can name only places whose words fit in 4 bytes.
 pub trait NarrowLinks: LinkOps {
     ghost named_has_room: { (place : Place) → Self.CanName place → HasRoom narrow place };
 }

@@ -1,4 +1,4 @@
-//! What a search asks the objects of a chain.
+//! How a search compares its key with the objects of a chain.
 //!
 //! ```text
 //! let mut probe = KeyProbe::new(ById, &5);
@@ -11,27 +11,27 @@ ghost use Rattle.ic_hash_table.specs.KeyProbe.{adapter_of, key_of_probe, looks_o
 
 use crate::HashAdapter;
 
-/// What is searched: its hash, and which values equal it. For searches by more than a key.
+/// A search key of any form: its hash, and which values equal it.
 ///
 /// A search calls `is_equal` once for each member that it passes. Such a call is a look.
 pub trait Probe<V> {
-    // Whether what is searched equals a value.
+    // Whether the searched key equals a value.
     ghost equal: { Self → V → Bool };
 
-    // The hash of what is searched.
+    // The hash of the searched key.
     ghost hash: { Self → ℕ };
 
-    // How many looks it has made.
+    // The number of looks that the probe has made.
     ghost count: { Self → ℕ };
 
-    /// The hash of what is searched. O(1).
+    /// The hash of the searched key. O(1).
     fn hash(&self) -> u64
         ensures { result ≡ hash self.now };
 
-    /// Whether what is searched equals `value`: a look.
+    /// Whether the searched key equals `value`: a look.
     ///
-    /// It requires that the count of looks is below `u64::MAX`. It counts one more, compares as before, and has
-    /// the same hash.
+    /// It requires that the count of looks is below `u64::MAX`. The probe counts one look more, compares as before, and
+    /// has the same hash.
     fn is_equal(&mut self, value: &V) -> bool
         requires room { count self.old < 18446744073709551615 }
         ensures answer { result ≡ equal self.old value.now }
@@ -52,7 +52,7 @@ where
 }
 
 impl<'k, A: HashAdapter> KeyProbe<'k, A> {
-    /// A search for `key` that has made no look.
+    /// A search for `key` that has made no look. O(1).
     #[inline]
     pub fn new(adapter: A, key: &'k A::Key) -> KeyProbe<'k, A>
         ensures adapter { adapter_of result ≡ adapter }
@@ -66,7 +66,7 @@ impl<'k, A: HashAdapter> KeyProbe<'k, A> {
         }
     }
 
-    /// How many looks it has made: how many objects it was compared with.
+    /// The number of looks that it has made: how many objects it was compared with. O(1).
     #[inline]
     pub fn looks(&self) -> u64
         ensures { result ≡ looks_of self.now }

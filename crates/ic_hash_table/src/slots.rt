@@ -8,7 +8,8 @@
 ghost use Rattle.std.specs.Prelude.{◌≡◌, ◌<◌, ◌≤◌};
 ghost use Rattle.ic_hash_table.specs.Slots.{slot_of, split_of, IsWellFormed, IsSplit};
 
-/// How many chains are in use, and the mask of the round that is under way: more than half of its numbers are in use.
+/// How many chains are in use, and the mask of the current round of growth. More than half of the chain numbers within
+/// the mask are in use.
 #[derive(Clone, Copy)]
 pub struct Slots {
     used: usize,
@@ -16,7 +17,7 @@ pub struct Slots {
 }
 
 impl Slots {
-    // All of so many chains in use.
+    // The slots of a table with this many chains, all in use.
     pub(crate) fn all(count: usize) -> Slots
         requires some { 1 ≤ count }
         requires few { count ≤ 4294967296 }
@@ -30,7 +31,8 @@ impl Slots {
         Slots { used: count, mask }
     }
 
-    /// The chain where `hash` belongs: by the bits of the mask, and where that chain is not in use yet, by those of half of it. O(1).
+    /// The chain where `hash` belongs: the one given by the bits of the mask, or if that chain is not in use yet, by those of half
+    /// the mask. O(1).
     #[inline]
     pub fn slot(&self, hash: u64) -> usize
         requires well_formed { IsWellFormed self.now }
@@ -46,7 +48,8 @@ impl Slots {
         }
     }
 
-    // With one chain more in use. Where all numbers of the mask are in use, a round with a mask twice as large begins.
+    // The slots with one more chain in use. If all numbers within the mask are in use, a round with a mask twice as
+    // large begins.
     pub(crate) fn grown(self) -> Slots
         requires well_formed { IsWellFormed self }
         requires few { self.used < 4294967296 }
@@ -64,7 +67,7 @@ impl Slots {
         }
     }
 
-    // With one chain less in use, which undoes `grown`.
+    // The slots with one chain less in use, which undoes `grown`.
     pub(crate) fn shrunk(self) -> Slots
         requires well_formed { IsWellFormed self }
         requires more { 2 ≤ self.used }
@@ -83,7 +86,7 @@ impl Slots {
         }
     }
 
-    // The chain where the members of this one stood before it was in use.
+    // The chain that had the members of this one before this one was in use.
     pub(crate) fn split(&self, last: usize) -> usize
         ensures { result ≡ split_of self.now last }
     {

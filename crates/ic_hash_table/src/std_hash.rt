@@ -10,14 +10,14 @@ ghost use Rattle.std.specs.Prelude.{◌≡◌};
 use crate::HashAdapter;
 use std::hash::{BuildHasher, Hash};
 
-/// Says which part of an object is its key, where the key has std's `Hash`.
+/// Says which part of an object is its key, for keys with std's `Hash`.
 ///
-/// The key is a function of this value and of the object: while the object is not changed, it is the same.
+/// The key is a function of this value and of the object: while the object is not changed, the key stays the same.
 pub trait KeyOf: Copy {
-    /// What is placed: the objects whose keys it gives.
+    /// The type of the objects whose keys it returns.
     type Value;
 
-    /// What the table compares and hashes.
+    /// The type of the keys, which the table compares and hashes.
     type Key: Hash;
 
     // The key of a value.
@@ -28,7 +28,7 @@ pub trait KeyOf: Copy {
         ensures { result.now ≡ key_of self.now value.now };
 }
 
-/// The adapter of a hash table by std's traits: a key's hash is what a hasher of `S` makes of it.
+/// The adapter of a hash table by std's traits: a hasher of `S` computes a key's hash.
 ///
 /// `BuildHasherDefault<FoldHasher>` is quick, and its seed is fixed. `RandomState` is for keys that an adversary may pick.
 #[derive(Clone, Copy)]
@@ -40,7 +40,7 @@ pub struct StdHash<K, S> {
 impl<K: KeyOf, S: BuildHasher + Copy> StdHash<K, S> {
     ghost use Rattle.ic_hash_table.specs.StdHash.{keys_of, state_of};
 
-    /// The adapter of these keys, by the hashers that `state` makes. O(1).
+    /// The adapter of these keys, with the hashers that `state` makes. O(1).
     #[inline]
     pub fn new(keys: K, state: S) -> StdHash<K, S>
         ensures keys { keys_of result ≡ keys }

@@ -1,4 +1,4 @@
-//! From one member to the next, through all chains.
+//! Steps from one member to the next, through all chains.
 //!
 //! ```text
 //! let mut at = table.next(&links, &objects, None); // the first member
@@ -42,9 +42,10 @@ fn first_from<L: SinglyLinkedListOps, B: BucketRow>(
 impl<A: HashAdapter, B: BucketRow> HashTable<A, B> {
     ghost use Rattle.ic_hash_table.specs.HashTable.{Holds};
 
-    /// The member after this one, through all chains; after `None` the first one. `None` where nothing follows.
+    /// The member after this one, through all chains; after `None` the first one. Returns `None` if no member follows.
     ///
-    /// It requires that the place is that of a member. A walk over all members makes one step a member and one a bucket, and no look.
+    /// It requires that the place is that of a member. A walk over all members takes one step for each member and each bucket, and no
+    /// look.
     pub fn next<L: SinglyLinkedListOps, O: Values<A::Value>>(
         &self,
         links: &L,
@@ -59,9 +60,9 @@ impl<A: HashAdapter, B: BucketRow> HashTable<A, B> {
         let Some(place) = at else {
             return first_from(links, &self.buckets, 0);
         };
-        let behind = links.next(place);
-        if behind.is_some() {
-            return behind;
+        let after = links.next(place);
+        if after.is_some() {
+            return after;
         }
         let chain = self.slot_of_object(objects, place);
         first_from(links, &self.buckets, chain + 1)

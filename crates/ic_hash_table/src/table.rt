@@ -24,8 +24,8 @@ use ic_unsafe_ref::{Place, UnsafeRef, Values};
 
 /// An intrusive hash table: the adapter, the buckets with the first member of each chain, and how many members there are.
 ///
-/// Which members it has is what a table of links holds for it. A clause sees that as one sequence, over objects that are placed with the
-/// keys that they were put in by. Change no key of a member: take it out, change it, and put it in again.
+/// It has the members that a table of links holds for it. In contracts they are one sequence, over objects that are placed with the keys
+/// that they were inserted by. Never change the key of a member: remove the object, change it, and insert it again.
 #[derive(Drop)]
 pub struct HashTable<A, B> {
     pub(crate) adapter: A,
@@ -37,7 +37,7 @@ pub struct HashTable<A, B> {
 impl<A, B> HashTable<A, B> {
     ghost use Rattle.ic_hash_table.specs.HashTable.{buckets_of, len_of, slots_of};
 
-    /// Its buckets, to be read: the first member of each chain. O(1).
+    /// A reference to its buckets, which have the first member of each chain. O(1).
     #[inline]
     pub fn buckets(&self) -> &B
         ensures { result.now ≡ buckets_of self.now }
@@ -61,7 +61,7 @@ impl<A, B> HashTable<A, B> {
         self.slots.used()
     }
 
-    /// In which chain it puts the members of a hash: `table.slots().slot(hash)`. O(1).
+    /// Which chain has the members with a hash: `table.slots().slot(hash)`. O(1).
     #[inline]
     pub fn slots(&self) -> Slots
         ensures { result ≡ slots_of self.now }
@@ -97,7 +97,7 @@ impl<A: HashAdapter, B: BucketRow> HashTable<A, B> {
 
     /// A table with no member over these buckets, all in use: every table of links holds the empty sequence for it.
     ///
-    /// It requires that the buckets are empty, and that there is one at least and at most 4,294,967,296. O(log n) of n buckets, and no memory.
+    /// It requires that the buckets are empty, and that there are 1 to 4,294,967,296 of them. O(log n) for n buckets, and no memory.
     pub fn new(adapter: A, buckets: B) -> HashTable<A, B>
         requires some { 1 ≤ length (B.fronts buckets) }
         requires few { length (B.fronts buckets) ≤ 4294967296 }
@@ -111,9 +111,10 @@ impl<A: HashAdapter, B: BucketRow> HashTable<A, B> {
         HashTable::with_used(adapter, buckets, used)
     }
 
-    /// A table with no member over so many of these buckets. [`grow_one`](HashTable::grow_one) takes one more into use.
+    /// A table with no member that uses the first `used` of these buckets. [`grow_one`](HashTable::grow_one) takes one
+    /// more into use.
     ///
-    /// It requires what [`new`](HashTable::new) does, and that there are so many buckets.
+    /// It requires what [`new`](HashTable::new) does, and that there are that many buckets. O(1).
     pub fn with_used(adapter: A, buckets: B, used: usize) -> HashTable<A, B>
         requires some { 1 ≤ used }
         requires within { used ≤ length (B.fronts buckets) }
@@ -132,10 +133,10 @@ impl<A: HashAdapter, B: BucketRow> HashTable<A, B> {
         }
     }
 
-    /// A table over buckets that have members: so many chains in use, and so many members, as a table had that wrote them.
+    /// Makes a table again of buckets that have members, given how many chains the table had in use, and how many members.
     ///
-    /// It requires what [`with_used`](HashTable::with_used) does, but no empty buckets. It reads no link: where it is of the same parts as
-    /// a table was, what a table of links held for that one it holds for this. O(log n) of n chains, and no memory.
+    /// It requires what [`with_used`](HashTable::with_used) does, except that the buckets need not be empty. It reads no link. If all
+    /// parts are those of an earlier table, a table of links holds the same members for the new one. O(log n) for n chains, and no memory.
     pub fn from_buckets(adapter: A, buckets: B, used: usize, len: usize) -> HashTable<A, B>
         requires some { 1 ≤ used }
         requires within { used ≤ length (B.fronts buckets) }
@@ -169,7 +170,8 @@ impl<A: HashAdapter, B: BucketRow> HashTable<A, B> {
         buckets
     }
 
-    /// Chain `at` as a list, to be walked by its `iter`. It requires that the chain is in use, and that all members are placed. O(1).
+    /// Chain `at` as a list; its `iter` walks over the chain. It requires that the chain is in use, and that all members are placed.
+    /// O(1).
     #[inline]
     pub fn chain<L: SinglyLinkedListOps, O: Values<A::Value>>(
         &self,
@@ -186,10 +188,10 @@ impl<A: HashAdapter, B: BucketRow> HashTable<A, B> {
         SinglyLinkedList::from_front(first)
     }
 
-    /// The first member that equals what is searched, or `None` if there is none.
+    /// The first member that equals the searched key, or `None` if there is none.
     ///
-    /// It requires that each value which equals what is searched has its hash, and that the probe's count leaves room. It makes no more
-    /// looks than one chain has members, that of the hash. No memory.
+    /// It requires that each value which equals the searched key has its hash, and that the probe's count leaves room for these looks.
+    /// It makes at most as many looks as the chain of the hash has members. No memory. O(length of the chain).
     #[inline]
     pub fn find_by<L: SinglyLinkedListOps, P: Probe<A::Value>, O: Values<A::Value>>(
         &self,
@@ -218,7 +220,7 @@ impl<A: HashAdapter, B: BucketRow> HashTable<A, B> {
 
     /// The first member with this key, or `None` if there is none: `find_by` with a `KeyProbe`.
     ///
-    /// It makes one look for each member of one chain, up to the one that it finds.
+    /// It makes one look for each member of one chain, up to the one that it finds. O(length of the chain).
     #[inline]
     pub fn find<L: SinglyLinkedListOps, O: Values<A::Value>>(
         &self,
@@ -237,10 +239,10 @@ impl<A: HashAdapter, B: BucketRow> HashTable<A, B> {
 impl<A: HashAdapter, B> HashTable<A, B> {
     ghost use Rattle.ic_hash_table.specs.HashTable.{adapter_of, slots_of, number, Holds, HoldsSome, HoldsWith, ChangesOnlyInMembers};
 
-    /// Puts the object in, unless its link is refused. O(1): one hash, no look, and no memory.
+    /// Inserts the object, unless its link is refused. O(1): one hash, no look, and no memory.
     ///
-    /// It requires that the object is placed, and its place covered. A refused object comes back, and the table is as it was: over a plain
-    /// table of links that is so exactly if the object is linked in this field. Members with an equal key stay.
+    /// It requires that the object is placed, and that its place is covered. If the link is refused, the object is returned and the table
+    /// is as it was. A plain table of links refuses exactly an object that is linked in this field. Members with an equal key stay.
     #[inline]
     pub fn insert<L: SinglyLinkedListOps, O: Values<A::Value>>(
         &mut self,
@@ -265,9 +267,10 @@ impl<A: HashAdapter, B> HashTable<A, B> {
         self.insert_at(links, at, (None, front), object)
     }
 
-    /// Takes the object out, and says whether it was a member. Where it was none, nothing has changed.
+    /// Removes the object, and returns whether it was a member. If it was not, nothing has changed.
     ///
-    /// It requires that the object is placed, with the key that it was put in by. It walks along its chain: one hash, no look, and no memory.
+    /// It requires that the object is placed, with the key that it was inserted by. It walks along its chain: one hash, no look, and no
+    /// memory. O(length of the chain).
     pub fn remove<L: SinglyLinkedListOps, O: Values<A::Value>>(
         &mut self,
         links: &mut L,
@@ -294,11 +297,11 @@ impl<A: HashAdapter, B> HashTable<A, B> {
         true
     }
 
-    /// Puts the object in, unless a member has an equal key or its link is refused.
+    /// Inserts the object, unless a member has an equal key or its link is refused.
     ///
-    /// It returns `Some` of the first member with an equal key, where there is one, and nothing has changed then. Else it does what
-    /// [`insert`](HashTable::insert) does, and returns `None`; so a link is refused only if no member has an equal key. It looks as `find`,
-    /// and takes no memory.
+    /// If a member has an equal key, it returns `Some` of the first such member, and nothing has changed. Otherwise it does what
+    /// [`insert`](HashTable::insert) does, and returns `None`; so a link is refused only if no member has an equal key. It makes as many
+    /// looks as `find`, and takes no memory. O(length of the chain).
     #[inline]
     pub fn insert_unique<L: SinglyLinkedListOps, O: Values<A::Value>>(
         &mut self,
@@ -329,9 +332,9 @@ impl<A: HashAdapter, B> HashTable<A, B> {
         Ok(None)
     }
 
-    /// Takes the first member with this key out and returns it, or `None`, and nothing has changed, if there is none.
+    /// Removes the first member with this key and returns it. If there is none, it returns `None` and changes nothing.
     ///
-    /// It looks as `find`, and takes no memory.
+    /// It makes as many looks as `find`, and takes no memory. O(length of the chain).
     #[inline]
     pub fn remove_by<L: SinglyLinkedListOps, O: Values<A::Value>>(
         &mut self,
@@ -401,7 +404,7 @@ impl<A: HashAdapter, B: BucketRow> HashTable<A, B> {
         (at, before, found)
     }
 
-    // The chain in which the object is a member, and the one before it, `None` where it is a member of none.
+    // The chain of which the object is a member, and the member before it; `None` if it is not a member.
     pub(crate) fn locate<L: SinglyLinkedListOps, O: Values<A::Value>>(
         &self,
         links: &L,
@@ -430,7 +433,7 @@ impl<A: HashAdapter, B: BucketRow> HashTable<A, B> {
 impl<A: HashAdapter, B> HashTable<A, B> {
     ghost use Rattle.ic_hash_table.specs.HashTable.{adapter_of, slots_of, front_at, number, BelongsIn, Holds, HoldsAt, HoldsSome, ChangesOnlyInMembers};
 
-    // Puts the object between two neighbors of chain `at`. It reads no object.
+    // Inserts the object between two neighbors of chain `at`. It reads no object.
     #[inline]
     pub(crate) fn insert_at<L: SinglyLinkedListOps>(
         &mut self,
@@ -459,11 +462,11 @@ impl<A: HashAdapter, B> HashTable<A, B> {
         ensures unchanged { IfErr result (λ refused. (refused.0 ≡ object) × (self.new ≡ self.old)) }
         ensures kept { ChangesOnlyInMembers L.successor B.fronts B.Rewrites (L.table links.old) (L.table links.new) self.old self.new (object ∷ []) }
     {
-        let (before, behind) = neighbors;
+        let (before, after) = neighbors;
         let mut chain: SinglyLinkedList<A::Value> = SinglyLinkedList::from_front(
             self.buckets.front(at),
         );
-        if !chain.insert_between(links, before, object.place(), behind) {
+        if !chain.insert_between(links, before, object.place(), after) {
             return Err(AlreadyLinked(object));
         }
         self.buckets.set_front(at, chain.first());
@@ -471,7 +474,7 @@ impl<A: HashAdapter, B> HashTable<A, B> {
         Ok(())
     }
 
-    // Takes the member after `before` out of chain `at`. It reads no object.
+    // Removes the member after `before` from chain `at`. It reads no object.
     #[inline]
     pub(crate) fn remove_at<L: SinglyLinkedListOps>(
         &mut self,

@@ -34,10 +34,10 @@ fn clear_chain<L: SinglyLinkedListOps, B: BucketsFor<L>>(buckets: &mut B, links:
 impl<A, B> HashTable<A, B> {
     ghost use Rattle.ic_hash_table.specs.HashTable.{IsNew, IsRepresented, ChangesOnlyInMembers};
 
-    /// Takes all members out: each is unlinked, and the table is empty.
+    /// Removes all members: each is unlinked, and the table is empty.
     ///
     /// It requires that the links represent its chains, whatever keys the members have now: they need not be placed. One step for each
-    /// member and each bucket, no look, and no memory.
+    /// member and each bucket, no look, and no memory. O(n) in the members and the buckets.
     pub fn clear<L: SinglyLinkedListOps>(&mut self, links: &mut L)
     where
         B: BucketsFor<L>,
@@ -62,11 +62,11 @@ impl<A: HashAdapter, B> HashTable<A, B> {
     ghost use Rattle.ic_hash_table.specs.HashTable.{number, Holds, HoldsSome, ChangesOnlyInMembers};
     ghost use Rattle.ic_hash_table.specs.Retained.{AreAnswers, passing, failing};
 
-    /// Takes each member out whose object fails the test. The others stay, in their order.
+    /// Removes each member whose object fails the test. The others stay, in their order.
     ///
-    /// It requires that all members are placed, with the keys that they were put in by. The test is asked once of each member, from the
-    /// first on. What was taken out is unlinked, and stays placed. One step for each member and each bucket, and a walk along its chain for
-    /// each member that goes. No look, and no memory.
+    /// It requires that all members are placed, with the keys that they were inserted by. The test is called once for each member, from the
+    /// first on. Removed members are unlinked, and stay placed. One step for each member and each bucket, and a walk along its chain for
+    /// each member that is removed. No look, and no memory. O(n) in the members and the buckets.
     pub fn retain<L: SinglyLinkedListOps, O: Values<A::Value>, F: FnMut(&A::Value) -> bool>(
         &mut self,
         links: &mut L,
@@ -86,7 +86,7 @@ impl<A: HashAdapter, B> HashTable<A, B> {
         self.retain_by(links, objects, &mut keeps);
     }
 
-    // `retain` with a test that its caller has still: what it is after the last call of it is seen.
+    // `retain` with a borrowed test, so that the caller sees its state after the last call.
     fn retain_by<L: SinglyLinkedListOps, O: Values<A::Value>, F: FnMut(&A::Value) -> bool>(
         &mut self,
         links: &mut L,

@@ -1,4 +1,4 @@
-//! What finds objects by their keys: a tree, for example.
+//! Indexes, which find objects by their keys. A tree is an index, for example.
 //!
 //! ```text
 //! index.insert_place(&mut links, &objects, place); // where its key belongs
@@ -18,12 +18,12 @@ use ic_pool::Tables;
 use ic_unsafe_ref::{Objects, Place};
 use std::alloc::Allocator;
 
-/// What finds objects by their keys, by links in a table of its own.
+/// An index: it finds objects by their keys, with links in a table of its own.
 pub trait Index<T: HasKey, A: Allocator>: Drop {
-    /// The table of its links.
+    /// The type of the table of its links.
     type Links: Tables + Drop;
 
-    /// The words of the links of the order beside it, as wide as its own.
+    /// The type of the words of the links in the list beside it, which are as wide as its own.
     type Order: PrevPlace;
 
     // THE INDEX HAS EACH OBJECT, and nothing else is linked in its table.
@@ -32,19 +32,19 @@ pub trait Index<T: HasKey, A: Allocator>: Drop {
     // IT IS NEW: it has no object, and none of its links is written.
     ghost IsNew: { Self → Type 0 };
 
-    // In how many parts the index has the objects: a search looks at those of one part. No call changes that.
+    // Into how many parts the index divides the objects: a search compares only objects of one part. No call changes this number.
     ghost parts: { Self → ℕ };
 
-    // SO FEW LOOKS as a search makes: of the parts, the key that is searched, the objects and the looks.
+    // HOW MANY LOOKS (key comparisons) a search can make, given the number of parts, the searched key and the objects.
     ghost IsFew: { ℕ → ℕ → List T → ℕ → Type 0 };
 
-    /// The table for the links of a new index. It has no room for a link of any place yet, and the call allocates nothing. It requires that the index
-    /// is new.
+    /// Returns the table for the links of a new index. It has no room for links yet, and the call allocates nothing. It requires that the index is
+    /// new.
     fn new_links(&self, alloc: A) -> Self::Links
         requires new { IsNew self.now }
         ensures none { (objects : Placed T) → ((place : Place) → object_at objects place ≡ None) → Has self.now result objects };
 
-    /// Where an object of the key stands, if there is one, and how many objects the search looked at. It requires that the index has all
+    /// Returns the place of an object with this key, if there is one, and how many objects the search compared. It requires that the index has all
     /// objects.
     fn find_key(
         &self,
@@ -57,15 +57,16 @@ pub trait Index<T: HasKey, A: Allocator>: Drop {
         ensures looks { (order : List Place) → IsOrderOf objects.now order
             → IsFew (parts self.now) key (values_at objects.now order) result.1 };
 
-    /// Puts a new object where its key belongs. It requires that the index has each other object, and that its table covers the place. It
-    /// takes no memory.
+    /// Inserts a new object where its key belongs. It requires that the index has every other object, and that its table covers the place. It takes
+    /// no memory.
     fn insert_place(&mut self, links: &mut Self::Links, objects: &Objects<T, A>, place: Place)
         requires covered { Self.Links.Covers links.old place }
         requires lacks { LacksOne (Has self.old links.old) objects.now place }
         ensures has { Has self.new links.new objects.now }
         ensures parts { parts self.new ≡ parts self.old };
 
-    /// Takes an object off that stands there still. It requires that the index has all objects, and that one stands at the place.
+    /// Removes an object from the index, before it leaves its place. It requires that the index has all objects, and that there is an object at the
+    /// place.
     fn remove_place(&mut self, links: &mut Self::Links, objects: &Objects<T, A>, place: Place)
         requires all { Has self.old links.old objects.now }
         requires placed { is_placed objects.now place ≡ true }
@@ -74,7 +75,7 @@ pub trait Index<T: HasKey, A: Allocator>: Drop {
         ensures covered { Self.Links.Covers links.new place }
         ensures parts { parts self.new ≡ parts self.old };
 
-    // The laws: an index has what it had where its table has grown, and where another value with the same key stands in the place of one.
+    // The laws: an index still has the same objects after its table has grown, and after another value with the same key has replaced one.
     ghost has_grown: { (index : Self) (old new : Self.Links) (objects : Placed T) → Self.Links.Keeps old new → Has index old objects → Has index new objects };
 
     ghost has_alike: { (index : Self) (links : Self.Links) (old new : Placed T) (place : Place) (out value : T) → object_at old place ≡ Some out

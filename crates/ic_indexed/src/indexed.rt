@@ -1,4 +1,4 @@
-//! Objects that are found by their keys and stand in an order: a pool, its two tables, the index and the list, as one value.
+//! Objects that are found by their keys and have an order: a pool, its two tables, the index and the list, as one value.
 //!
 //! ```text
 //! indexed.place_front(job)?;
@@ -26,10 +26,10 @@ use ic_unsafe_ref::{Place, UnsafeRef};
 use std::alloc::{Allocator, Global};
 use std::marker::Model;
 
-/// Objects, each in an index by its key and in a list. Several can have one key.
+/// Objects that are each in an index by their key, and in a list. Several objects can have the same key.
 ///
-/// A clause sees the objects by their places, the places along the list, and in how many parts the index has the objects
-/// (`IndexedOrder`). `values_of` are the objects themselves along the list.
+/// A contract sees the objects by their places, the places along the list, and into how many parts the index divides the objects (`IndexedOrder`).
+/// `values_of` is the list of the objects themselves.
 #[derive(Drop)]
 pub struct Indexed<T: HasKey, I: Index<T, A>, A: Allocator = Global> {
     pool: Pool<T, (I::Links, PlainTable<I::Order, A>), A>,
@@ -40,7 +40,7 @@ pub struct Indexed<T: HasKey, I: Index<T, A>, A: Allocator = Global> {
 /// Objects in a tree by their keys and in a list.
 pub type TreeIndexed<T, A = Global> = Indexed<T, RBTree<ByKey<T>>, A>;
 
-/// The same as `TreeIndexed` over links of 4-byte words: half the memory for links, and 536,870,911 places at most.
+/// The same as `TreeIndexed` over links of 4-byte words. The links take half the memory, and there can be at most 536,870,911 objects.
 pub type NarrowTreeIndexed<T, A = Global> = Indexed<T, RBTree<NarrowByKey<T>>, A>;
 
 impl<T: HasKey, I: Index<T, A>, A: Allocator> Model for Indexed<T, I, A> {
@@ -58,7 +58,7 @@ impl<T: HasKey, I: Index<T, A>, A: Allocator> Model for Indexed<T, I, A> {
 }
 
 impl<T: HasKey, A: Allocator> Indexed<T, RBTree<ByKey<T>>, A> {
-    /// No objects, with a tree as the index. It takes no memory.
+    /// Makes a container without objects, with a tree as the index. It takes no memory. O(1).
     pub fn new(alloc: A) -> TreeIndexed<T, A>
     where
         A: Copy,
@@ -71,7 +71,8 @@ impl<T: HasKey, A: Allocator> Indexed<T, RBTree<ByKey<T>>, A> {
 }
 
 impl<T: HasKey, W: NodeWords, O: PrevPlace, A: Allocator> Indexed<T, RBTree<ByKey<T, W, O>>, A> {
-    /// No objects, with a tree over links of either width as the index: `NarrowTreeIndexed::by_tree(rt.alloc())`. It takes no memory.
+    /// Makes a container without objects, with a tree over links of either width as the index: `NarrowTreeIndexed::by_tree(rt.alloc())`. It takes no
+    /// memory. O(1).
     pub fn by_tree(alloc: A) -> Indexed<T, RBTree<ByKey<T, W, O>>, A>
     where
         A: Copy,
@@ -89,9 +90,9 @@ impl<T: HasKey, W: NodeWords, O: PrevPlace, A: Allocator> Indexed<T, RBTree<ByKe
 }
 
 impl<T: HasKey, I: Index<T, A>, A: Allocator> Indexed<T, I, A> {
-    /// No objects, with this index: `Indexed::with_index(rt.alloc(), HashIndex::new(buckets))`. It takes no memory.
+    /// Makes a container without objects, with this index: `Indexed::with_index(rt.alloc(), HashIndex::new(buckets))`. It takes no memory.
     ///
-    /// It requires that the index is new.
+    /// It requires that the index is new. O(1).
     pub fn with_index(alloc: A, index: I) -> Indexed<T, I, A>
     where
         A: Copy,
@@ -108,7 +109,7 @@ impl<T: HasKey, I: Index<T, A>, A: Allocator> Indexed<T, I, A> {
         }
     }
 
-    /// How many objects there are. O(1).
+    /// Returns how many objects there are. O(1).
     #[inline]
     pub fn len(&self) -> usize
         ensures { result ≡ length (values_of self.now) }
@@ -116,7 +117,7 @@ impl<T: HasKey, I: Index<T, A>, A: Allocator> Indexed<T, I, A> {
         self.pool.len()
     }
 
-    /// Whether there is no object. O(1).
+    /// Returns whether there is no object. O(1).
     #[inline]
     pub fn is_empty(&self) -> bool
         ensures { IsTrue result ↔ (values_of self.now ≡ []) }
@@ -124,8 +125,8 @@ impl<T: HasKey, I: Index<T, A>, A: Allocator> Indexed<T, I, A> {
         self.len() == 0
     }
 
-    /// Makes room for the links of so many more objects, so that to add them takes memory for the objects alone. No object and no order
-    /// changes, also where it is refused. At most one request for memory a table.
+    /// Makes room for the links of `additional` more objects, so that adding them takes memory only for the objects themselves. No object and no order
+    /// changes, even if it is refused. It makes at most one request for memory for each table. O(n) in the places that are new.
     pub fn reserve(&mut self, additional: usize) -> Result<(), CoverError>
         ensures { self.new ≡ self.old }
     {
@@ -133,14 +134,15 @@ impl<T: HasKey, I: Index<T, A>, A: Allocator> Indexed<T, I, A> {
         self.pool.links.cover(count)
     }
 
-    /// A walk over the objects in their order, from both ends. O(1), and it takes no memory.
+    /// Returns a walk over the objects in their order, from both ends. O(1), and it takes no memory.
     pub fn iter(&self) -> Iter<'_, T, A, I::Order>
         ensures { result ≡ values_of self.now }
     {
         Iter::new(self.in_order.iter(&self.pool.links.1, &self.pool.objects))
     }
 
-    /// Where an object of the key stands, if there is one. It costs what `find` does.
+    /// Returns the place of an object with this key, if there is one. It costs what `find` does.
+    /// O(log n) by a tree, and O(length of a chain) by a hash table.
     pub fn place_of(&self, key: u64) -> Option<Place>
         ensures found { IsFound T.key_of self.now.values key result }
         ensures whole { IsWhole (order_in self.now) }
@@ -148,10 +150,10 @@ impl<T: HasKey, I: Index<T, A>, A: Allocator> Indexed<T, I, A> {
         self.find(key).0
     }
 
-    /// Where an object of the key stands, if there is one, and how many objects the search looked at.
+    /// Returns the place of an object with this key, if there is one, and how many objects the search compared.
     ///
-    /// By a tree O(log n): v looks among n objects, where `2^v <= (n + 1)^2`. By a hash table O(1) on average: no more looks than objects
-    /// belong in the chain of the key.
+    /// With a tree it costs O(log n): it compares at most 2 log2(n + 1) of n objects. With a hash table it costs O(1) on average: it compares at most
+    /// the objects in the chain of the key.
     pub fn find(&self, key: u64) -> (Option<Place>, u64)
         ensures found { IsFound T.key_of self.now.values key result.0 }
         ensures looks { I.IsFew self.now.parts key (values_of self.now) result.1 }
@@ -161,7 +163,7 @@ impl<T: HasKey, I: Index<T, A>, A: Allocator> Indexed<T, I, A> {
             .find_key(&self.pool.links.0, &self.pool.objects, key)
     }
 
-    /// The object at a place. It requires that one stands there. O(1).
+    /// Returns the object at a place. It requires that there is one. O(1).
     #[inline]
     pub fn at(&self, place: Place) -> &T
         requires placed { is_placed self.now.values place ≡ true }
@@ -170,7 +172,7 @@ impl<T: HasKey, I: Index<T, A>, A: Allocator> Indexed<T, I, A> {
         self.pool.objects.get(place).unwrap() // proved: one stands there
     }
 
-    /// The place of the first object, `None` if there is no object. O(1).
+    /// Returns the place of the first object, or `None` if there is no object. O(1).
     pub fn first(&self) -> Option<Place>
         ensures first { object_there self.now.values result ≡ first_value (values_of self.now) }
         ensures placed { IfSome result (λ place. is_placed self.now.values place ≡ true) }
@@ -178,7 +180,7 @@ impl<T: HasKey, I: Index<T, A>, A: Allocator> Indexed<T, I, A> {
         self.in_order.first()
     }
 
-    /// The place of the last object, `None` if there is no object. O(1).
+    /// Returns the place of the last object, or `None` if there is no object. O(1).
     pub fn last(&self) -> Option<Place>
         ensures last { object_there self.now.values result ≡ last_value (values_of self.now) }
         ensures placed { IfSome result (λ place. is_placed self.now.values place ≡ true) }
@@ -186,8 +188,8 @@ impl<T: HasKey, I: Index<T, A>, A: Allocator> Indexed<T, I, A> {
         self.in_order.last()
     }
 
-    /// Moves the object at a place before all others, which keep their order. It requires that one stands there. O(1), and it
-    /// takes no memory.
+    /// Moves the object at a place to the front. The others keep their order. It requires that there is an object at the place. O(1), and it takes no
+    /// memory.
     pub fn move_to_front(&mut self, place: Place)
         requires placed { is_placed self.old.values place ≡ true }
         ensures values { self.new.values ≡ self.old.values }
@@ -198,7 +200,7 @@ impl<T: HasKey, I: Index<T, A>, A: Allocator> Indexed<T, I, A> {
         lists::move_to_front(&mut self.in_order, &mut self.pool.links.1, place);
     }
 
-    /// Moves the object at a place after all others. Else as `move_to_front`.
+    /// Moves the object at a place to the back. Everything else is as for `move_to_front`. O(1).
     pub fn move_to_back(&mut self, place: Place)
         requires placed { is_placed self.old.values place ≡ true }
         ensures values { self.new.values ≡ self.old.values }
@@ -209,9 +211,9 @@ impl<T: HasKey, I: Index<T, A>, A: Allocator> Indexed<T, I, A> {
         lists::move_to_back(&mut self.in_order, &mut self.pool.links.1, place);
     }
 
-    /// Takes the object at a place out. It requires that one stands there. The others keep their order.
+    /// Removes the object at a place and returns it. It requires that there is an object at the place. The others keep their order.
     ///
-    /// It costs about as much as a search of the index, O(log n) by a tree, and takes no memory.
+    /// It costs about as much as a search of the index, O(log n) with a tree, and takes no memory.
     pub fn remove(&mut self, place: Place) -> T
         requires placed { is_placed self.old.values place ≡ true }
         ensures value { object_at self.old.values place ≡ Some result }
@@ -227,9 +229,9 @@ impl<T: HasKey, I: Index<T, A>, A: Allocator> Indexed<T, I, A> {
         self.pool.remove(object)
     }
 
-    /// Takes the first object out, `None` if there is no object. The others keep their order.
+    /// Removes the first object and returns it, or returns `None` if there is no object. The others keep their order.
     ///
-    /// It costs about as much as a search of the index, O(log n) by a tree, and takes no memory.
+    /// It costs about as much as a search of the index, O(log n) with a tree, and takes no memory.
     pub fn pop_first(&mut self) -> Option<T>
         ensures popped { MatchOption result ((values_of self.old ≡ []) × (self.new ≡ self.old)) (λ first. values_of self.old ≡ first ∷ values_of self.new) }
         ensures parts { self.new.parts ≡ self.old.parts }
@@ -238,7 +240,8 @@ impl<T: HasKey, I: Index<T, A>, A: Allocator> Indexed<T, I, A> {
         Some(self.remove(place))
     }
 
-    /// Takes the last object out, `None` if there is no object. Else as `pop_first`.
+    /// Removes the last object and returns it, or returns `None` if there is no object. Everything else is as for `pop_first`.
+    /// O(log n) by a tree, and O(length of a chain) by a hash table.
     pub fn pop_last(&mut self) -> Option<T>
         ensures popped { MatchOption result ((values_of self.old ≡ []) × (self.new ≡ self.old)) (λ last. values_of self.old ≡ values_of self.new ++ last ∷ []) }
         ensures parts { self.new.parts ≡ self.old.parts }
@@ -247,10 +250,10 @@ impl<T: HasKey, I: Index<T, A>, A: Allocator> Indexed<T, I, A> {
         Some(self.remove(place))
     }
 
-    /// Puts a value in the place of the object there, which comes back, and before all others. It requires that one stands
-    /// there.
+    /// Replaces the object at a place by a value, moves it to the front, and returns the old object. It requires that there is an object at the
+    /// place.
     ///
-    /// It costs about as much as two searches of the index, O(log n) by a tree, and takes no memory.
+    /// It costs about as much as two searches of the index, O(log n) with a tree, and takes no memory.
     pub fn renew(&mut self, place: Place, value: T) -> T
         requires placed { is_placed self.old.values place ≡ true }
         ensures value { object_at self.old.values place ≡ Some result }
@@ -264,12 +267,12 @@ impl<T: HasKey, I: Index<T, A>, A: Allocator> Indexed<T, I, A> {
         gone
     }
 
-    /// Adds an object before all others.
+    /// Adds an object at the front.
     ///
-    /// Where it is refused the value comes back, and nothing has changed: with `NoPlaceLeft` exactly if no place is left, of 4,294,967,296,
-    /// and else with `OutOfMemory`, also where links of 4-byte words have no name left.
+    /// If it is refused, the caller gets the value back, and nothing has changed. The error is `NoPlaceLeft` exactly if all 4,294,967,296 places are
+    /// in use. Otherwise it is `OutOfMemory`, also if the links have 4-byte words and all 536,870,911 places that these can name are in use.
     ///
-    /// It costs about as much as a search of the index, O(log n) by a tree, and at most three requests for memory.
+    /// It costs about as much as a search of the index, O(log n) with a tree, and at most three requests for memory.
     pub fn place_front(&mut self, value: T) -> Result<UnsafeRef<T>, PlaceError<T>>
         ensures placed { IfOk result (λ object. Places self.old.values self.new.values object value) }
         ensures added { OnOk result (values_of self.new ≡ value ∷ values_of self.old) }
@@ -285,7 +288,7 @@ impl<T: HasKey, I: Index<T, A>, A: Allocator> Indexed<T, I, A> {
         Ok(object)
     }
 
-    /// Adds an object after all others. Else as `place_front`.
+    /// Adds an object at the back. Everything else is as for `place_front`. O(log n) by a tree, and O(length of a chain) by a hash table.
     pub fn place_back(&mut self, value: T) -> Result<UnsafeRef<T>, PlaceError<T>>
         ensures placed { IfOk result (λ object. Places self.old.values self.new.values object value) }
         ensures added { OnOk result (values_of self.new ≡ values_of self.old ++ value ∷ []) }

@@ -1,4 +1,4 @@
--- What a container of unique keys keeps.
+-- What a container of unique keys maintains.
 use Rattle.std.specs.Prelude.{ℕ, List, refl}
 use Rattle.std.specs.Coded.{Coded, code_by, coded×, coded_list, coded_ℕ}
 use Rattle.ic_indexed.specs.Indexed.{IndexedOrder, values_of}

@@ -2,12 +2,13 @@
 use Rattle.std.specs.Prelude.{◌≡◌, ℕ, Bool, false, not, eqb, Option, List, [], ◌∷◌, ◌++◌, filter, find}
 use Rattle.std.specs.List.{AllByRecursion}
 
--- the values, from the one that was used last to the oldest, and in how many parts the index has them: a search looks at those of one part
+-- the values, from the one that was used last to the oldest, and into how many parts the index divides them: a search compares only values of one
+-- part
 pub record KeyedValues (T : Type 0) : Type 0 where
   pub values : List T
   pub parts : ℕ
 
--- the same parts with other values
+-- the same container with other values
 abbrev pub with_values : {T : Type 0} → KeyedValues T → List T → KeyedValues T
 with_values old values = record { values = values; parts = old.parts }
 
@@ -16,19 +17,19 @@ module _ {T : Type 0} (key_of : T → ℕ) where
   abbrev pub has_key : ℕ → T → Bool
   has_key key value = eqb (key_of value) key
 
-  -- the value of the key, if there is one
+  -- the value with the key, if there is one
   abbrev pub value_with : ℕ → List T → Option T
   value_with key values = find (has_key key) values
 
-  -- the values without that of the key
+  -- the values without the one that has the key
   abbrev pub without : ℕ → List T → List T
   without key values = filter (λ value. not (has_key key value)) values
 
-  -- TOUCHED: the value of the key, if there is one, stands before all others, which keep their order
+  -- TOUCHED: the value with the key, if there is one, is now first, and the others keep their order
   abbrev pub touched : ℕ → List T → List T
   touched key values = filter (has_key key) values ++ without key values
 
-  -- none of them has the key
+  -- none of the values has the key
   abbrev pub Lack : ℕ → List T → Type 0
   Lack key values = AllByRecursion (λ value. has_key key value ≡ false) values
 
@@ -37,13 +38,13 @@ module _ {T : Type 0} (key_of : T → ℕ) where
   HaveOwnKeys [] = Unit {0}
   HaveOwnKeys (value ∷ values) = Lack (key_of value) values × HaveOwnKeys values
 
--- the first of them is this one, and the last is
+-- a value is the first of the values; a value is the last
 abbrev pub BeginsWith : {T : Type 0} → T → List T → Type 0
 BeginsWith {T} first values = (rest : List T) × (values ≡ first ∷ rest)
 
 abbrev pub EndsWith : {T : Type 0} → T → List T → Type 0
 EndsWith {T} last values = (front : List T) × (values ≡ front ++ last ∷ [])
 
--- the last of them is gone, and another one stands first
+-- the last value is removed, and another one is inserted at the front
 abbrev pub ReplacesLast : {T : Type 0} → T → T → KeyedValues T → KeyedValues T → Type 0
 ReplacesLast {T} last value old new = (front : List T) × (old.values ≡ front ++ last ∷ []) × (new ≡ with_values old (value ∷ front))

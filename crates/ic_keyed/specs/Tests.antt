@@ -1,18 +1,18 @@
--- What a test answers.
+-- What a test returns.
 use Rattle.std.specs.Prelude.{◌≡◌, Bool, cond, List, [], ◌∷◌}
 
--- `tells v b`: the test may answer b of the value v. It answers of each value what `holds` computes
+-- `tells v b`: the test may return b for the value v. It returns for each value what `holds` computes
 abbrev pub Tests : {T : Type 0} → (T → Bool → Type 0) → (T → Bool) → Type 0
 Tests {T} tells holds = (value : T) (answer : Bool) → tells value answer → answer ≡ holds value
 
--- THE TEST WAS ASKED of each of these values once, in their order, and answered so
+-- THE TEST WAS CALLED with each of these values once, in their order, and returned these results
 abbrev pub AreAnswers : {T : Type 0} → (T → Bool → Type 0) → List T → List Bool → Type 0
 AreAnswers tells [] [] = Unit {0}
 AreAnswers tells [] (answer ∷ answers) = ⊥
 AreAnswers tells (value ∷ values) [] = ⊥
 AreAnswers tells (value ∷ values) (answer ∷ answers) = tells value answer × AreAnswers tells values answers
 
--- the values of which it answered yes
+-- the values for which the test returned true
 abbrev pub passing : {T : Type 0} → List Bool → List T → List T
 passing [] values = []
 passing (answer ∷ answers) [] = []

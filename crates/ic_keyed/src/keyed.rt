@@ -22,21 +22,22 @@ use ic_rbtree::RBTree;
 use std::alloc::{Allocator, Global};
 use std::marker::Model;
 
-/// Values with a key each, at most one of a key, in the order of their use.
+/// Values with unique keys, in the order of their use.
 ///
-/// A clause sees the list of the values, the one that was used last first (`values`), and in how many parts the index has them
-/// (`parts`): one by a tree, and the number of chains by a hash table. No two values have one key: `keys_differ` gives a proof that fact.
+/// A contract sees the list of the values, from the one that was used last to the oldest (`values`), and into how many parts the index divides them
+/// (`parts`): one for a tree, and the number of chains for a hash table. No two values have the same key: `keys_differ` gives this fact to a proof.
 ///
-/// Each call that searches costs O(log n) by a tree and O(1) on average by a hash table, and `insert` alone takes memory.
+/// Each call that searches costs O(log n) with a tree and O(1) on average with a hash table. Only `reserve` and the calls that add a value take
+/// memory.
 #[derive(Drop)]
 pub struct Keyed<T: HasKey, I: Index<T, A>, A: Allocator = Global> {
     store: Indexed<T, I, A>,
 }
 
-/// Values that are found by a tree: O(log n).
+/// Values with a tree as their index, whose searches take O(log n).
 pub type TreeKeyed<T, A = Global> = Keyed<T, RBTree<ByKey<T>>, A>;
 
-/// The same as `TreeKeyed` over links of 4-byte words: half the memory for links, and 536,870,911 places at most.
+/// The same as `TreeKeyed` over links of 4-byte words. The links take half the memory, and there can be at most 536,870,911 values.
 pub type NarrowTreeKeyed<T, A = Global> = Keyed<T, RBTree<NarrowByKey<T>>, A>;
 
 impl<T: HasKey, I: Index<T, A>, A: Allocator> Model for Keyed<T, I, A> {
@@ -54,7 +55,7 @@ impl<T: HasKey, I: Index<T, A>, A: Allocator> Model for Keyed<T, I, A> {
 }
 
 impl<T: HasKey, A: Allocator> Keyed<T, RBTree<ByKey<T>>, A> {
-    /// No values, with a tree as the index. It takes no memory.
+    /// Makes a container without values, with a tree as the index. It takes no memory. O(1).
     pub fn new(alloc: A) -> TreeKeyed<T, A>
     where
         A: Copy,
@@ -66,7 +67,8 @@ impl<T: HasKey, A: Allocator> Keyed<T, RBTree<ByKey<T>>, A> {
 }
 
 impl<T: HasKey, W: NodeWords, O: PrevPlace, A: Allocator> Keyed<T, RBTree<ByKey<T, W, O>>, A> {
-    /// No values, with a tree over links of either width as the index: `NarrowTreeKeyed::by_tree(rt.alloc())`. It takes no memory.
+    /// Makes a container without values, with a tree over links of either width as the index: `NarrowTreeKeyed::by_tree(rt.alloc())`. It takes no
+    /// memory. O(1).
     pub fn by_tree(alloc: A) -> Keyed<T, RBTree<ByKey<T, W, O>>, A>
     where
         A: Copy,
@@ -85,9 +87,9 @@ impl<T: HasKey, I: Index<T, A>, A: Allocator> Keyed<T, I, A> {
     ghost use Rattle.ic_keyed.specs.Refusals.{IsRefused};
     ghost use Rattle.ic_keyed.specs.Tests.{AreAnswers, Tests, passing};
 
-    /// No values, with this index: `Keyed::with_index(rt.alloc(), HashIndex::new(buckets))`. It takes no memory.
+    /// Makes a container without values, with this index: `Keyed::with_index(rt.alloc(), HashIndex::new(buckets))`. It takes no memory.
     ///
-    /// It requires that the index is new.
+    /// It requires that the index is new. O(1).
     pub fn with_index(alloc: A, index: I) -> Keyed<T, I, A>
     where
         A: Copy,
@@ -100,7 +102,7 @@ impl<T: HasKey, I: Index<T, A>, A: Allocator> Keyed<T, I, A> {
         }
     }
 
-    /// No two values have one key. It does nothing: a caller whose proof needs that fact calls it.
+    /// Gives a caller's proof the fact that no two values have the same key. It does nothing itself. O(1).
     #[inline]
     pub fn keys_differ(&self)
         ensures { HaveOwnKeys T.key_of self.now.values }
@@ -108,7 +110,7 @@ impl<T: HasKey, I: Index<T, A>, A: Allocator> Keyed<T, I, A> {
         let _ = &self.store;
     }
 
-    /// How many values there are. O(1).
+    /// Returns how many values there are. O(1).
     #[inline]
     pub fn len(&self) -> usize
         ensures { result ≡ length self.now.values }
@@ -116,7 +118,7 @@ impl<T: HasKey, I: Index<T, A>, A: Allocator> Keyed<T, I, A> {
         self.store.len()
     }
 
-    /// Whether there is no value. O(1).
+    /// Returns whether there is no value. O(1).
     #[inline]
     pub fn is_empty(&self) -> bool
         ensures { IsTrue result ↔ (self.now.values ≡ []) }
@@ -124,25 +126,25 @@ impl<T: HasKey, I: Index<T, A>, A: Allocator> Keyed<T, I, A> {
         self.store.is_empty()
     }
 
-    /// Makes room for the links of so many more values, so that to insert them takes memory for the values alone. Nothing changes that a
-    /// clause sees, also where it is refused. At most two requests for memory.
+    /// Makes room for the links of `additional` more values, so that inserting them takes memory only for the values themselves. The values and their
+    /// order stay the same, even if it is refused. It makes at most two requests for memory. O(n) in the places that are new.
     pub fn reserve(&mut self, additional: usize) -> Result<(), CoverError>
         ensures { self.new ≡ self.old }
     {
         self.store.reserve(additional)
     }
 
-    /// A walk over the values from the one that was used last, and from both ends. The order stays. O(1).
+    /// Returns a walk over the values from the one that was used last to the oldest, or back from the oldest. The order stays. O(1).
     pub fn iter(&self) -> Iter<'_, T, A, I::Order>
         ensures { result ≡ self.now.values }
     {
         self.store.iter()
     }
 
-    /// The value of the key, if there is one, and how many values the search looked at. The order stays.
+    /// Returns the value with the key, if there is one, and how many values the search compared. The order stays.
     ///
-    /// By a tree it looks v times among n values, where `2^v <= (n + 1)^2`, and by a hash table at no more values than belong in the
-    /// chain of the key.
+    /// With a tree it compares at most 2 log2(n + 1) of n values, and with a hash table at most the values in the chain of the key.
+    /// O(log n) by a tree, and O(length of a chain) by a hash table.
     pub fn find(&self, key: u64) -> (Option<&T>, u64)
         ensures value { option_copied result.0 ≡ value_with T.key_of key self.now.values }
         ensures looks { I.IsFew self.now.parts key self.now.values result.1 }
@@ -154,7 +156,7 @@ impl<T: HasKey, I: Index<T, A>, A: Allocator> Keyed<T, I, A> {
         }
     }
 
-    /// The value of the key, if there is one. The order stays.
+    /// Returns the value with the key, if there is one. The order stays. O(log n) by a tree, and O(length of a chain) by a hash table.
     pub fn peek(&self, key: u64) -> Option<&T>
         ensures { option_copied result ≡ value_with T.key_of key self.now.values }
     {
@@ -162,7 +164,8 @@ impl<T: HasKey, I: Index<T, A>, A: Allocator> Keyed<T, I, A> {
         Some(self.store.at(place))
     }
 
-    /// The value of the key, if there is one. It is used: it goes before all others, which keep their order.
+    /// Returns the value with the key, if there is one, and moves it to the front, as the one that was used last. The others keep their order.
+    /// O(log n) by a tree, and O(length of a chain) by a hash table.
     pub fn get(&mut self, key: u64) -> Option<&T>
         ensures* touches { sem 𝓛 (EndsAs T.row I.row A.row I.Links.row I.Order.row T.HasKey I.Index I.Links.Tables I.Order.unlinked I.Order.is_linked I.Order.width I.Order.next_word I.Order.KeepsOthers I.Order.prev A.Allocator self.entry (touched T.key_of key self.old.values)) }
         ensures value { option_copied result ≡ value_with T.key_of key self.old.values }
@@ -172,7 +175,8 @@ impl<T: HasKey, I: Index<T, A>, A: Allocator> Keyed<T, I, A> {
         Some(self.store.at(used))
     }
 
-    /// Moves the value of the key before all others, which keep their order. Whether there is one.
+    /// Moves the value with the key to the front, and returns whether there is one. The others keep their order.
+    /// O(log n) by a tree, and O(length of a chain) by a hash table.
     pub fn touch(&mut self, key: u64) -> bool
         ensures found { result ≡ is_some (value_with T.key_of key self.old.values) }
         ensures touched { self.new ≡ with_values self.old (touched T.key_of key self.old.values) }
@@ -184,7 +188,7 @@ impl<T: HasKey, I: Index<T, A>, A: Allocator> Keyed<T, I, A> {
         true
     }
 
-    /// The value that was used last, if there is one. The order stays. O(1).
+    /// Returns the value that was used last, if there is one. The order stays. O(1).
     pub fn first(&self) -> Option<&T>
         ensures { MatchOption result (self.now.values ≡ []) (λ first. BeginsWith first.now self.now.values) }
     {
@@ -192,7 +196,7 @@ impl<T: HasKey, I: Index<T, A>, A: Allocator> Keyed<T, I, A> {
         Some(self.store.at(newest))
     }
 
-    /// The value that was used longest ago, if there is one. The order stays. O(1).
+    /// Returns the value that was used longest ago, if there is one. The order stays. O(1).
     pub fn last(&self) -> Option<&T>
         ensures { MatchOption result (self.now.values ≡ []) (λ last. EndsWith last.now self.now.values) }
     {
@@ -200,10 +204,10 @@ impl<T: HasKey, I: Index<T, A>, A: Allocator> Keyed<T, I, A> {
         Some(self.store.at(oldest))
     }
 
-    /// Adds a value before all others.
+    /// Adds a value at the front.
     ///
-    /// It is refused if there is one of its key, or if there is no room for one more. Then it comes back, and nothing has changed. It
-    /// costs two searches, and at most three requests for memory.
+    /// It is refused if another value has its key, or if there is no room for one more. Then the caller gets the value back, and nothing has changed.
+    /// It costs two searches, and at most three requests for memory. O(log n) by a tree, and O(length of a chain) by a hash table.
     pub fn insert(&mut self, value: T) -> Result<(), InsertError<T>>
         ensures inserted { OnOk result ((value_with T.key_of (T.key_of value) self.old.values ≡ None) × (self.new ≡ with_values self.old (value ∷ self.old.values))) }
         ensures refused { IfErr result (λ refused. IsRefused T.key_of value self.old.values refused × (self.new ≡ self.old)) }
@@ -220,7 +224,8 @@ impl<T: HasKey, I: Index<T, A>, A: Allocator> Keyed<T, I, A> {
 
     /// Adds a value before all others, without the search of `insert`. It requires that none has its key.
     ///
-    /// If there is no room for one more it comes back, and nothing has changed.
+    /// If there is no room for one more, the caller gets the value back, and nothing has changed.
+    /// O(log n) by a tree, and O(length of a chain) by a hash table.
     pub fn insert_new(&mut self, value: T) -> Result<(), T>
         requires new { value_with T.key_of (T.key_of value) self.old.values ≡ None }
         ensures inserted { OnOk result (self.new ≡ with_values self.old (value ∷ self.old.values)) }
@@ -233,9 +238,10 @@ impl<T: HasKey, I: Index<T, A>, A: Allocator> Keyed<T, I, A> {
         Ok(())
     }
 
-    /// Puts a value in the place of the one with its key, which comes back, and before all others, which keep their order.
+    /// Replaces the value that has the same key by this one, moves it to the front, and returns the old value. The others keep their order.
     ///
-    /// If none has its key the value itself comes back, and nothing has changed. One search.
+    /// If no value has its key, it returns the given value, and nothing has changed. It makes one search.
+    /// O(log n) by a tree, and O(length of a chain) by a hash table.
     pub fn replace(&mut self, value: T) -> Result<T, T>
         ensures replaced { IfOk result (λ gone. (value_with T.key_of (T.key_of value) self.old.values ≡ Some gone)
             × (self.new ≡ with_values self.old (value ∷ without T.key_of (T.key_of value) self.old.values))) }
@@ -247,10 +253,11 @@ impl<T: HasKey, I: Index<T, A>, A: Allocator> Keyed<T, I, A> {
         Ok(self.store.renew(place, value))
     }
 
-    /// Puts a value in the place of the one that was used longest ago, which comes back, and before all others, which keep their
-    /// order. It requires that none has its key.
+    /// Replaces the value that was used longest ago by this one, moves it to the front, and returns the old value. The others keep their order. It
+    /// requires that no value has its key.
     ///
-    /// If there is no value this one comes back, and nothing has changed. It costs two searches.
+    /// If there is no value, it returns the given one, and nothing has changed. It costs two searches.
+    /// O(log n) by a tree, and O(length of a chain) by a hash table.
     pub fn replace_last(&mut self, value: T) -> Result<T, T>
         requires new { value_with T.key_of (T.key_of value) self.old.values ≡ None }
         ensures replaced { IfOk result (λ last. ReplacesLast last value self.old self.new) }
@@ -262,7 +269,8 @@ impl<T: HasKey, I: Index<T, A>, A: Allocator> Keyed<T, I, A> {
         Ok(self.store.renew(oldest, value))
     }
 
-    /// Takes the value of the key out, if there is one. The others keep their order. It costs two searches.
+    /// Removes the value with the key and returns it, if there is one. The others keep their order. It costs two searches.
+    /// O(log n) by a tree, and O(length of a chain) by a hash table.
     pub fn remove(&mut self, key: u64) -> Option<T>
         ensures value { result ≡ value_with T.key_of key self.old.values }
         ensures removed { self.new ≡ with_values self.old (without T.key_of key self.old.values) }
@@ -271,22 +279,24 @@ impl<T: HasKey, I: Index<T, A>, A: Allocator> Keyed<T, I, A> {
         Some(self.store.remove(leaving))
     }
 
-    /// Takes the value out that was used last, if there is one. It costs about a search.
+    /// Removes the value that was used last and returns it, if there is one. It costs about a search.
+    /// O(log n) by a tree, and O(length of a chain) by a hash table.
     pub fn pop_first(&mut self) -> Option<T>
         ensures { MatchOption result ((self.old.values ≡ []) × (self.new ≡ self.old)) (λ first. self.old ≡ with_values self.new (first ∷ self.new.values)) }
     {
         self.store.pop_first()
     }
 
-    /// Takes the value out that was used longest ago, if there is one. It costs about a search.
+    /// Removes the value that was used longest ago and returns it, if there is one. It costs about a search.
+    /// O(log n) by a tree, and O(length of a chain) by a hash table.
     pub fn pop_last(&mut self) -> Option<T>
         ensures { MatchOption result ((self.old.values ≡ []) × (self.new ≡ self.old)) (λ last. self.old ≡ with_values self.new (self.new.values ++ last ∷ [])) }
     {
         self.store.pop_last()
     }
 
-    /// Keeps the values that pass the test, in their order, and drops the others. The test is asked once for each value, from the one that
-    /// was used last on. It costs a few steps for each value, and about a search for each that goes.
+    /// Keeps the values that pass the test, in their order, and drops the others. It calls the test once for each value, beginning with the one that
+    /// was used last. It costs a few steps for each value, and about a search for each that it drops. O(n log n) by a tree.
     pub fn retain<F: Fn(&T) -> bool>(&mut self, keeps: F)
     where
         T: Drop,
@@ -299,7 +309,7 @@ impl<T: HasKey, I: Index<T, A>, A: Allocator> Keyed<T, I, A> {
         }
     }
 
-    // Asks the test of the first value, which goes after all others if it passes, and out if it does not.
+    // Calls the test with the first value, and moves the value to the back if it passes, or removes it if it does not.
     fn test_first<F: Fn(&T) -> bool>(&mut self, keeps: &F)
     where
         T: Drop,
@@ -318,7 +328,7 @@ impl<T: HasKey, I: Index<T, A>, A: Allocator> Keyed<T, I, A> {
         }
     }
 
-    /// Takes all values out and drops them. It costs about a search for each.
+    /// Removes all values and drops them. It costs about a search for each value. O(n log n) by a tree.
     pub fn clear(&mut self)
     where
         T: Drop,

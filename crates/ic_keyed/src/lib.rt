@@ -1,4 +1,4 @@
-//! Values with a key each, at most one of a key, in the order of their use.
+//! Values with unique keys, in the order of their use.
 //!
 //! ```text
 //! let mut pages = Keyed::new(rt.alloc());
@@ -7,7 +7,7 @@
 //! let oldest = pages.pop_last();
 //! ```
 //!
-//! A clause sees one list of values, the one that was used last first. Each call cuts, joins or filters that list.
+//! A contract sees one list of values, from the one that was used last to the oldest. Each call cuts, joins or filters that list.
 #![tactic(auto)]
 
 mod insert_error;

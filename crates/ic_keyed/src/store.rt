@@ -1,4 +1,4 @@
-//! Which value a key finds.
+//! Searches of a value by its key.
 
 ghost use Rattle.std.specs.Prelude.{◌≡◌, true, IfSome};
 ghost use Rattle.ic_link_ops.specs.Prelude.{is_placed, object_there};
@@ -9,7 +9,7 @@ use ic_indexed::{HasKey, Index, Indexed};
 use ic_unsafe_ref::Place;
 use std::alloc::Allocator;
 
-// Where the value of the key stands, if there is one, and how many values the search looked at.
+// Returns the place of the value with the key, if there is one, and how many values the search compared.
 pub(crate) fn find<T: HasKey, I: Index<T, A>, A: Allocator>(
     store: &Indexed<T, I, A>,
     key: u64,
@@ -22,7 +22,7 @@ pub(crate) fn find<T: HasKey, I: Index<T, A>, A: Allocator>(
     store.find(key)
 }
 
-// The same without the looks.
+// The same without the number of comparisons.
 pub(crate) fn place_of<T: HasKey, I: Index<T, A>, A: Allocator>(
     store: &Indexed<T, I, A>,
     key: u64,

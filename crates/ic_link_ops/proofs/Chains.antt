@@ -57,10 +57,10 @@ module _ {E : Type 0} (between : E → Option Place → Option Place → Type 0)
   pub chain_parts : (t0 t1 t2 : Place → E) (s r : List Place) (f g x y : Option Place) → IsDistinct (s ++ r)
       → TurnsAfter between t0 t1 (last s) f x → TurnsBefore between t1 t2 (first r) g y
       → IsChain between t0 None s f → IsChain between t0 g r None → IsChain between t2 None s x × IsChain between t2 y r None
-  chain_parts t0 t1 t2 s r f g x y d behind before c k =
+  chain_parts t0 t1 t2 s r f g x y d after before c k =
       let apart = distinct_disjoint s r d in (
-        chain_beside t1 t2 (first r) None s x (first_outside s r apart) before.others (chain_last t0 t1 None s f x behind (distinct_left s r d) c),
-        chain_first t1 t2 g y r None before (distinct_right s r d) (chain_beside t0 t1 (last s) g r None (last_outside None s r tt apart) behind.others k),
+        chain_beside t1 t2 (first r) None s x (first_outside s r apart) before.others (chain_last t0 t1 None s f x after (distinct_left s r d) c),
+        chain_first t1 t2 g y r None before (distinct_right s r d) (chain_beside t0 t1 (last s) g r None (last_outside None s r tt apart) after.others k),
       )
 
   -- one place is put between two chains
@@ -68,10 +68,10 @@ module _ {E : Type 0} (between : E → Option Place → Option Place → Type 0)
       → TurnsAfter between t0 t1 (last s) f (Some p) → TurnsBefore between t1 t2 (first r) g (Some p)
       → between (t3 p) (last s) (first r) → ((q : Place) → q ≢ p → t3 q ≡ t2 q)
       → IsChain between t0 None s f → IsChain between t0 g r None → IsChain between t3 None (s ++ p ∷ r) None
-  chain_filled t0 t1 t2 t3 s p r f g d behind before stands same c k =
+  chain_filled t0 t1 t2 t3 s p r f g d after before stands same c k =
       let out = distinct_middle s r p d in
       let others : (q : Place) → Some p ≢ Some q → t3 q ≡ t2 q = λ q n. same q (λ e. n (ap Some (sym e))) in
-      let parts = chain_parts t0 t1 t2 s r f g (Some p) (Some p) (distinct_remove s r p d) behind before c k in
+      let parts = chain_parts t0 t1 t2 s r f g (Some p) (Some p) (distinct_remove s r p d) after before c k in
       chain_glue t3 None s (p ∷ r) None (chain_beside t2 t3 (Some p) None s (Some p) (absent_left p s r out) others parts.0)
       (stands, chain_beside t2 t3 (Some p) (Some p) r None (absent_right p s r out) others parts.1)
 

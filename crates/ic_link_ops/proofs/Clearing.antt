@@ -70,7 +70,7 @@ module _ {E : Type 0} {between : E → Option Place → Option Place → Type 0}
     whole (x ∷ rest) parts none = absurd (none_not x (sym none))
 
   -- what is left is what a walk from there comes by: `step e before` is what stands after the place of e
-  pub releases_left : (step : E → Option Place → Option Place) → ((e : E) (before behind : Option Place) → between e before behind → step e before ≡ behind)
+  pub releases_left : (step : E → Option Place → Option Place) → ((e : E) (before after : Option Place) → between e before after → step e before ≡ after)
       → {old new : Table E} {s : List Place} {current : Option Place} → ((q : Place) (b a : Option Place) → between (new.entry q) b a → IsCovered new q)
       → IsDistinct s → (k : Releases between old new s current) → walked step new (last k.done) current None ≡ k.rest
   releases_left step law {new = new} {current = current} covered d k =
@@ -78,7 +78,7 @@ module _ {E : Type 0} {between : E → Option Place → Option Place → Type 0}
       (record { distinct = distinct_right k.done k.rest (subst IsDistinct k.parts d); chain = k.chain; starts = k.at; ends = refl })
 
   -- whatever stands before, where the entry alone tells what stands after
-  pub releases_left_blind : (next : E → Option Place) → ((e : E) (before behind : Option Place) → between e before behind → next e ≡ behind)
+  pub releases_left_blind : (next : E → Option Place) → ((e : E) (before after : Option Place) → between e before after → next e ≡ after)
       → {old new : Table E} {s : List Place} {current : Option Place} → ((q : Place) (b a : Option Place) → between (new.entry q) b a → IsCovered new q)
       → IsDistinct s → (k : Releases between old new s current) → walked (λ e before. next e) new None current None ≡ k.rest
   releases_left_blind next law {new = new} {current = current} covered d k =

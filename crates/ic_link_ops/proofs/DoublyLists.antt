@@ -57,14 +57,14 @@ module _ {E : Type 0} {n : E → Neighbors} where
       → (r : List Place) × (w ≡ p ∷ r) × IsWalk n t ((n (t p)).next) to r
   walk_more t p to w k apart =
       let more = stretch_more (next_of n) (λ e a b h. h.next) k.part apart in
-      (more.0, more.1, record { before = Some p; behind = k.behind; part = more.2 })
+      (more.0, more.1, record { before = Some p; after = k.after; part = more.2 })
 
   -- and, from the back, before its last
   pub walk_less : (t : Place → E) (from : Option Place) (p : Place) (w : List Place) → IsWalk n t from (Some p) w → from ≢ Some p
       → (r : List Place) × (w ≡ r ++ p ∷ []) × IsWalk n t from ((n (t p)).prev) r
   walk_less t from p w k apart =
-      let less = stretch_less (λ e behind. (n e).prev) (λ e a b h. h.prev) k.part apart in
-      (less.0, less.1, record { before = k.before; behind = Some p; part = less.2 })
+      let less = stretch_less (λ e after. (n e).prev) (λ e a b h. h.prev) k.part apart in
+      (less.0, less.1, record { before = k.before; after = Some p; part = less.2 })
 
   -- the first of a walk is linked, and the last
   pub walk_linked : (t : Place → E) (p : Place) (to : Option Place) (w : List Place) → IsWalk n t (Some p) to w → (n (t p)).linked ≡ true
@@ -75,7 +75,7 @@ module _ {E : Type 0} {n : E → Neighbors} where
 
   -- a walk with no first member, or no last, has none
   pub walk_none : (t : Place → E) → IsWalk n t None None []
-  walk_none t = record { before = None; behind = None; part = stretch_none }
+  walk_none t = record { before = None; after = None; part = stretch_none }
 
   pub walk_empty : (t : Place → E) (from to : Option Place) (w : List Place) → from ≡ None → IsWalk n t from to w → w ≡ []
   walk_empty t from to w e k = stretch_empty e k.part
@@ -85,7 +85,7 @@ module _ {E : Type 0} {n : E → Neighbors} where
 
   -- a list's members are a walk
   pub walk_of : (t : Table E) {list : Ends} {s : List Place} → Represents n t list s → IsWalk n t.entry list.head list.tail s
-  walk_of t h = record { before = None; behind = None; part = stretch_between h }
+  walk_of t h = record { before = None; after = None; part = stretch_between h }
 
   -- THE MEMBERS of a list are the one sequence that the table represents for it
   pub members_represented : (t : Table E) → ((q : Place) → (n (t.entry q)).linked ≡ true → IsCovered t q)

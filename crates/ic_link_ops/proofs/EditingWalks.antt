@@ -10,12 +10,12 @@ use Rattle.ic_link_ops.proofs.StepLemmas.{releases_append}
 -- `Represents t head s`: the table represents s for the collection with this head
 module _ {L E H : Type 0} (Represents : Table E → H → List Place → Type 0) (table : L → Table E) (Trace : L → L → List LinkStep → Type 0) where
   -- from a table that showed s for the collection, the walk has come here
-  pub record Walked (start : L) (s : List Place) (now : CursorState L H) (behind gone ahead : List Place) : Type 0 where
-    pub shown : Represents (table now.links) now.head (behind ++ ahead)
+  pub record Walked (start : L) (s : List Place) (now : CursorState L H) (after gone ahead : List Place) : Type 0 where
+    pub shown : Represents (table now.links) now.head (after ++ ahead)
     pub here : now.position ≡ first ahead
     pub steps : Trace start now.links (releases_each gone)
     pub frame : ChangesOnlyIn (table start) (table now.links) s
-    pub within : (q : Place) → IsAbsent q s → IsAbsent q (behind ++ ahead)
+    pub within : (q : Place) → IsAbsent q s → IsAbsent q (after ++ ahead)
 
 module _ {L E H : Type 0} {Represents : Table E → H → List Place → Type 0} {table : L → Table E} {Trace : L → L → List LinkStep → Type 0} where
   -- at first all is ahead
@@ -29,15 +29,15 @@ module _ {L E H : Type 0} {Represents : Table E → H → List Place → Type 0}
     within = λ q out. out;
   }
 
-  module _ {start : L} {s : List Place} {now : CursorState L H} {behind gone ahead : List Place} {p : Place} (w : Walked Represents table Trace start s now behind gone (p ∷ ahead)) where
+  module _ {start : L} {s : List Place} {now : CursorState L H} {after gone ahead : List Place} {p : Place} (w : Walked Represents table Trace start s now after gone (p ∷ ahead)) where
     -- ONE STEP: the walk moves on, and the member is after it
     pub walk_leaves : {position : Option Place} → MovesOn Represents table now position
-        → Walked Represents table Trace start s (site now.links now.head position) (behind ++ p ∷ []) gone ahead
+        → Walked Represents table Trace start s (site now.links now.head position) (after ++ p ∷ []) gone ahead
     walk_leaves moves =
-        let gap : Cut = record { front = behind ++ p ∷ []; back = ahead } in
-        let same = append_assoc behind (p ∷ []) ahead in record {
+        let gap : Cut = record { front = after ++ p ∷ []; back = ahead } in
+        let same = append_assoc after (p ∷ []) ahead in record {
           shown = rw same w.shown;
-          here = moves.leads gap (rw same w.shown) (w.here ∙ sym (last_of_push behind p));
+          here = moves.leads gap (rw same w.shown) (w.here ∙ sym (last_of_push after p));
           steps = w.steps;
           frame = w.frame;
           within = λ q out. rw same (w.within q out);
@@ -45,14 +45,14 @@ module _ {L E H : Type 0} {Represents : Table E → H → List Place → Type 0}
 
     -- or it takes the member off
     pub walk_takes : ((a b c : L) (u v : List LinkStep) → Trace a b u → Trace b c v → Trace a c (u ++ v)) → {new : CursorState L H} {r : Option Place}
-        → RemovesThere Represents table Trace now r new → Walked Represents table Trace start s new behind (gone ++ p ∷ []) ahead
+        → RemovesThere Represents table Trace now r new → Walked Represents table Trace start s new after (gone ++ p ∷ []) ahead
     walk_takes does_on {new} {r} e =
         let is : r ≡ Some p = e.answer ∙ w.here in
-        let gap : Cut = record { front = behind; back = p ∷ ahead } in
+        let gap : Cut = record { front = after; back = p ∷ ahead } in
         let off = rw is at (e.removed gap w.shown w.here) in record {
           shown = off.shows;
           here = e.moved gap w.shown w.here;
           steps = rw (releases_append gone (p ∷ [])) (does_on _ _ _ _ _ w.steps (rw is at e.released));
           frame = frames_join w.frame off.frame w.within;
-          within = λ q out. absent_without behind ahead p q (w.within q out);
+          within = λ q out. absent_without after ahead p q (w.within q out);
         }

@@ -65,15 +65,15 @@ module _ {W : Type 0} (next_word : W → ℕ) (is_linked : W → Bool) where
   pub successor_set : (old new : W) (next : Option Place) → is_linked new ≡ is_linked old → next_word new ≡ word_of next
       → successor_of next_word is_linked (link_of new) ≡ record (successor_of next_word is_linked (link_of old)) { next = next }
   successor_set old new next stays names =
-      let behind : place_at (next_word new) ≡ next = ap place_at names ∙ place_at_word next in
-      λ k. record { linked = stays k; next = behind k }
+      let after : place_at (next_word new) ≡ next = ap place_at names ∙ place_at_word next in
+      λ k. record { linked = stays k; next = after k }
 
   -- the same where it names the one before as well
   pub next_set : (prev : W → Option Place) (old new : W) (next : Option Place) → is_linked new ≡ is_linked old → next_word new ≡ word_of next → prev new ≡ prev old
       → neighbors_of next_word is_linked prev (link_of new) ≡ record (neighbors_of next_word is_linked prev (link_of old)) { next = next }
   next_set prev old new next stays names kept =
-      let behind : place_at (next_word new) ≡ next = ap place_at names ∙ place_at_word next in
-      λ k. record { linked = stays k; prev = kept k; next = behind k }
+      let after : place_at (next_word new) ≡ next = ap place_at names ∙ place_at_word next in
+      λ k. record { linked = stays k; prev = kept k; next = after k }
 
   -- and where the one before is set
   pub prev_set : (prev : W → Option Place) (old new : W) (place : Option Place) → is_linked new ≡ is_linked old → next_word new ≡ next_word old → prev new ≡ place
@@ -85,8 +85,8 @@ module _ {W : Type 0} (next_word : W → ℕ) (is_linked : W → Bool) where
   pub successor_is : (new : W) (next : Option Place) → is_linked new ≡ true → next_word new ≡ word_of next
       → successor_of next_word is_linked (link_of new) ≡ record { linked = true; next = next }
   successor_is new next linked names =
-      let behind : place_at (next_word new) ≡ next = ap place_at names ∙ place_at_word next in
-      λ k. record { linked = linked k; next = behind k }
+      let after : place_at (next_word new) ≡ next = ap place_at names ∙ place_at_word next in
+      λ k. record { linked = linked k; next = after k }
 
   -- and it stands between two, if it names the one before as well
   pub between_is : {V : Type 0} (prev : W → Option Place) (new : Link W V) (before next : Option Place) → linked_by is_linked new ≡ true → next_word (words_of new) ≡ word_of next

@@ -15,12 +15,12 @@ use Rattle.ic_link_ops.proofs.Trees.{at_same, at_left, at_right, tree_kept}
 data SameCut (a : List Place) (q : Place) (b s : List Place) (p : Place) (t : List Place) : Type 0 where
   in_front : (m : List Place) → a ≡ s ++ p ∷ m → t ≡ m ++ q ∷ b → SameCut a q b s p t
   here : a ≡ s → q ≡ p → b ≡ t → SameCut a q b s p t
-  behind : (m : List Place) → s ≡ a ++ q ∷ m → b ≡ m ++ p ∷ t → SameCut a q b s p t
+  following : (m : List Place) → s ≡ a ++ q ∷ m → b ≡ m ++ p ∷ t → SameCut a q b s p t
 
 same_cut : (a : List Place) (q : Place) (b s : List Place) (p : Place) (t : List Place) → a ++ q ∷ b ≡ s ++ p ∷ t → SameCut a q b s p t
 same_cut [] q b [] p t e = here refl (cc) (cc)
 same_cut [] q b (x ∷ s) p t e =
-    let h : q ≡ x = cc in let r : b ≡ s ++ p ∷ t = cc in behind s (ap (λ (y : Place). y ∷ s) (sym h)) r
+    let h : q ≡ x = cc in let r : b ≡ s ++ p ∷ t = cc in following s (ap (λ (y : Place). y ∷ s) (sym h)) r
 same_cut (x ∷ a) q b [] p t e =
     let h : x ≡ p = cc in let r : a ++ q ∷ b ≡ t = cc in in_front a (ap (λ (y : Place). y ∷ a) h) (sym r)
 same_cut (x ∷ a) q b (z ∷ s) p t e =
@@ -31,7 +31,7 @@ same_cut (x ∷ a) q b (z ∷ s) p t e =
     next : (x z : Place) (a : List Place) (q : Place) (b s : List Place) (p : Place) (t : List Place) → x ≡ z → SameCut a q b s p t → SameCut (x ∷ a) q b (z ∷ s) p t
     next x z a q b s p t h (in_front m e f) = in_front m (cc) f
     next x z a q b s p t h (here e f g) = here (cc) f g
-    next x z a q b s p t h (behind m e f) = behind m (cc) f
+    next x z a q b s p t h (following m e f) = following m (cc) f
 
 -- the tree t0 below the frames fs0, seen from its member p, with s before p and t after it within t0
 abbrev pub Focused : List Frame → Tree → List Place → Place → List Place → Type 0
@@ -49,7 +49,7 @@ focus (fork c a q b) fs0 s p t e = elim (same_cut (in_order a) q (in_order b) s 
       (r.0, r.1, r.2, r.3, r.4, r.5, r.6 ∙ (sym (append_assoc m (q ∷ in_order b) (after fs0)) ∙ ap (λ z. z ++ after fs0) (sym g)))
   | here f h g ↦
       (fs0, c, a, b, ap (λ (x : Place). plug fs0 (fork c a x b)) (sym h), ap (λ z. before fs0 ++ z) f, ap (λ z. z ++ after fs0) g)
-  | behind m f g ↦
+  | following m f g ↦
       let r = focus b (frame Right c q a ∷ fs0) m p t g in
       (r.0, r.1, r.2, r.3, r.4, r.5 ∙ (simp append_assoc (ap (λ z. before fs0 ++ z) (sym f))), r.6)
 ]

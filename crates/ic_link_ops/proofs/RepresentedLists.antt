@@ -63,11 +63,11 @@ module _ {E W : Type 0} {between : E → Option Place → Option Place → Type 
   )
 
   -- INSERT: p is put into a gap. Its two sides are turned, and then p is set
-  pub represents_insert : {t0 t3 : Table E} {t1 t2 : Place → E} {list list' : ListHead W} (front back : List Place) {p : Place} {before behind : Option Place}
-      → before ≡ last front → behind ≡ first back → RepresentsChain between kept t0 list (front ++ back) → IsAbsent p (front ++ back)
-      → TurnsAfter between t0.entry t1 before behind (Some p) → TurnsBefore between t1 t2 behind before (Some p)
-      → between (t3.entry p) before behind → ((q : Place) → q ≢ p → t3.entry q ≡ t2 q)
-      → list'.head ≡ end_of before (Some p) list.head → TurnsTail kept list.tail list'.tail behind (Some p)
+  pub represents_insert : {t0 t3 : Table E} {t1 t2 : Place → E} {list list' : ListHead W} (front back : List Place) {p : Place} {before after : Option Place}
+      → before ≡ last front → after ≡ first back → RepresentsChain between kept t0 list (front ++ back) → IsAbsent p (front ++ back)
+      → TurnsAfter between t0.entry t1 before after (Some p) → TurnsBefore between t1 t2 after before (Some p)
+      → between (t3.entry p) before after → ((q : Place) → q ≢ p → t3.entry q ≡ t2 q)
+      → list'.head ≡ end_of before (Some p) list.head → TurnsTail kept list.tail list'.tail after (Some p)
       → RepresentsChain between kept t3 list' (front ++ p ∷ back)
   represents_insert {t0} {t3} {t1} {t2} front back {p} is_before is_after shown out turn1 turn2 stands same head tail =
       let cut = chain_cut between t0.entry None front back None shown.chain in
@@ -80,10 +80,10 @@ module _ {E W : Type 0} {between : E → Option Place → Option Place → Type 
       }
 
   -- REMOVE: p is taken out. Its two neighbors are turned to each other
-  pub represents_remove : {t0 t2 : Table E} {t1 : Place → E} {list list' : ListHead W} (front back : List Place) (p : Place) {before behind : Option Place}
-      → before ≡ last front → behind ≡ first back → RepresentsChain between kept t0 list (front ++ p ∷ back)
-      → TurnsAfter between t0.entry t1 before (Some p) behind → TurnsBefore between t1 t2.entry behind (Some p) before
-      → list'.head ≡ end_of before behind list.head → TurnsTail kept list.tail list'.tail behind before
+  pub represents_remove : {t0 t2 : Table E} {t1 : Place → E} {list list' : ListHead W} (front back : List Place) (p : Place) {before after : Option Place}
+      → before ≡ last front → after ≡ first back → RepresentsChain between kept t0 list (front ++ p ∷ back)
+      → TurnsAfter between t0.entry t1 before (Some p) after → TurnsBefore between t1 t2.entry after (Some p) before
+      → list'.head ≡ end_of before after list.head → TurnsTail kept list.tail list'.tail after before
       → RepresentsChain between kept t2 list' (front ++ back)
   represents_remove {t0} {t2} {t1} front back p is_before is_after shown turn1 turn2 head tail =
       let cut = chain_cut between t0.entry None front (p ∷ back) None shown.chain in
@@ -97,11 +97,11 @@ module _ {E W : Type 0} {between : E → Option Place → Option Place → Type 
       }
 
   -- REPLACE: r is put in the place of p. The two neighbors of p are turned, and then r is set
-  pub represents_replace : {t0 t3 : Table E} {t1 t2 : Place → E} {list list' : ListHead W} (front back : List Place) (p : Place) {r : Place} {before behind : Option Place}
-      → before ≡ last front → behind ≡ first back → RepresentsChain between kept t0 list (front ++ p ∷ back) → IsAbsent r (front ++ p ∷ back)
-      → TurnsAfter between t0.entry t1 before (Some p) (Some r) → TurnsBefore between t1 t2 behind (Some p) (Some r)
-      → between (t3.entry r) before behind → ((q : Place) → q ≢ r → t3.entry q ≡ t2 q)
-      → list'.head ≡ end_of before (Some r) list.head → TurnsTail kept list.tail list'.tail behind (Some r)
+  pub represents_replace : {t0 t3 : Table E} {t1 t2 : Place → E} {list list' : ListHead W} (front back : List Place) (p : Place) {r : Place} {before after : Option Place}
+      → before ≡ last front → after ≡ first back → RepresentsChain between kept t0 list (front ++ p ∷ back) → IsAbsent r (front ++ p ∷ back)
+      → TurnsAfter between t0.entry t1 before (Some p) (Some r) → TurnsBefore between t1 t2 after (Some p) (Some r)
+      → between (t3.entry r) before after → ((q : Place) → q ≢ r → t3.entry q ≡ t2 q)
+      → list'.head ≡ end_of before (Some r) list.head → TurnsTail kept list.tail list'.tail after (Some r)
       → RepresentsChain between kept t3 list' (front ++ r ∷ back)
   represents_replace {t0} {t3} {t1} {t2} front back p {r} is_before is_after shown out turn1 turn2 stands same head tail =
       let cut = chain_cut between t0.entry None front (p ∷ back) None shown.chain in
@@ -115,12 +115,12 @@ module _ {E W : Type 0} {between : E → Option Place → Option Place → Type 
 
   -- SPLICE: all of another list, whose last member is `end`, is put into a gap. The two sides of the gap are turned, and then the given first and
   -- last
-  pub represents_splice : {t0 t4 : Table E} {t1 t2 t3 : Place → E} {list list' given : ListHead W} (front mid back : List Place) (x : Place) {before behind end : Option Place}
-      → given.head ≡ Some x → end ≡ last mid → before ≡ last front → behind ≡ first back
+  pub represents_splice : {t0 t4 : Table E} {t1 t2 t3 : Place → E} {list list' given : ListHead W} (front mid back : List Place) (x : Place) {before after end : Option Place}
+      → given.head ≡ Some x → end ≡ last mid → before ≡ last front → after ≡ first back
       → RepresentsChain between kept t0 list (front ++ back) → RepresentsChain between kept t0 given mid → IsDisjoint mid (front ++ back)
-      → TurnsAfter between t0.entry t1 before behind given.head → TurnsBefore between t1 t2 behind before end
-      → TurnsBefore between t2 t3 given.head None before → TurnsAfter between t3 t4.entry end None behind
-      → list'.head ≡ end_of before given.head list.head → TurnsTail kept list.tail list'.tail behind end
+      → TurnsAfter between t0.entry t1 before after given.head → TurnsBefore between t1 t2 after before end
+      → TurnsBefore between t2 t3 given.head None before → TurnsAfter between t3 t4.entry end None after
+      → list'.head ≡ end_of before given.head list.head → TurnsTail kept list.tail list'.tail after end
       → RepresentsChain between kept t4 list' (front ++ (mid ++ back))
   represents_splice front [] back x e is_end is_before is_after shown other apart turn1 turn2 turn3 turn4 head tail =
       absurd (none_not x (sym other.head ∙ e))
@@ -134,10 +134,10 @@ module _ {E W : Type 0} {between : E → Option Place → Option Place → Type 
   }
 
   -- SPLIT: a list is cut at a gap. Its two sides are turned, and each part is represented for its own ends, whichever is handed out
-  pub represents_split : {t0 t2 : Table E} {t1 : Place → E} {list fronts backs : ListHead W} (front back : List Place) {before behind : Option Place}
-      → before ≡ last front → behind ≡ first back → RepresentsChain between kept t0 list (front ++ back)
-      → TurnsAfter between t0.entry t1 before behind None → TurnsBefore between t1 t2.entry behind before None
-      → fronts.head ≡ end_of before None list.head → fronts.tail ≡ kept before → backs.head ≡ behind → TurnsTail kept list.tail backs.tail behind None
+  pub represents_split : {t0 t2 : Table E} {t1 : Place → E} {list fronts backs : ListHead W} (front back : List Place) {before after : Option Place}
+      → before ≡ last front → after ≡ first back → RepresentsChain between kept t0 list (front ++ back)
+      → TurnsAfter between t0.entry t1 before after None → TurnsBefore between t1 t2.entry after before None
+      → fronts.head ≡ end_of before None list.head → fronts.tail ≡ kept before → backs.head ≡ after → TurnsTail kept list.tail backs.tail after None
       → RepresentsChain between kept t2 fronts front × RepresentsChain between kept t2 backs back
   represents_split {t0} {t2} {t1} front back is_before is_after shown turn1 turn2 head1 tail1 head2 tail2 =
       let cut = chain_cut between t0.entry None front back None shown.chain in

@@ -96,15 +96,15 @@ pub none_not : {A : Type 0} (q : A) → None ≢ Some q
 none_not q e = cc
 
 -- what is no member is at neither side of a gap, and no neighbor of a member
-pub gap_not : (front back : List Place) {q : Place} {before behind : Option Place} → before ≡ last front → behind ≡ first back → IsAbsent q (front ++ back)
-    → (before ≢ Some q) × (behind ≢ Some q)
+pub gap_not : (front back : List Place) {q : Place} {before after : Option Place} → before ≡ last front → after ≡ first back → IsAbsent q (front ++ back)
+    → (before ≢ Some q) × (after ≢ Some q)
 gap_not front back {q} e k out = (
   (λ h. last_not None front q (none_not q) (absent_left q front back out) (sym e ∙ h)),
   (λ h. first_not back None q (none_not q) (absent_right q front back out) (sym k ∙ h)),
 )
 
-pub beside_not : (front back : List Place) (p : Place) {q : Place} {before behind : Option Place} → before ≡ last front → behind ≡ first back
-    → IsAbsent q (front ++ p ∷ back) → (before ≢ Some q) × (behind ≢ Some q)
+pub beside_not : (front back : List Place) (p : Place) {q : Place} {before after : Option Place} → before ≡ last front → after ≡ first back
+    → IsAbsent q (front ++ p ∷ back) → (before ≢ Some q) × (after ≢ Some q)
 beside_not front back p {q} e k out = gap_not front back e k (absent_without front back p q out)
 
 end_of-last : (x : Place) (s : List Place) (fresh old : Option Place) → end_of (last_or (Some x) s) fresh old ≡ old
@@ -122,11 +122,11 @@ last_of_parts : (front mid back : List Place) → last (front ++ (mid ++ back)) 
 last_of_parts front mid back = last_or-append None front (mid ++ back) ∙ last_or-append (last front) mid back
 
 -- THE NEW TAIL, where `mid` now stands between `front` and `back` in the place of `was`
-pub new_tail : (front was mid back : List Place) {behind fresh old new : Option Place} → behind ≡ first back → fresh ≡ last_or (last front) mid
-    → old ≡ last (front ++ (was ++ back)) → new ≡ end_of behind fresh old → new ≡ last (front ++ (mid ++ back))
-new_tail front was mid [] {behind} {fresh} {old} e k h is =
+pub new_tail : (front was mid back : List Place) {after fresh old new : Option Place} → after ≡ first back → fresh ≡ last_or (last front) mid
+    → old ≡ last (front ++ (was ++ back)) → new ≡ end_of after fresh old → new ≡ last (front ++ (mid ++ back))
+new_tail front was mid [] {after} {fresh} {old} e k h is =
     is ∙ ap (λ a. end_of a fresh old) e ∙ k ∙ sym (last_of_parts front mid [])
-new_tail front was mid (x ∷ back) {behind} {fresh} {old} e k h is =
+new_tail front was mid (x ∷ back) {after} {fresh} {old} e k h is =
     is ∙ ap (λ a. end_of a fresh old) e ∙ h ∙ last_of_parts front was (x ∷ back) ∙ sym (last_of_parts front mid (x ∷ back))
 
 pub some_same : {X : Type 0} {x y : X} → Some x ≡ Some y → x ≡ y
@@ -226,10 +226,10 @@ distinct_reverse (x ∷ s) d =
 
 -- WHERE A CURSOR STANDS NEXT: one that has a gap before it has a gap of the same sequence after it
 pub gap_after : (gap : Cut) (cursor : Option Place) → IsBefore gap cursor → (next : Cut) × (join next ≡ join gap) × IsAfter next cursor
-gap_after gap cursor before = behind gap.front gap.back cursor before where
-  behind : (front back : List Place) (cursor : Option Place) → cursor ≡ first back → (next : Cut) × (join next ≡ front ++ back) × IsAfter next cursor
-  behind front [] cursor before = (at_front front, sym (append-nil front), before)
-  behind front (x ∷ back) cursor before =
+gap_after gap cursor before = after gap.front gap.back cursor before where
+  after : (front back : List Place) (cursor : Option Place) → cursor ≡ first back → (next : Cut) × (join next ≡ front ++ back) × IsAfter next cursor
+  after front [] cursor before = (at_front front, sym (append-nil front), before)
+  after front (x ∷ back) cursor before =
       (record { front = front ++ x ∷ []; back = back }, append_assoc front (x ∷ []) back, before ∙ sym (last_or-append None front (x ∷ [])))
 
 -- and one that has a gap after it has a gap of the same sequence before it

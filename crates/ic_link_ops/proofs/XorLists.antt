@@ -36,7 +36,7 @@ module _ {E : Type 0} {linked : E → Bool} {joins : E → Option Place → Opti
 
   -- a part of a chain is no longer than what the table covers
   pub part_length : (t : Table E) → ((q : Place) → linked (t.entry q) ≡ true → IsCovered t q)
-      → {before front back behind : Option Place} {w : List Place} → IsStretch (IsJoined linked joins) t.entry before front back behind w → length w ≤ t.extent.places
+      → {before front back after : Option Place} {w : List Place} → IsStretch (IsJoined linked joins) t.entry before front back after w → length w ≤ t.extent.places
   part_length t covered k = stretch_length t (λ q b a h. covered q h.linked) k
 
   pub represented_length : (t : Table E) → ((q : Place) → linked (t.entry q) ≡ true → IsCovered t q)
@@ -53,7 +53,7 @@ module _ {E : Type 0} {linked : E → Bool} {joins : E → Option Place → Opti
 
     -- the walk gives a part of a chain
     pub part_walked : (t : Table E) → ((q : Place) → linked (t.entry q) ≡ true → IsCovered t q)
-        → {before front back behind : Option Place} {w : List Place} → IsStretch (IsJoined linked joins) t.entry before front back behind w
+        → {before front back after : Option Place} {w : List Place} → IsStretch (IsJoined linked joins) t.entry before front back after w
         → walked other t before front back ≡ w
     part_walked t covered k = stretch_walked other joined_step t (λ q b a h. covered q h.linked) k
 

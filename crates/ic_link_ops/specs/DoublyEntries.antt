@@ -1,4 +1,4 @@
--- The links of the table of doubly links.
+-- The links of the table for doubly linked lists.
 use Rattle.std.specs.Prelude.{◌≡◌, ℕ, ◌<◌, List, length, slice_index_or, Bool, true, refl, ⊤}
 use Rattle.ic_unsafe_ref.specs.declared.place.Place.{Place}
 use Rattle.ic_link_ops.specs.declared.link.Link.{Link}
@@ -29,7 +29,7 @@ unlinked = link_of no_words
 abbrev pub is_linked : DoublyLink → Bool
 is_linked = plain.linked_by has_words
 
--- between which places a link stands
+-- the two neighbors in a link
 abbrev pub neighbors_of : DoublyLink → Neighbors
 neighbors_of = readings.neighbors_of next_word_of has_words prev_of
 
@@ -37,7 +37,7 @@ neighbors_of = readings.neighbors_of next_word_of has_words prev_of
 abbrev pub entries : {A : Type 0} → DoublyLinkOps A → List DoublyLink
 entries = plain.entries
 
--- the link of a place, which is unlinked beyond the last one
+-- the link of a place; it is unlinked for a place beyond the last link
 abbrev pub entry_at : List DoublyLink → Place → DoublyLink
 entry_at = plain.entry_at unlinked
 
@@ -45,15 +45,15 @@ entry_at = plain.entry_at unlinked
 abbrev pub table_of : List DoublyLink → Table DoublyLink
 table_of = plain.table_of unlinked
 
--- THE PLAIN TABLE of these links, as clauses of its callers see it
+-- THE PLAIN TABLE of these links, as contracts of its callers see it
 abbrev pub plain_table : {A : Type 0} → DoublyLinkOps A → Table DoublyLink
 plain_table links = table_of (entries links)
 
--- a table of doubly links represents s for the list with these ends
+-- a table of such links represents s for the list with these ends
 abbrev pub RepresentsList : Table DoublyLink → Ends → List Place → Type 0
 RepresentsList = Represents neighbors_of
 
--- the plain table does; and it represents some sequence
+-- the plain table represents s, or some sequence, for the list
 abbrev pub PlainRepresents : {A : Type 0} → DoublyLinkOps A → Ends → List Place → Type 0
 PlainRepresents links list s = RepresentsList (plain_table links) list s
 
@@ -64,6 +64,6 @@ PlainRepresentsSome links list = RepresentsSome neighbors_of (plain_table links)
 abbrev pub members_of : {A : Type 0} → DoublyLinkOps A → Ends → List Place
 members_of links list = members neighbors_of (plain_table links) list
 
--- an index that is linked is within the table
+-- a linked index is within the table
 pub linked_in_range : (es : List DoublyLink) (i : ℕ) → is_linked (slice_index_or es i unlinked) ≡ true → i < length es
 linked_in_range = laws.linked_in_range is_linked unlinked refl

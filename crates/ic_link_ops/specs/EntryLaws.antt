@@ -1,8 +1,8 @@
--- What the table laws need of entries.
+-- What the laws of tables require of entries.
 use Rattle.std.specs.Prelude.{◌≡◌, ℕ, ◌<◌, List, [], ◌∷◌, length, slice_index_or, Bool, true, false}
 use Rattle.std.proofs.Common.{zero, suc, arith, sym, ◌∙◌}
 
--- an index that is linked is within the table, since beyond it stands an unlinked entry
+-- a linked index is within the table, since the entry of an index beyond the table is unlinked
 pub linked_in_range : {E : Type 0} (is_linked : E → Bool) (unlinked : E) → is_linked unlinked ≡ false
     → (es : List E) (i : ℕ) → is_linked (slice_index_or es i unlinked) ≡ true → i < length es
 linked_in_range f d starts [] i h = let no : false ≡ true = sym starts ∙ h in cc

@@ -6,28 +6,28 @@ use Rattle.ic_link_ops.specs.Chains as chains
 use Rattle.ic_link_ops.specs.Chains.{Ends, IsStretch, RepresentsBetween}
 use Rattle.ic_link_ops.specs.Walk.{walked}
 
--- what an entry says: whether its place is linked, and between which places
+-- what an entry states: whether its place is linked, and between which places
 pub record Neighbors : Type 0 where
   pub linked : Bool
   pub prev : Option Place
   pub next : Option Place
 
 module _ {E : Type 0} (neighbors : E → Neighbors) where
-  -- what the entry at p says
+  -- the parts of the entry at p
   abbrev pub neighbors_at : Table E → Place → Neighbors
   neighbors_at t p = neighbors (t.entry p)
 
-  -- the entry says that its place is linked, with this place before it and that one after it
-  pub record IsBetween (e : E) (before behind : Option Place) : Type 0 where
+  -- by the entry, its place is linked, with the first place before it and the second one after it
+  pub record IsBetween (e : E) (before after : Option Place) : Type 0 where
     pub linked : (neighbors e).linked ≡ true
     pub prev : (neighbors e).prev ≡ before
-    pub next : (neighbors e).next ≡ behind
+    pub next : (neighbors e).next ≡ after
 
   -- each member of s is between its neighbors in s
   abbrev pub IsChain : (Place → E) → Option Place → List Place → Option Place → Type 0
-  IsChain entry before s behind = chains.IsChain IsBetween entry before s behind
+  IsChain entry before s after = chains.IsChain IsBetween entry before s after
 
-  -- THE TABLE SHOWS s for the list with these ends
+  -- THE TABLE REPRESENTS s for the list with these ends
   abbrev pub Represents : Table E → Ends → List Place → Type 0
   Represents t list s = RepresentsBetween IsBetween t list s
 
@@ -35,7 +35,7 @@ module _ {E : Type 0} (neighbors : E → Neighbors) where
   abbrev pub RepresentsSome : Table E → Ends → Type 0
   RepresentsSome t list = (s : List Place) × Represents t list s
 
-  -- the place after, whatever stands before
+  -- the place after, whatever place is before
   abbrev pub next_of : E → Option Place → Option Place
   next_of e before = (neighbors e).next
 
@@ -50,5 +50,5 @@ module _ {E : Type 0} (neighbors : E → Neighbors) where
   -- w is a part of a chain, from front to back
   pub record IsWalk (entry : Place → E) (front back : Option Place) (w : List Place) : Type 0 where
     pub before : Option Place
-    pub behind : Option Place
-    pub part : IsStretch IsBetween entry before front back behind w
+    pub after : Option Place
+    pub part : IsStretch IsBetween entry before front back after w

@@ -11,7 +11,7 @@ module _ {W V : Type 0} where
   abbrev pub words_of : Link W V → W
   words_of l = l.words
 
-  -- the value beside them
+  -- the value beside the words of a link
   abbrev pub value_of : Link W V → V
   value_of l = l.value
 

@@ -9,7 +9,7 @@ module _ {K : Type 0} where
   abbrev pub no_word : OneNarrowWord K
   no_word = record { word = narrow_mark; of = record {} }
 
-  -- whether there is a word, and not the mark
+  -- whether this is a word, and not the mark
   abbrev pub has_word : OneNarrowWord K → Bool
   has_word w = is_narrow_word w.word
 
@@ -17,6 +17,6 @@ module _ {K : Type 0} where
   abbrev pub next_word_of : OneNarrowWord K → ℕ
   next_word_of w = marked_narrow_bits_of w.word
 
-  -- it is small
+  -- the number of a word is below 2 ^ 32
   pub next_word_small : (w : OneNarrowWord K) → has_word w ≡ true → CanKeep narrow (next_word_of w)
   next_word_small w linked = narrow_word_fits w.word linked

@@ -8,7 +8,7 @@ module _ {K : Type 0} where
   abbrev pub no_word : OneWord K
   no_word = record { word = mark; of = record {} }
 
-  -- whether there is a word, and not the mark
+  -- whether this is a word, and not the mark
   abbrev pub has_word : OneWord K → Bool
   has_word w = is_word w.word
 

@@ -14,12 +14,12 @@ module _ {W A V : Type 0} where
   abbrev pub entries : PlainTable W A V → List (Link W V)
   entries t = t.entries.items
 
-  -- the table with these links instead, as many as it has
+  -- the table with these links instead of its own; there are as many
   abbrev pub with_entries : PlainTable W A V → List (Link W V) → PlainTable W A V
   with_entries t es = record t { entries = with_items t.entries es }
 
 module _ {E : Type 0} (unlinked : E) where
-  -- the entry of a place, which is unlinked beyond the last one
+  -- the entry of a place; it is unlinked for a place beyond the last one
   abbrev pub entry_at : List E → Place → E
   entry_at es p = slice_index_or es (index_of p) unlinked
 
@@ -36,18 +36,18 @@ module _ {W V : Type 0} where
   abbrev pub values_beside : List (Link W V) → List V
   values_beside es = map value_of es
 
-  -- links as a table, for whose values there are such numbers beside these: those of places for which words of this width have room
+  -- links as a table, of the places that words of this width can name; the numbers of its values are part of its extent
   abbrev pub nameable_table : Width → Link W V → (List V → List ℕ) → List (Link W V) → Table (Link W V)
   nameable_table w unlinked printed es = table_with unlinked (printed (values_beside (nameable w es))) (nameable w es)
 
-  -- what clauses see of a table of this width whose new links have these words and this value, and whose values are told so
+  -- a plain table as contracts see it: its width, the words and the value of a new link, and the numbers of its values
   abbrev pub table_beside : {A : Type 0} → Width → W → V → (List V → List ℕ) → PlainTable W A V → Table (Link W V)
   table_beside w unlinked initial printed t = nameable_table w (link_with unlinked initial) printed (entries t)
 
-  -- whether a link is that of a linked place, by its words
+  -- whether a link is that of a linked place, according to its words
   abbrev pub linked_by : (W → Bool) → Link W V → Bool
   linked_by is_linked l = is_linked (words_of l)
 
--- of a table of this width with no values
+-- a plain table of this width with no values, as contracts see it
 abbrev pub table : {W A : Type 0} → Width → W → PlainTable W A ⊤ → Table (Link W ⊤)
 table w unlinked t = table_beside w unlinked tt (λ _. []) t

@@ -1,4 +1,4 @@
--- What the words of a link say, for each kind that they carry.
+-- What the words of a link state, for each kind of collection that they can serve.
 use Rattle.std.specs.Prelude.{◌≡◌, ℕ, Bool, Option, bit_xor}
 use Rattle.ic_unsafe_ref.specs.declared.place.Place.{Place}
 use Rattle.ic_unsafe_ref.specs.Places.{place_at, word_of}
@@ -9,18 +9,18 @@ use Rattle.ic_link_ops.specs.LinkedList.{Neighbors}
 
 module _ {W V : Type 0} (next_word : W → ℕ) where
   -- the next word is the exclusive or of the words of a and b
-  abbrev pub XorJoins : Link W V → Option Place → Option Place → Type 0
-  XorJoins l a b = next_word (words_of l) ≡ bit_xor (word_of a) (word_of b)
+  abbrev pub HasXorNeighbors : Link W V → Option Place → Option Place → Type 0
+  HasXorNeighbors l a b = next_word (words_of l) ≡ bit_xor (word_of a) (word_of b)
 
-  -- the place whose word is left of the next word without that of a
+  -- the place whose word is the next word without the word of a: the other neighbor
   abbrev pub xor_other : Link W V → Option Place → Option Place
   xor_other l a = place_at (bit_xor (next_word (words_of l)) (word_of a))
 
   module _ (is_linked : W → Bool) where
-    -- what stands after: the place whose word the next word is
+    -- the place after: the one whose word is the next word
     abbrev pub successor_of : Link W V → Successor
     successor_of l = record { linked = is_linked (words_of l); next = place_at (next_word (words_of l)) }
 
-    -- between which places it stands
+    -- the two neighbors
     abbrev pub neighbors_of : (W → Option Place) → Link W V → Neighbors
     neighbors_of prev l = record { linked = is_linked (words_of l); prev = prev (words_of l); next = place_at (next_word (words_of l)) }

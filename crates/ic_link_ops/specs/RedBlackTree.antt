@@ -7,7 +7,7 @@ use Rattle.ic_link_ops.specs.Tables.{Table}
 use Rattle.ic_link_ops.specs.Trees.{Tree, leaf, fork, top, in_order}
 use Rattle.ic_link_ops.specs.Shape.{IsRight}
 
--- what an entry says: whether its place is linked, its children, its parent and its color
+-- what an entry states: whether its place is linked, its children, its parent and its color
 pub record Node : Type 0 where
   pub linked : Bool
   pub left : Option Place
@@ -16,7 +16,7 @@ pub record Node : Type 0 where
   pub color : Color
 
 module _ {E : Type 0} (node : E → Node) where
-  -- what the entry at p says
+  -- the parts of the entry at p
   abbrev pub node_at : Table E → Place → Node
   node_at t p = node (t.entry p)
 
@@ -33,15 +33,15 @@ module _ {E : Type 0} (node : E → Node) where
   IsTree entry up leaf = Unit {0}
   IsTree entry up (fork c a p b) = IsAt entry p c (top a) (top b) up × IsTree entry (Some p) a × IsTree entry (Some p) b
 
-  -- the table holds this tree: it has the in-order list s, in which no place stands twice, its root has no parent, and its
-  -- children, parents and colors are what the entries say
+  -- the table holds this tree: it has the in-order list s, in which no place occurs twice, its root has no parent, and the
+  -- entries have its children, parents and colors
   pub record Holds (t : Table E) (tree : Tree) (s : List Place) : Type 0 where
     pub order : in_order tree ≡ s
     pub distinct : IsDistinct s
     pub entries : IsTree t.entry None tree
 
-  -- THE TABLE SHOWS s for the tree with this root: there is a binary tree that the table holds, with the in-order list s,
-  -- whose root is this one (none where s is empty), and whose shape is right
+  -- THE TABLE REPRESENTS s for the tree with this root: the table holds a binary tree with the in-order list s and this
+  -- root (none if s is empty), and its shape is right
   pub record Represents (t : Table E) (root : Option Place) (s : List Place) : Type 0 where
     pub tree : Tree
     pub held : Holds t tree s
@@ -52,8 +52,8 @@ module _ {E : Type 0} (node : E → Node) where
   abbrev pub RepresentsSome : Table E → Option Place → Type 0
   RepresentsSome t root = (s : List Place) × Represents t root s
 
-  -- THE TABLE SHOWS s BETWEEN TWO ENDS: there is a binary tree that the table holds, with the in-order list s, whatever its
-  -- colors, and the ends are the first and the last of s (none where s is empty)
+  -- THE TABLE REPRESENTS s BETWEEN TWO ENDS: the table holds a binary tree with the in-order list s, whatever its colors,
+  -- and the ends are the first and the last of s (none if s is empty)
   pub record RepresentsEnds (t : Table E) (front back : Option Place) (s : List Place) : Type 0 where
     pub tree : Tree
     pub held : Holds t tree s

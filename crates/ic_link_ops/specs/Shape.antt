@@ -14,7 +14,7 @@ abbrev pub weight : Color → ℕ
 weight Red = 0
 weight Black = 1
 
--- the black members on the path down the left side
+-- the number of black members on the path down the left side
 abbrev pub blacks : Tree → ℕ
 blacks leaf = 0
 blacks (fork c a p b) = weight c + blacks a

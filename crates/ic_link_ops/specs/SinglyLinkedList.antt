@@ -6,7 +6,7 @@ use Rattle.ic_link_ops.specs.Tables.{Table}
 use Rattle.ic_link_ops.specs.Chains.{ListHead, list_head, IsStretch, RepresentsChain}
 use Rattle.ic_link_ops.specs.Walk.{walked}
 
--- what a list keeps: its first member, and nothing of the last one
+-- what a list stores: its first member, and nothing about the last one
 abbrev pub Front : Type 0
 Front = ListHead ⊤
 
@@ -14,22 +14,22 @@ Front = ListHead ⊤
 abbrev pub list_from : Option Place → Front
 list_from first = list_head first tt
 
--- what an entry says: whether its place is linked, and which place stands after it
+-- what an entry states: whether its place is linked, and which place is after it
 pub record Successor : Type 0 where
   pub linked : Bool
   pub next : Option Place
 
 module _ {E : Type 0} (successor : E → Successor) where
-  -- what the entry at p says
+  -- the parts of the entry at p
   abbrev pub successor_at : Table E → Place → Successor
   successor_at t p = successor (t.entry p)
 
-  -- the entry says that its place is linked, with that place after it. It says nothing of the one before it
-  pub record IsFollowed (e : E) (before behind : Option Place) : Type 0 where
+  -- by the entry, its place is linked, with the second place after it. The entry does not name the one before it
+  pub record IsFollowed (e : E) (before after : Option Place) : Type 0 where
     pub linked : (successor e).linked ≡ true
-    pub next : (successor e).next ≡ behind
+    pub next : (successor e).next ≡ after
 
-  -- THE TABLE SHOWS s for the list, which keeps its first member alone
+  -- THE TABLE REPRESENTS s for the list, which stores only its first member
   abbrev pub Represents : Table E → Front → List Place → Type 0
   Represents = RepresentsChain IsFollowed (λ last. tt)
 
@@ -37,11 +37,11 @@ module _ {E : Type 0} (successor : E → Successor) where
   abbrev pub RepresentsSome : Table E → Front → Type 0
   RepresentsSome t list = (s : List Place) × Represents t list s
 
-  -- the place after, whatever stands before
+  -- the place after, whatever place is before
   abbrev pub next_of : E → Option Place → Option Place
   next_of e before = (successor e).next
 
-  -- the members from a place on, and so those of a list
+  -- the members from a place on, and those of a list
   abbrev pub members_from : Table E → Option Place → List Place
   members_from t front = walked next_of t None front None
 

@@ -1,22 +1,22 @@
--- What clauses see of a table of links at one moment, and how it may change.
+-- A table of links at one moment, as contracts see it, and how it may change.
 use Rattle.std.specs.Prelude.{◌≡◌, ◌≢◌, ℕ, ◌<◌, Bool, true, false, Option, Some, None, List, ⊤}
 use Rattle.ic_unsafe_ref.specs.declared.place.Place.{Place}
 use Rattle.ic_unsafe_ref.specs.Places.{index_of}
 use Rattle.ic_link_ops.specs.Sequences.{IsAbsent}
 
--- how many places a table covers, and what makes it this table and not another of its type: nothing where it owns its entries,
--- the variant's number where its type is a sum of tables, the name of each borrow that it holds, and what tells the values beside
--- its links. Each call keeps both
+-- how many places a table covers, and its identity, which distinguishes it from other tables of its type. The identity is nothing
+-- if the table owns its entries. It has the variant's number if the type is a sum of tables, the name of each borrow that the
+-- table holds, and the numbers of the values beside the links. Each call keeps the extent
 pub record Extent : Type 0 where
   pub places : ℕ
   pub identity : List ℕ
 
--- its extent, and all that it keeps at each place
+-- a table: its extent, and the entry that it stores at each place
 pub record Table (E : Type 0) : Type 0 where
   pub extent : Extent
   pub entry : Place → E
 
--- `can p`: the words of a table have room for the name of p. So it is of this end, or the end is none
+-- `can p`: the words of a table have room for the name of p. This end is none, or a place that the words can name
 abbrev pub IsNameable : (Place → Type 0) → Option Place → Type 0
 IsNameable can None = ⊤
 IsNameable can (Some p) = can p
@@ -30,36 +30,36 @@ module _ {E : Type 0} where
   abbrev pub IsCovered : Table E → Place → Type 0
   IsCovered t p = index_of p < t.extent.places
 
-  -- the entry at p says that p is linked, or that it is not
+  -- p is linked according to its entry, or it is not
   abbrev pub IsLinked : (E → Bool) → Table E → Place → Type 0
   IsLinked linked t p = linked (t.entry p) ≡ true
 
   abbrev pub IsUnlinked : (E → Bool) → Table E → Place → Type 0
   IsUnlinked linked t p = linked (t.entry p) ≡ false
 
-  -- nothing but the entry at p is changed
+  -- no entry is changed except the one at p
   pub record ChangesOnly (old new : Table E) (p : Place) : Type 0 where
     pub extent : new.extent ≡ old.extent
     pub others : (q : Place) → q ≢ p → new.entry q ≡ old.entry q
 
-  -- THE FRAME: nothing but entries at members of s is changed
+  -- THE FRAME: no entries are changed except those at members of s
   pub record ChangesOnlyIn (old new : Table E) (s : List Place) : Type 0 where
     pub extent : new.extent ≡ old.extent
     pub others : (q : Place) → IsAbsent q s → new.entry q ≡ old.entry q
 
-  -- the linked places are the old ones, and p, which was not among them
+  -- the linked places are the old ones and p, which was not linked
   pub record LinksAlso (linked : E → Bool) (old new : Table E) (p : Place) : Type 0 where
     pub was : IsUnlinked linked old p
     pub is : IsLinked linked new p
     pub others : (q : Place) → q ≢ p → linked (new.entry q) ≡ linked (old.entry q)
 
-  -- the linked places are the old ones but p, which was among them
+  -- the linked places are the old ones without p, which was linked
   pub record Unlinks (linked : E → Bool) (old new : Table E) (p : Place) : Type 0 where
     pub was : IsLinked linked old p
     pub is : IsUnlinked linked new p
     pub others : (q : Place) → q ≢ p → linked (new.entry q) ≡ linked (old.entry q)
 
-  -- the linked places are the old ones, with p, which was not among them, in place of `out`, which was
+  -- the linked places are the old ones, with p, which was not linked, instead of `out`, which was
   pub record Exchanges (linked : E → Bool) (old new : Table E) (p out : Place) : Type 0 where
     pub was : IsUnlinked linked old p
     pub is : IsLinked linked new p

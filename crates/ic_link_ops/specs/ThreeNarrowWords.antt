@@ -12,7 +12,7 @@ use Rattle.ic_link_ops.specs.Widths.{narrow, CanKeep}
 abbrev pub no_words : ThreeNarrowWords
 no_words = record { left = None; right = no_narrow_word; third = unlinked }
 
--- whether the third word says that the place is linked
+-- whether the place is linked according to the third word
 abbrev pub has_link : ThreeNarrowWords → Bool
 has_link w = w.third.linked
 
@@ -23,11 +23,11 @@ left_of w = w.left
 abbrev pub right_word_of : ThreeNarrowWords → ℕ
 right_word_of w = narrow_bits_of w.right
 
--- the word on the right is small
+-- the number of the word on the right is below 2 ^ 32
 pub right_word_small : (w : ThreeNarrowWords) → CanKeep narrow (right_word_of w)
 right_word_small w = w.right.is_word.0
 
--- what the words say of a tree
+-- the parts of a tree's entry that the words store
 abbrev pub node_in : ThreeNarrowWords → Node
 node_in w = record {
   linked = w.third.linked;

@@ -13,7 +13,7 @@ use Rattle.ic_link_ops.specs.RedBlackTree.{Node}
 abbrev pub no_words : ThreeWords
 no_words = record { left = None; right = none; third = unlinked }
 
--- whether the third word says that the place is linked
+-- whether the place is linked according to the third word
 abbrev pub has_link : ThreeWords → Bool
 has_link w = w.third.linked
 
@@ -24,7 +24,7 @@ left_of w = w.left
 abbrev pub right_word_of : ThreeWords → ℕ
 right_word_of w = bits_of w.right
 
--- what the words say of a tree
+-- the parts of a tree's entry that the words store
 abbrev pub node_in : ThreeWords → Node
 node_in w = record {
   linked = w.third.linked;
@@ -37,6 +37,6 @@ node_in w = record {
 abbrev pub node_of : {V : Type 0} → Link ThreeWords V → Node
 node_of l = node_in (words_of l)
 
--- the words as they are told, the flags of the third one beside twice the parent's
+-- the words as they are printed; the third one has the flags and twice the parent's number
 abbrev pub printed_words : ThreeWords → List ℕ
 printed_words w = printed (word_of w.left) ∷ printed (bits_of w.right) ∷ number_of w.third ∷ []

@@ -1,28 +1,28 @@
--- The word of a tree link for the parent, the color and whether the place is linked.
+-- The word of a tree link that stores the parent, the color and whether the place is linked.
 use Rattle.std.specs.Prelude.{ℕ, ◌+◌, ◌*◌, ◌/◌, ◌%◌, Bool, true, false, cond, nat_eq, Option, None}
 use Rattle.ic_unsafe_ref.specs.declared.place.Place.{Place}
 use Rattle.ic_unsafe_ref.specs.Places.{place_at, word_of}
 use Rattle.ic_link_ops.specs.declared.color.Color.{Color}
 use Rattle.ic_link_ops.specs.declared.color.Color.TheVariants.{Red, Black}
 
--- what the word says: its parts
+-- the parts of the word
 pub record Parts : Type 0 where
   pub linked : Bool
   pub parent : Option Place
   pub color : Color
 
--- an unlinked place, and a linked one that is black and has no parent
+-- the word of an unlinked place, and of a linked one that is black and has no parent
 abbrev pub unlinked : Parts
 unlinked = record { linked = false; parent = None; color = Red }
 
 abbrev pub linked : Parts
 linked = record { linked = true; parent = None; color = Black }
 
--- a linked place below this parent, in this color
+-- the word of a linked place with this parent and this color
 abbrev pub linked_below : Option Place → Color → Parts
 linked_below parent color = record { linked = true; parent = parent; color = color }
 
--- 1 for true, and for black
+-- 1 for true, 1 for black
 abbrev pub one_if : Bool → ℕ
 one_if true = 1
 one_if false = 0
@@ -31,11 +31,12 @@ abbrev pub one_if_black : Color → ℕ
 one_if_black Red = 0
 one_if_black Black = 1
 
--- the word as it is told: 4 * (parent + 1) + 2 * linked + black, where 8 * (parent + 1) is kept
+-- the number that is printed for the word: 4 * (parent + 1) + 2 * linked + black. The word itself stores 8 * (parent +
+-- 1)
 abbrev pub number_of : Parts → ℕ
 number_of parts = word_of parts.parent / 2 + 2 * one_if parts.linked + one_if_black parts.color
 
--- what a word says
+-- the parts that a word stores
 abbrev pub parts_at : ℕ → Parts
 parts_at n = record {
   linked = nat_eq (n / 2 % 2) 1;

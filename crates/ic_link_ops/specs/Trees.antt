@@ -3,12 +3,12 @@ use Rattle.std.specs.Prelude.{Option, Some, None, List, [], ◌∷◌, ◌++◌}
 use Rattle.ic_unsafe_ref.specs.declared.place.Place.{Place}
 use Rattle.ic_link_ops.specs.declared.color.Color.{Color}
 
--- no member, or one with its color and a tree on either side
+-- a tree has no member, or a root with its color and a tree on either side
 pub data Tree : Type 0 where
   leaf : Tree
   fork : Color → Tree → Place → Tree → Tree
 
--- the root, none where there is no member
+-- the root, none if there is no member
 abbrev pub top : Tree → Option Place
 top leaf = None
 top (fork c a p b) = Some p

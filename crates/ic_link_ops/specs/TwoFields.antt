@@ -4,7 +4,7 @@ use Rattle.ic_unsafe_ref.specs.declared.place.Place.{Place}
 use Rattle.ic_unsafe_ref.specs.Objects.{Objects, is_placed}
 use Rattle.ic_link_ops.specs.Tables.{Table}
 
--- where an object stands, exactly one of two links is used; at a vacant place neither
+-- a place with an object is linked in exactly one of the two fields, a vacant place in neither
 abbrev pub IsOnce : Bool → Bool → Bool → Type 0
 IsOnce true a b = a ≡ not b
 IsOnce false a b = (a ≡ false) × (b ≡ false)

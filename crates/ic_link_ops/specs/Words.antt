@@ -12,11 +12,11 @@ bits_of w = w.bits
 abbrev pub marked_bits_of : MarkedWord → ℕ
 marked_bits_of w = w.bits
 
--- a word as it is told: a quarter of what is kept, and the mark as it is
+-- the number that is printed for a word: a quarter of the stored number, and the mark as it is
 abbrev pub printed : ℕ → ℕ
 printed n = n / 4 + n % 2
 
--- whether it is a word, and not the mark
+-- whether this is a word, and not the mark
 abbrev pub is_word : MarkedWord → Bool
 is_word w = not (nat_eq w.bits 1)
 

@@ -6,7 +6,7 @@ use Rattle.ic_unsafe_ref.specs.declared.place.Place.{Place}
 use Rattle.ic_unsafe_ref.specs.Places.{word_of, place_at}
 use Rattle.ic_unsafe_ref.proofs.PlaceLemmas.{place_at_word}
 
--- what is taken twice goes out
+-- a word that is taken into the exclusive or twice cancels out
 pub xor_back : (a b : ℕ) → bit_xor (bit_xor a b) a ≡ b
 xor_back a b = xor_comm (bit_xor a b) a ∙ sym (xor_assoc a a b) ∙ ap (λ (x : ℕ). bit_xor x b) (xor_self a)
 
@@ -14,19 +14,19 @@ xor_back a b = xor_comm (bit_xor a b) a ∙ sym (xor_assoc a a b) ∙ ap (λ (x 
 pub word_same : (a b : Option Place) → word_of a ≡ word_of b → a ≡ b
 word_same a b e = sym (place_at_word a) ∙ ap place_at e ∙ place_at_word b
 
--- the two sides are alike
+-- the two sides can be exchanged
 pub joins_symmetric : (w : ℕ) (a b : Option Place) → w ≡ bit_xor (word_of a) (word_of b) → w ≡ bit_xor (word_of b) (word_of a)
 joins_symmetric w a b j = j ∙ xor_comm (word_of a) (word_of b)
 
--- what is left of a word without one place's is the other's
+-- a word without one place's word is the other place's word
 pub joins_rest : (w : ℕ) (a b : Option Place) → w ≡ bit_xor (word_of a) (word_of b) → bit_xor w (word_of a) ≡ word_of b
 joins_rest w a b j = ap (λ (x : ℕ). bit_xor x (word_of a)) j ∙ xor_back (word_of a) (word_of b)
 
--- which names it
+-- that word names the other place
 pub joins_finds_other : (w : ℕ) (a b : Option Place) → w ≡ bit_xor (word_of a) (word_of b) → place_at (bit_xor w (word_of a)) ≡ b
 joins_finds_other w a b j = ap place_at (joins_rest w a b j) ∙ place_at_word b
 
--- one place tells the other
+-- one place determines the other
 pub joins_one_other : (w : ℕ) (a b c : Option Place) → w ≡ bit_xor (word_of a) (word_of b) → w ≡ bit_xor (word_of a) (word_of c) → b ≡ c
 joins_one_other w a b c j k = word_same b c (sym (joins_rest w a b j) ∙ joins_rest w a c k)
 

@@ -1,4 +1,4 @@
-//! Tables that refuse no place that is not linked.
+//! Tables that refuse to link a place only if it is linked already.
 //!
 //! ```text
 //! links.acquire_link(place) // false exactly if the place is linked in this table
@@ -11,8 +11,8 @@ use std::alloc::Allocator;
 
 /// A table that links each place that it covers, unless the place is linked in it already.
 ///
-/// A plain table is one, with words of either width and with values or without. So is a view of its links that is lent. A table of claimed
-/// links is none, since another holder may have the claim.
+/// Plain tables are such tables, whatever the width of their words, with values or without, and so is a lent view of their links. A table
+/// of claimed links is not: it also refuses a place that another holder has claimed.
 pub trait AcceptsUnlinked: LinkOps {
     // The law: a place whose link is refused is linked.
     ghost refused_is_linked: { (old new : Self) (p : Place) → Self.Refused old new p → IsLinked Self.linked (Self.table old) p };

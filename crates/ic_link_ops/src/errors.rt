@@ -1,4 +1,4 @@
-//! The answers of calls that are refused.
+//! The errors of calls that are refused.
 //!
 //! ```text
 //! if let Err(refused) = list.push_back(&mut links, object) {
@@ -7,8 +7,8 @@
 //! list.push_back(&mut links, other)?; // in a function that returns an `anyhow::Result`
 //! ```
 //!
-//! Each is a `std::error::Error`, whatever the objects are, so `?` passes it on to an `anyhow::Error`. What it prints is part of its
-//! contract.
+//! Each is a `std::error::Error`, whatever the objects are, so `?` passes it on to an `anyhow::Error`. The contract of each states
+//! the text that it prints.
 
 ghost use Rattle.std.specs.Prelude.{◌≡◌, Some, codes};
 
@@ -16,7 +16,7 @@ use ic_unsafe_ref::UnsafeRef;
 use std::{error, fmt};
 use thiserror::Error;
 
-/// The object that was to be inserted is linked already. It comes back.
+/// The object that the caller wanted to insert is linked already. The error returns it.
 pub struct AlreadyLinked<T>(pub UnsafeRef<T>);
 
 /// It prints the place of the object.
@@ -37,7 +37,7 @@ impl<T> fmt::Display for AlreadyLinked<T> {
 impl<T> error::Error for AlreadyLinked<T> {}
 
 impl<T> AlreadyLinked<T> {
-    /// The object that was refused.
+    /// The object that was refused. O(1).
     #[inline]
     pub fn into_object(self) -> UnsafeRef<T>
         ensures answer { result ≡ self.0 }
@@ -53,18 +53,18 @@ impl<T> Drop for AlreadyLinked<T> {
     }
 }
 
-/// Why nothing was replaced. The object that was to be put in comes back.
+/// Why nothing was replaced. The error returns the object that the caller passed.
 pub enum ReplaceError<T> {
-    /// The cursor was on no member, or nothing stood where the call replaces.
+    /// The cursor was on no member, or there was no member at the position that the call replaces.
     Null(UnsafeRef<T>),
-    /// The object is linked already, be it the member itself.
+    /// The object is linked already. This includes the case that it is the member itself.
     AlreadyLinked(UnsafeRef<T>),
 }
 
 impl<T> ReplaceError<T> {
     ghost use Rattle.ic_link_ops.specs.Errors.{object_of};
 
-    /// The object that was refused.
+    /// The object that was refused. O(1).
     #[inline]
     pub fn into_object(self) -> UnsafeRef<T>
         ensures answer { result ≡ object_of self }
@@ -112,10 +112,10 @@ impl<T> Drop for ReplaceError<T> {
     }
 }
 
-/// Why a table covers no more places than before.
+/// Why a table could not cover more places.
 #[derive(Clone, Copy, PartialEq, Eq, Debug, Error)]
 pub enum CoverError {
-    /// More than 4,294,967,296 places were asked for.
+    /// The caller requested more than 4,294,967,296 places.
     #[error("TooManyPlaces")]
     TooManyPlaces = 1,
     /// There was no memory for the entries.

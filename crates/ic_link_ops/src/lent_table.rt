@@ -1,4 +1,4 @@
-//! A plain table that is lent: a view of its links, for a loop that makes many calls.
+//! A lent plain table: a view of its links, for a loop that makes many calls.
 //!
 //! ```text
 //! fn pop_all(list: &mut LinkedList<Job>, links: &mut [Link]) {
@@ -16,11 +16,11 @@ use crate::link_ops::LinkOps;
 use crate::link_value::LinkValue;
 use ic_unsafe_ref::Place;
 
-/// The links that a plain table lends, viewed as a table for as long as they are borrowed.
+/// A view of the links that a plain table lends. It is a table for as long as the links are borrowed.
 ///
-/// It has the link traits that the table has. In a loop over it no call reads again where the links are kept, as each call
-/// over the table itself does. When the view ends, the links are what it showed, and so the table's: hand them to a function
-/// of the loop, as above, since a proof follows what a call leaves after them.
+/// It has the link traits that the table has. Each call over the table itself reads the address of the links; in a loop over
+/// the view no call does. When the view ends, the table has the links as the view left them. Pass the lent links to a
+/// function that contains the loop, as above, whose contract states the links that it leaves.
 pub struct LentTable<'a, W, V = ()> {
     pub(crate) entries: &'a mut [Link<W, V>],
 }
@@ -38,7 +38,8 @@ impl<'a, W, V> LentTable<'a, W, V> {
 
     /// A view of the links that [`PlainTable::lend`](crate::PlainTable::lend) lends. O(1).
     ///
-    /// It covers those of them that its words can name: the first 536,870,911 if these have 4 bytes, and else all.
+    /// The view covers the places that its words can name: the first 536,870,911 if the words have 4 bytes, otherwise
+    /// all.
     #[inline]
     pub fn new(links: &'a mut [Link<W, V>]) -> LentTable<'a, W, V>
         ensures { IsView links.entry result }
@@ -52,7 +53,7 @@ impl<W: Words, V: LinkValue> LentTable<'_, W, V> {
     ghost use Rattle.ic_link_ops.specs.PlainTables.{linked_by};
     ghost use Rattle.ic_link_ops.specs.LentTables.{lent_entries, lent_table};
 
-    /// How many places are covered: those with a smaller index.
+    /// The number of places that are covered. A place is covered if its index is smaller than this number. O(1).
     #[inline]
     #[tactic(auto, using(crate::proofs::WidthLemmas::nameable_count, crate::proofs::WidthLemmas::nameable_fits, crate::proofs::WidthLemmas::nameable_read))]
     pub fn covers(&self) -> usize
@@ -92,7 +93,8 @@ impl<W: Words, V: LinkValue> LentTable<'_, W, V> {
         self.link(place).is_linked()
     }
 
-    /// Unlinks `place`, whoever linked it, as [`PlainTable::force_unlink`](crate::PlainTable::force_unlink) does. O(1).
+    /// Unlinks `place`, whichever call linked it, as [`PlainTable::force_unlink`](crate::PlainTable::force_unlink)
+    /// does. O(1).
     #[inline]
     pub fn force_unlink(&mut self, place: Place)
         requires covered { IsCovered (lent_table W.width W.unlinked V.initial V.printed self.old) place }

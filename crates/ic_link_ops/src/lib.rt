@@ -1,7 +1,7 @@
-//! Tables of links, and what collections ask of them.
+//! Tables of links, and what collections require of them.
 //!
-//! A link field is a table with one entry for each place that it covers. It is made once, covers the places of the
-//! objects, and is handed to each call of a collection.
+//! A link field is a table with one entry for each place that it covers. A program makes the table once, lets it cover
+//! the places of its objects, and passes it to each call of a collection.
 //!
 //! ```text
 //! let mut links = linked_list::LinkOps::new(rt.alloc());

@@ -1,4 +1,4 @@
-//! Links: what a table keeps at a place.
+//! Links: what a table stores at a place.
 //!
 //! ```text
 //! let link = links.link(place); // &Link
@@ -15,7 +15,7 @@ use ic_unsafe_ref::Place;
 use std::alloc::AllocError;
 use std::fmt;
 
-/// The words of a link: whether its place is linked, and what the traits below read.
+/// The words of a link. They store whether its place is linked, and what the traits below read.
 pub trait Words: Drop {
     // The words of a place that no call has linked.
     ghost unlinked: { Self };
@@ -23,30 +23,30 @@ pub trait Words: Drop {
     // Whether the words are those of a linked place.
     ghost is_linked: { Self → Bool };
 
-    // How wide a word is that names a place.
+    // The width of a word that names a place.
     ghost width: { Width };
 
-    /// The words with which a table covers a place: those of an unlinked one.
+    /// The words that a table stores for a place when it first covers it: those of an unlinked place.
     fn unlinked() -> Self
         ensures { result ≡ unlinked };
 
-    /// Whether the words say that their place is linked. One comparison.
+    /// Whether the place of these words is linked. One comparison.
     fn is_linked(&self) -> bool
         ensures { result ≡ is_linked self.now };
 
-    /// How many places a table of such words covers at most.
+    /// The greatest number of places that a table of such words can cover.
     fn most_places() -> usize
         ensures { result ≡ most_places width };
 
-    /// How many of so many places the words can name.
+    /// The number of places, out of the first `places`, that the words can name.
     fn count_nameable(places: usize) -> usize
         ensures { result ≡ count_nameable width places };
 
-    /// Makes the words those of a linked place. What they say of neighbors then is left open.
+    /// Marks the place of these words as linked. The neighbors that the words name then are unspecified.
     fn link(&mut self)
         ensures { is_linked self.new ≡ true };
 
-    /// Makes the words those of an unlinked place. What they say of neighbors then is left open.
+    /// Marks the place of these words as unlinked. The neighbors that the words name then are unspecified.
     fn unlink(&mut self)
         ensures { is_linked self.new ≡ false };
 
@@ -54,9 +54,10 @@ pub trait Words: Drop {
     ghost starts_unlinked: { is_linked unlinked ≡ false };
 }
 
-/// Words with one for what follows: the place of a singly or doubly linked list, or the neighbors of an XOR list.
+/// Words of which one, the next word, names the next place of a singly or doubly linked list, or both neighbors of an
+/// XOR list.
 pub trait NextWord: Words {
-    // That word.
+    // The next word.
     ghost next_word: { Self → ℕ };
 
     // All else is as it was.
@@ -64,12 +65,13 @@ pub trait NextWord: Words {
 
     ghost use Rattle.ic_link_ops.specs.Words.{bits_of};
 
-    /// The word for what follows. It requires that the place is linked.
+    /// The next word. It requires that the place is linked.
     fn next_word(&self) -> Word
         requires linked { Self.is_linked self.now ≡ true }
         ensures { bits_of result ≡ next_word self.now };
 
-    /// Replaces the word for what follows. It requires that the place is linked, and leaves it so, and that there is room for the word.
+    /// Replaces the next word. It requires that the place is linked, and that the words have room for the new one. The place stays
+    /// linked.
     fn set_next_word(&mut self, word: Word)
         requires linked { Self.is_linked self.old ≡ true }
         requires kept { CanKeep Self.width (bits_of word) }
@@ -77,31 +79,31 @@ pub trait NextWord: Words {
         ensures linked { Self.is_linked self.new ≡ Self.is_linked self.old }
         ensures others { KeepsOthers self.old self.new };
 
-    // The law: there is room for the word that is kept.
+    // The law: the words have room for the next word that they store.
     ghost next_word_kept: { (w : Self) → Self.is_linked w ≡ true → CanKeep Self.width (next_word w) };
 }
 
-/// Words with a place before as well.
+/// Words that also name the previous place.
 pub trait PrevPlace: NextWord {
-    // That place, or none.
+    // The previous place, or none.
     ghost prev: { Self → Option Place };
 
-    /// The place before, `None` at the front. Of an unlinked place it is what was left there.
+    /// The previous place, `None` at the front. If the place is unlinked, it is the value that was stored last.
     fn prev(&self) -> Option<Place>
         ensures { result ≡ prev self.now };
 
-    /// Replaces the place before, and leaves the word for what follows. It requires that there is room for the name of the place.
+    /// Replaces the previous place, and leaves the next word. It requires that the words have room for the name of the place.
     fn set_prev(&mut self, place: Option<Place>)
         requires named { IsNameable (HasRoom Self.width) place }
         ensures set { prev self.new ≡ place }
         ensures linked { Self.is_linked self.new ≡ Self.is_linked self.old }
         ensures next_word { Self.next_word self.new ≡ Self.next_word self.old };
 
-    // The law: it is among what a write of the next word leaves.
+    // The law: a write of the next word leaves the previous place as it was.
     ghost keeps_prev: { (old new : Self) → Self.KeepsOthers old new → prev new ≡ prev old };
 }
 
-/// What a table keeps at a place: whether the place is linked, the neighbors, and a value beside them, if the table has values.
+/// What a table stores at a place: whether the place is linked, its neighbors, and a value beside them if the table has values.
 ///
 /// A copy of a link belongs to no place, so it is unlinked, and has the initial value.
 #[derive(Drop)]
@@ -113,7 +115,7 @@ pub struct Link<W, V = ()> {
 impl<W: Words, V: LinkValue> Link<W, V> {
     ghost use Rattle.ic_link_ops.specs.Links.{link_with, words_of};
 
-    /// An unlinked link, with which a table covers a place.
+    /// An unlinked link, as a table stores it for a place that it covers for the first time. O(1).
     #[inline]
     pub fn new() -> Link<W, V>
         ensures { result ≡ link_with W.unlinked V.initial }
@@ -124,7 +126,7 @@ impl<W: Words, V: LinkValue> Link<W, V> {
         }
     }
 
-    /// Whether the place at which the link is kept is linked. O(1).
+    /// Whether the place of this link is linked. O(1).
     #[inline]
     pub fn is_linked(&self) -> bool
         ensures { result ≡ W.is_linked (words_of self.now) }
@@ -137,7 +139,7 @@ impl<W: NextWord, V> Link<W, V> {
     ghost use Rattle.ic_link_ops.specs.Links.{words_of, value_of};
     ghost use Rattle.ic_link_ops.specs.Words.{bits_of};
 
-    // Makes the link that of a linked place, with this word for what follows.
+    // Marks the link as linked, with this next word.
     #[inline]
     pub(crate) fn link_to(&mut self, word: Word)
         requires kept { CanKeep W.width (bits_of word) }

@@ -8,13 +8,13 @@ use ic_unsafe_ref::Place;
 
 /// A table of links: one entry for each place that it covers, which says whether the place is linked.
 ///
-/// Collections are written over this trait and the trait of their kind alone. A plain table refuses a link exactly if
-/// the place is linked in it; a table whose links are claimed from others may also be refused by them.
+/// Collections use only this trait and the trait of their kind. A plain table refuses a link exactly if the place is
+/// linked in it. A table of claimed links also refuses a place that another holder has claimed.
 ///
-/// A setter of one kind changes one entry, and of that entry it promises what its own kind reads. Of what other kinds read there nothing
-/// is promised: kinds share words, so a next place that is set is another XOR word as well, and a table may keep what it likes in the
-/// words that the kind doesn't read. No collection can tell, since a linked place is a member of one collection of the field, and so of
-/// one kind. Who calls setters of two kinds at one place sets anew what it reads.
+/// A setter of one kind of collection changes one entry, and its contract states only what that kind then reads there. It states nothing
+/// about what other kinds read there: kinds share words, so setting a next place also changes the word that an XOR list reads. No
+/// collection depends on this, since a linked place is a member of one collection of the field, and so of one kind. If you call setters
+/// of two kinds at one place, set all that you want to read again.
 ///
 /// The plain tables are `linked_list::LinkOps`, `singly_linked_list::LinkOps`, `xor_linked_list::LinkOps` and `rbtree::LinkOps`.
 ///
@@ -25,7 +25,7 @@ use ic_unsafe_ref::Place;
 /// }
 /// ```
 pub trait LinkOps {
-    /// All that the table keeps at a place.
+    /// All that the table stores at a place.
     type Entry;
 
     // How many places are covered, and the entry of each.
@@ -34,16 +34,16 @@ pub trait LinkOps {
     // Whether an entry is that of a linked place.
     ghost linked: { Self.Entry → Bool };
 
-    // The words of such a table have room for the name of this place, whatever they say now.
+    // The words of such a table have room for the name of this place, whatever they contain now.
     ghost CanName: { Place → Type 0 };
 
     // THE STEPS: from the one state to the other the table made these steps, in this order, and no other.
     ghost Trace: { Self → Self → List LinkStep → Type 0 };
 
-    // The place could not be had, and no entry has changed.
+    // The link was refused, and no entry has changed.
     ghost Refused: { Self → Self → Place → Type 0 };
 
-    /// Links `place`, unless it is refused, and says whether it did.
+    /// Links `place` and returns true, or returns false if the link is refused.
     ///
     /// It requires that the place is covered. O(1).
     fn acquire_link(&mut self, place: Place) -> bool
@@ -58,8 +58,8 @@ pub trait LinkOps {
         ensures released { Trace self.old self.new (releases place ∷ []) }
         ensures frame { ChangesOnly (table self.old) (table self.new) place };
 
-    // The laws: only covered places are linked, and there is room for their names; what stays took no step; steps and then more steps are all of
-    // them; the linked places are what the steps lead to; a refusal changes no entry.
+    // The laws: only covered places are linked, and the words have room for their names; a table that stays the same has taken no step; two
+    // lists of steps, one after the other, are one list of steps; the steps determine which places are linked; a refusal changes no entry.
     ghost linked_is_covered: { (t : Self) (p : Place) → IsLinked linked (table t) p → IsCovered (table t) p };
 
     ghost covered_has_name: { (t : Self) (p : Place) → IsCovered (table t) p → CanName p };

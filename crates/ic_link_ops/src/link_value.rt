@@ -1,4 +1,4 @@
-//! Values that a table keeps beside its links.
+//! Values that a table stores beside its links.
 //!
 //! ```text
 //! let mut links: rbtree::LinkOpsWith<u64> = PlainTable::new(rt.alloc());
@@ -18,19 +18,19 @@ use crate::table::PlainTable;
 use ic_unsafe_ref::{Place, Values};
 use std::alloc::Allocator;
 
-/// What stands beside each link of a table: nothing, which is `()`, a `u64`, a `u32`, or a type of your own.
+/// The value beside each link of a table: nothing, which is `()`, a `u64`, a `u32`, or a type of your own.
 pub trait LinkValue: Drop {
-    // What stands beside a link until a value is set.
+    // The value beside a link until one is set.
     ghost initial: { Self };
 
-    // The values of a table as numbers, which are part of its extent: so no call of a collection changes them.
+    // The values of a table as numbers. They are part of the table's extent, so no call of a collection changes them.
     ghost printed: { List Self → List ℕ };
 
-    /// The value that stands beside a link until one is set.
+    /// The value beside a link until one is set.
     fn initial() -> Self
         ensures { result ≡ initial };
 
-    // The law: the numbers tell the values.
+    // The law: the numbers determine the values.
     ghost tells: { (s t : List Self) → length s ≡ length t → printed s ≡ printed t → s ≡ t };
 }
 
@@ -47,7 +47,7 @@ impl LinkValue for () {
     ghost tells = { λ s t e _. all_alike s t e };
 }
 
-/// A number beside each link, a key, say: 0 at first.
+/// A number beside each link, for example a key. It is 0 at first.
 impl LinkValue for u64 {
     ghost initial = { 0 };
 
@@ -60,7 +60,7 @@ impl LinkValue for u64 {
     ghost tells = { λ s t _ e. e };
 }
 
-/// A number of 4 bytes beside each link: 0 at first.
+/// A number of 4 bytes beside each link. It is 0 at first.
 impl LinkValue for u32 {
     ghost initial = { 0 };
 
@@ -73,16 +73,17 @@ impl LinkValue for u32 {
     ghost tells = { λ s t _ e. e };
 }
 
-/// A table that keeps a value beside each link. A look at a member reads one entry, which has the value and the links.
+/// A table that stores a value beside each link. A search that compares a member reads one entry, which has both the
+/// value and the links.
 ///
-/// A value stands at each covered place, and no call of a collection changes one.
+/// Each covered place has a value, and no call of a collection changes one.
 pub trait LinkValues<V>: LinkOps + Values<V> {
-    // Two entries say the same of their place's link.
+    // Two entries have the same link.
     ghost LinksAlike: { Self.Entry → Self.Entry → Type 0 };
 
     /// Sets the value beside the link of `place`, linked or not. It requires that the place is covered. O(1).
     ///
-    /// The links stay. A tree finds its members by their keys, so set the key of a place that is no member.
+    /// The links stay. A tree finds its members by their keys, so set the key of a place only while it is not a member.
     fn set_value(&mut self, place: Place, value: V)
         requires covered { IsCovered (Self.table self.old) place }
         ensures value { Self.values self.new ≡ with_object (Self.values self.old) place value }
@@ -91,7 +92,7 @@ pub trait LinkValues<V>: LinkOps + Values<V> {
         ensures covers { (Self.table self.new).extent.places ≡ (Self.table self.old).extent.places }
         ensures trace_stays { Self.Trace self.old self.new [] };
 
-    // The laws: a value stands at each covered place, and the values are part of the extent.
+    // The laws: each covered place has a value, and the values are part of the extent.
     ghost covered_has_value: { (t : Self) (p : Place) → IsCovered (Self.table t) p → is_placed (Self.values t) p ≡ true };
 
     ghost values_stay: { (old new : Self) → (Self.table new).extent ≡ (Self.table old).extent → Self.values new ≡ Self.values old };

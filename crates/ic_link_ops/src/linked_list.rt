@@ -1,4 +1,4 @@
-//! The links of doubly linked lists: what a list asks of its table, and the plain table.
+//! The links of doubly linked lists: the trait that a list requires of its table, and the plain table.
 //!
 //! ```text
 //! let mut links = LinkOps::new(rt.alloc());
@@ -23,9 +23,9 @@ use crate::word::Word;
 use ic_unsafe_ref::Place;
 use std::alloc::{Allocator, Global};
 
-/// A table whose entries name two neighbors, which is what a doubly linked list asks for.
+/// A table for doubly linked lists: each entry names the place before and the place after its own.
 pub trait LinkedListOps: link_ops::LinkOps {
-    // What an entry says: whether its place is linked, and between which places.
+    // What an entry states: whether its place is linked, and between which places.
     ghost neighbors: { Self.Entry → Neighbors };
 
     /// The place after `place`. It requires that the place is linked. O(1).
@@ -38,7 +38,8 @@ pub trait LinkedListOps: link_ops::LinkOps {
         requires linked { IsLinked Self.linked (Self.table self.now) place }
         ensures { result ≡ (neighbors_at neighbors (Self.table self.now) place).prev };
 
-    /// Sets the place after `place`. It requires that the place is linked, and that the table can name that one. O(1).
+    /// Sets the place after `place`. It requires that the place is linked, and that the table can name the new
+    /// neighbor. O(1).
     fn set_next(&mut self, place: Place, next: Option<Place>)
         requires linked { IsLinked Self.linked (Self.table self.old) place }
         requires next { IsNameable Self.CanName next }
@@ -47,7 +48,8 @@ pub trait LinkedListOps: link_ops::LinkOps {
         ensures frame { ChangesOnly (Self.table self.old) (Self.table self.new) place }
         ensures trace_stays { Self.Trace self.old self.new [] };
 
-    /// Sets the place before `place`. It requires that the place is linked, and that the table can name that one. O(1).
+    /// Sets the place before `place`. It requires that the place is linked, and that the table can name the new
+    /// neighbor. O(1).
     fn set_prev(&mut self, place: Place, prev: Option<Place>)
         requires linked { IsLinked Self.linked (Self.table self.old) place }
         requires prev { IsNameable Self.CanName prev }
@@ -56,10 +58,10 @@ pub trait LinkedListOps: link_ops::LinkOps {
         ensures frame { ChangesOnly (Self.table self.old) (Self.table self.new) place }
         ensures trace_stays { Self.Trace self.old self.new [] };
 
-    /// Links `place` between two others, unless it is refused, and says whether it did. It requires that the place is covered, and that the
-    /// table can name the others. O(1).
+    /// Links `place` between two others and returns true, or returns false if the link is refused. It requires that the place is covered,
+    /// and that the table can name the others. O(1).
     ///
-    /// It is `acquire_link` and both setters in one, for a table that can write each word once.
+    /// It does what `acquire_link` and both setters do, in one call, so that a table can write each word once.
     #[inline]
     fn link_between(&mut self, place: Place, prev: Option<Place>, next: Option<Place>) -> bool
         requires covered { IsCovered (Self.table self.old) place }
@@ -78,35 +80,37 @@ pub trait LinkedListOps: link_ops::LinkOps {
         true
     }
 
-    // The law: both traits say alike whether a place is linked.
+    // The law: both traits agree on whether a place is linked.
     ghost linked_alike: { (e : Self.Entry) → (neighbors e).linked ≡ Self.linked e };
 }
 
-/// The words of a doubly link: the next place, or the mark 1 while the place is unlinked, and the previous one.
+/// The words of a doubly linked list's link: the next place, or the mark 1 while the place is unlinked, and the
+/// previous place.
 ///
-/// What an XOR list writes stands in the first word.
+/// An XOR list uses the first word.
 #[derive(Drop)]
 pub struct TwoWords {
     next: MarkedWord,
     prev: PlaceWord,
 }
 
-/// What the table keeps at a place: two words.
+/// What the table stores at a place: two words.
 pub type Link = link::Link<TwoWords>;
 
-/// The plain table of doubly links, two words for each place. It carries singly linked and XOR lists as well.
+/// The plain table for doubly linked lists, two words for each place. Singly linked and XOR lists can use it as well.
 pub type LinkOps<A = Global> = PlainTable<TwoWords, A>;
 
-/// The plain table of doubly links with a value beside each.
+/// The plain table for doubly linked lists with a value beside each link.
 pub type LinkOpsWith<V, A = Global> = PlainTable<TwoWords, A, V>;
 
-/// What the table of narrow links keeps at a place, in half the bytes of a `Link`.
+/// What the table of narrow links stores at a place, in half the bytes of a `Link`.
 pub type NarrowLink = link::Link<TwoNarrowWords>;
 
-/// The plain table of doubly links whose words have 4 bytes: half as large, and with room for 536,870,911 places.
+/// The plain table for doubly linked lists with words of 4 bytes: its links are half as large, and it has room for
+/// 536,870,911 places.
 pub type NarrowLinkOps<A = Global> = PlainTable<TwoNarrowWords, A>;
 
-/// The plain table of narrow links with a value beside each.
+/// The plain table of narrow links with a value beside each link.
 pub type NarrowLinkOpsWith<V, A = Global> = PlainTable<TwoNarrowWords, A, V>;
 
 impl Words for TwoWords {

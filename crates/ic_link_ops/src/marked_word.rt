@@ -22,7 +22,7 @@ impl MarkedWord {
 
     const MARK: u64 = 1;
 
-    /// The mark of an unlinked place: 1, which no word is, since words are multiples of 8.
+    /// The mark of an unlinked place: 1. No word is 1, since words are multiples of 8. O(1).
     #[inline]
     pub fn mark() -> MarkedWord
         ensures { result ≡ mark }
@@ -32,7 +32,7 @@ impl MarkedWord {
         }
     }
 
-    /// The word of a linked place, kept as it is.
+    /// The word of a linked place, stored as it is. O(1).
     #[inline]
     pub fn of(word: Word) -> MarkedWord
         ensures { marked_bits_of result ≡ bits_of word }
@@ -40,7 +40,7 @@ impl MarkedWord {
         MarkedWord { bits: word.bits }
     }
 
-    /// Whether it is the word of a linked place, and not the mark. One comparison.
+    /// Whether this is the word of a linked place, and not the mark. One comparison. O(1).
     #[inline]
     pub fn is_word(self) -> bool
         ensures { result ≡ is_word self }
@@ -48,7 +48,7 @@ impl MarkedWord {
         self.bits != MarkedWord::MARK
     }
 
-    /// The word that was kept. It requires that there is one, and not the mark.
+    /// The word that is stored. It requires that this is a word, and not the mark. O(1).
     #[inline]
     pub fn word(self) -> Word
         requires word { is_word self ≡ true }
@@ -57,7 +57,7 @@ impl MarkedWord {
         Word { bits: self.bits }
     }
 
-    /// The number that is kept, for a text of an entry: a word as [`Word`] has it, or 1.
+    /// The number that the text of an entry prints: that of the [`Word`], or 1 for the mark. O(1).
     #[inline]
     pub fn bits(self) -> u64
         ensures { result ≡ marked_bits_of self }

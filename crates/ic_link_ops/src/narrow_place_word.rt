@@ -11,9 +11,9 @@ ghost use Rattle.ic_link_ops.specs.Widths.{HasRoom, narrow};
 use ic_unsafe_ref::Place;
 use std::marker::Model;
 
-/// A place or none, kept as its word, `8 * (index + 1)`, or 0.
+/// A place or none, stored as the place's word, `8 * (index + 1)`, or 0.
 ///
-/// A clause sees it as an `Option<Place>`.
+/// In contracts it is an `Option<Place>`.
 #[derive(Drop)]
 pub struct NarrowPlaceWord {
     bits: u32,
@@ -31,7 +31,7 @@ impl Model for NarrowPlaceWord {
 }
 
 impl NarrowPlaceWord {
-    /// The word of the place. It requires that 4 bytes have room for it: that its index is below 536,870,911.
+    /// The word of the place. It requires that 4 bytes have room for the word: the index has to be below 536,870,911. O(1).
     #[inline]
     #[tactic(auto, using(ic_unsafe_ref::proofs::PlaceLemmas::place_at_word, crate::proofs::WidthLemmas::word_kept))]
     pub fn of(place: Option<Place>) -> NarrowPlaceWord
@@ -43,7 +43,7 @@ impl NarrowPlaceWord {
         }
     }
 
-    /// The place, or none at 0.
+    /// The place, `None` if the word is 0. O(1).
     #[inline]
     pub fn get(&self) -> Option<Place>
         ensures { result ≡ self.now }

@@ -1,4 +1,4 @@
-//! The word of a narrow tree link for the parent, the color and whether the place is linked.
+//! The word of a narrow tree link that stores the parent, the color and whether the place is linked.
 //!
 //! ```text
 //! let mut word = NarrowTreeWord::linked(); // black, with no parent: 3
@@ -14,9 +14,9 @@ use crate::color::Color;
 use ic_unsafe_ref::Place;
 use std::marker::Model;
 
-/// It is kept as the parent's word plus `2 * linked + black`, where 0 is the word of no parent, and 1 is true.
+/// It is stored as the parent's word plus `2 * linked + black`. The word of no parent is 0, and true counts as 1.
 ///
-/// A clause sees what it says, as of a [`TreeWord`](crate::TreeWord).
+/// Contracts see the word as its parts, like those of a [`TreeWord`](crate::TreeWord).
 #[derive(Drop)]
 pub struct NarrowTreeWord {
     bits: u32,
@@ -34,7 +34,7 @@ impl Model for NarrowTreeWord {
 }
 
 impl NarrowTreeWord {
-    /// The word of an unlinked place: 0.
+    /// The word of an unlinked place: 0. O(1).
     #[inline]
     #[tactic(auto, using(crate::proofs::TreeWordLemmas::parts_at_0))]
     pub fn unlinked() -> NarrowTreeWord
@@ -43,7 +43,7 @@ impl NarrowTreeWord {
         NarrowTreeWord { bits: 0 }
     }
 
-    /// The word of a linked place that is black and has no parent: 3.
+    /// The word of a linked place that is black and has no parent: 3. O(1).
     #[inline]
     #[tactic(auto, using(crate::proofs::TreeWordLemmas::parts_at_3))]
     pub fn linked() -> NarrowTreeWord
@@ -52,7 +52,7 @@ impl NarrowTreeWord {
         NarrowTreeWord { bits: 3 }
     }
 
-    /// The word of a linked place with this parent and this color. It requires that there is room for the parent.
+    /// The word of a linked place with this parent and this color. It requires that the word has room for the parent. O(1).
     #[inline]
     pub fn below(parent: Option<Place>, color: Color) -> NarrowTreeWord
         requires named { IsNameable (HasRoom narrow) parent }
@@ -78,7 +78,7 @@ impl NarrowTreeWord {
         Place::to_word(parent) as u32
     }
 
-    /// Whether the place is linked: the second bit.
+    /// Whether the place is linked: the second bit. O(1).
     #[inline]
     pub fn is_linked(&self) -> bool
         ensures { result ≡ self.now.linked }
@@ -86,7 +86,7 @@ impl NarrowTreeWord {
         self.bits / 2 % 2 == 1
     }
 
-    /// The parent, `None` at the root: all but the three lowest bits.
+    /// The parent, `None` at the root: all but the three lowest bits. O(1).
     #[inline]
     pub fn parent(&self) -> Option<Place>
         ensures { result ≡ self.now.parent }
@@ -94,7 +94,7 @@ impl NarrowTreeWord {
         Place::from_word(u64::from(self.bits / 8 * 8))
     }
 
-    /// The color: the lowest bit, 1 for black.
+    /// The color: the lowest bit, 1 for black. O(1).
     #[inline]
     pub fn color(&self) -> Color
         ensures { result ≡ self.now.color }
@@ -106,7 +106,8 @@ impl NarrowTreeWord {
         }
     }
 
-    /// Replaces the parent, and leaves the color and whether the place is linked. It requires that there is room for the parent.
+    /// Replaces the parent, and leaves the color and whether the place is linked. It requires that the word has room for the
+    /// parent. O(1).
     #[inline]
     #[tactic(auto, using(crate::proofs::TreeWordLemmas::parent_set))]
     pub fn set_parent(&mut self, parent: Option<Place>)
@@ -116,7 +117,7 @@ impl NarrowTreeWord {
         self.bits = NarrowTreeWord::kept(parent) + self.bits % 8;
     }
 
-    /// Replaces the color, and leaves the parent and whether the place is linked.
+    /// Replaces the color, and leaves the parent and whether the place is linked. O(1).
     #[inline]
     #[tactic(auto, using(crate::proofs::TreeWordLemmas::color_set))]
     pub fn set_color(&mut self, color: Color)

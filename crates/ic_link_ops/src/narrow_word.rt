@@ -1,6 +1,6 @@
-//! The word of 4 bytes of which narrow links are made, and the word that also marks an unlinked place.
+//! The word of 4 bytes that narrow links consist of, and the word that also marks an unlinked place.
 //!
-//! It is the [`Word`] itself, cut to 4 bytes, so no look and no write shifts it. It names places with an index below 536,870,911.
+//! It is the [`Word`] itself in 4 bytes, so no read and no write shifts it. It names places with an index below 536,870,911.
 //!
 //! ```text
 //! let narrow = NarrowWord::of(Word::of(Some(place))); // 4 bytes; the place has an index below 536,870,911
@@ -23,10 +23,11 @@ impl NarrowWord {
     ghost use Rattle.ic_link_ops.specs.Words.{bits_of};
     ghost use Rattle.ic_link_ops.specs.NarrowWords.{narrow_bits_of, no_narrow_word};
 
-    /// How many places have a name: each word `8 * (index + 1)` of theirs, and the exclusive or of two, is below 2^32.
+    /// The number of places that a narrow word can name. The word `8 * (index + 1)` of each, and the exclusive or of
+    /// two such words, is below 2^32.
     pub const PLACES: usize = 536_870_911;
 
-    /// The word for no place: 0.
+    /// The word for no place: 0. O(1).
     #[inline]
     pub fn none() -> NarrowWord
         ensures { result ≡ no_narrow_word }
@@ -34,7 +35,7 @@ impl NarrowWord {
         NarrowWord { bits: 0 }
     }
 
-    /// The word in 4 bytes. It requires that it is below 2^32.
+    /// The word in 4 bytes. It requires that the word is below 2^32. O(1).
     #[inline]
     pub fn of(word: Word) -> NarrowWord
         requires kept { CanKeep narrow (bits_of word) }
@@ -45,7 +46,7 @@ impl NarrowWord {
         }
     }
 
-    /// The word that was kept.
+    /// The word that is stored. O(1).
     #[inline]
     pub fn word(self) -> Word
         ensures { bits_of result ≡ narrow_bits_of self }
@@ -69,7 +70,7 @@ impl NarrowMarkedWord {
 
     const MARK: u32 = 1;
 
-    /// The mark of an unlinked place: 1, which no word is, since words are multiples of 8.
+    /// The mark of an unlinked place: 1. No word is 1, since words are multiples of 8. O(1).
     #[inline]
     pub fn mark() -> NarrowMarkedWord
         ensures { result ≡ narrow_mark }
@@ -79,7 +80,7 @@ impl NarrowMarkedWord {
         }
     }
 
-    /// The word of a linked place. It requires that it is below 2^32.
+    /// The word of a linked place. It requires that the word is below 2^32. O(1).
     #[inline]
     pub fn of(word: Word) -> NarrowMarkedWord
         requires kept { CanKeep narrow (bits_of word) }
@@ -91,7 +92,7 @@ impl NarrowMarkedWord {
         }
     }
 
-    /// Whether it is the word of a linked place, and not the mark. One comparison.
+    /// Whether this is the word of a linked place, and not the mark. One comparison. O(1).
     #[inline]
     pub fn is_word(self) -> bool
         ensures { result ≡ is_narrow_word self }
@@ -99,7 +100,7 @@ impl NarrowMarkedWord {
         self.bits != NarrowMarkedWord::MARK
     }
 
-    /// The word that was kept. It requires that there is one, and not the mark.
+    /// The word that is stored. It requires that this is a word, and not the mark. O(1).
     #[inline]
     pub fn word(self) -> Word
         requires word { is_narrow_word self ≡ true }

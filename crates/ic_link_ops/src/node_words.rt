@@ -1,4 +1,4 @@
-//! What the words of a tree link say and take.
+//! What the words of a tree link store.
 
 ghost use Rattle.std.specs.Prelude.{◌≡◌, true};
 ghost use Rattle.ic_link_ops.specs.RedBlackTree.{Node};
@@ -11,7 +11,7 @@ use ic_unsafe_ref::Place;
 
 /// Words with two children, a parent and a color.
 pub trait NodeWords: PrevPlace {
-    // What they say: whether the place is linked, between which places, and in which color.
+    // What the words store: whether the place is linked, its children, its parent and its color.
     ghost node: { Self → Node };
 
     /// The left child.
@@ -55,6 +55,6 @@ pub trait NodeWords: PrevPlace {
         requires named { IsNameable (HasRoom Self.width) parent }
         ensures { node self.new ≡ record (node self.old) { parent = parent; color = color } };
 
-    // The law: both say alike whether the place is linked.
+    // The law: both traits agree on whether the place is linked.
     ghost node_linked: { (w : Self) → (node w).linked ≡ Self.is_linked w };
 }

@@ -8,7 +8,8 @@ use crate::word::Word;
 use std::cmp::min;
 use std::marker::PhantomData;
 
-/// One word of 4 bytes for the neighbors, or the mark while the place is unlinked. `K` tells tables of two kinds apart.
+/// One word of 4 bytes for the neighbors, or the mark while the place is unlinked. The type parameter `K` is the kind
+/// of list.
 #[derive(Drop)]
 pub struct OneNarrowWord<K> {
     word: NarrowMarkedWord,

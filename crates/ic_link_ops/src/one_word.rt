@@ -12,7 +12,7 @@ use crate::word::Word;
 use ic_unsafe_ref::Place;
 use std::marker::PhantomData;
 
-/// One word for the neighbors, or the mark 1 while the place is unlinked. `K` tells tables of two kinds apart.
+/// One word for the neighbors, or the mark 1 while the place is unlinked. The type parameter `K` is the kind of list.
 #[derive(Drop)]
 pub struct OneWord<K> {
     pub(crate) word: MarkedWord,

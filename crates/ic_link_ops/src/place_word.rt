@@ -1,4 +1,4 @@
-//! A place or none, as a word: what heads of collections keep.
+//! A place or none, as a word: how heads of collections store their ends.
 //!
 //! ```text
 //! PlaceWord::of(Some(place)).get() // Some(place)
@@ -9,9 +9,9 @@ ghost use Rattle.std.specs.Prelude.{◌≡◌};
 use ic_unsafe_ref::Place;
 use std::marker::Model;
 
-/// A place or none, kept in one word: what heads of collections are made of.
+/// A place or none in one word. Heads of collections store their ends so.
 ///
-/// A clause sees it as an `Option<Place>`.
+/// In contracts it is an `Option<Place>`.
 #[derive(Drop)]
 pub struct PlaceWord {
     word: u64,
@@ -30,7 +30,7 @@ impl Model for PlaceWord {
 }
 
 impl PlaceWord {
-    /// The end of a collection at which `place` stands, `None` for an empty one.
+    /// The end of a collection whose member there is `place`, `None` for an empty collection. O(1).
     #[inline]
     #[tactic(auto, using(ic_unsafe_ref::proofs::PlaceLemmas::place_at_word))]
     pub fn of(place: Option<Place>) -> PlaceWord
@@ -41,7 +41,7 @@ impl PlaceWord {
         }
     }
 
-    /// The place that stands at this end, `None` in an empty collection. One test against 0 and a shift.
+    /// The member at this end, `None` in an empty collection. One test against 0 and a shift. O(1).
     #[inline]
     pub fn get(&self) -> Option<Place>
         ensures { result ≡ self.now }

@@ -1,4 +1,4 @@
-//! The links of red-black trees: what a tree asks of its table, and the plain table.
+//! The links of red-black trees: the trait that a tree requires of its table, and the plain table.
 //!
 //! ```text
 //! let mut links = LinkOps::new(rt.alloc());
@@ -24,11 +24,11 @@ use crate::word::Word;
 use ic_unsafe_ref::Place;
 use std::alloc::{Allocator, Global};
 
-/// A table whose entries name two children and a parent and have a color, which is what a red-black tree asks for.
+/// A table for red-black trees: each entry names two children and a parent, and has a color.
 ///
-/// Whether a place is linked has nothing to do with its color or its parent.
+/// A place can be linked or unlinked whatever its color and its parent are.
 pub trait RBTreeOps: link_ops::LinkOps {
-    // What an entry says: whether its place is linked, between which places, and in which color.
+    // What an entry states: whether its place is linked, its children, its parent and its color.
     ghost node: { Self.Entry → Node };
 
     /// The left child of `place`. It requires that the place is linked. O(1).
@@ -95,14 +95,14 @@ pub trait RBTreeOps: link_ops::LinkOps {
         ensures frame { ChangesOnly (Self.table self.old) (Self.table self.new) place }
         ensures trace_stays { Self.Trace self.old self.new [] };
 
-    // The law: both traits say alike whether a place is linked.
+    // The law: both traits agree on whether a place is linked.
     ghost linked_alike: { (e : Self.Entry) → (node e).linked ≡ Self.linked e };
 }
 
-/// The words of a tree link: the children, and one word for the parent, the color and whether the place is linked.
+/// The words of a tree link: one for each child, and one for the parent, the color and whether the place is linked.
 ///
-/// A list keeps its previous place on the left and its next one on the right; what an XOR list writes stands on the
-/// right.
+/// A list stores its previous place as the left child and its next place as the right one. An XOR list uses the word of
+/// the right child.
 #[derive(Drop)]
 pub struct ThreeWords {
     left: PlaceWord,
@@ -110,33 +110,35 @@ pub struct ThreeWords {
     third: TreeWord,
 }
 
-/// What the table keeps at a place: three words.
+/// What the table stores at a place: three words.
 pub type Link = link::Link<ThreeWords>;
 
-/// The plain table of tree links, three words for each place. It carries lists of all kinds as well.
+/// The plain table for red-black trees, three words for each place. Lists of all kinds can use it as well.
 pub type LinkOps<A = Global> = PlainTable<ThreeWords, A>;
 
-/// The plain table of tree links with a value beside each, a key, say.
+/// The plain table for red-black trees with a value beside each link, for example a key.
 pub type LinkOpsWith<V, A = Global> = PlainTable<ThreeWords, A, V>;
 
-/// What the table of narrow links keeps at a place, in half the bytes of a `Link`.
+/// What the table of narrow links stores at a place, in half the bytes of a `Link`.
 pub type NarrowLink = link::Link<ThreeNarrowWords>;
 
-/// The plain table of tree links whose words have 4 bytes: half as large, and with room for 536,870,911 places.
+/// The plain table for red-black trees with words of 4 bytes: its links are half as large, and it has room for
+/// 536,870,911 places.
 pub type NarrowLinkOps<A = Global> = PlainTable<ThreeNarrowWords, A>;
 
-/// The plain table of narrow links with a value beside each.
+/// The plain table of narrow links with a value beside each link.
 pub type NarrowLinkOpsWith<V, A = Global> = PlainTable<ThreeNarrowWords, A, V>;
 
 impl link::Link<ThreeWords> {
     ghost use Rattle.ic_link_ops.specs.Links.{words_of};
     ghost use Rattle.ic_link_ops.specs.ThreeWords.{printed_words};
 
-    /// The three words: those of the left and the right child, and that of the parent and the color.
+    /// The numbers that are printed for the three words: the left child, the right child, and the parent with the
+    /// color.
     ///
-    /// A child has `2 * (index + 1)`, and one that is none 0. What an XOR list wrote stands on the right. The third word is
-    /// `4 * (parent + 1) + 2 * linked + black`, with 0 in place of `parent + 1` for no parent, and 1 for true. What names a place is kept
-    /// as four times, and twice, as much.
+    /// A child is printed as `2 * (index + 1)`, and no child as 0. If an XOR list wrote the entry, its word is printed as the right
+    /// child. The third number is `4 * (parent + 1) + 2 * linked + black`, with 0 instead of `parent + 1` if there is no parent, and 1
+    /// for true. The link stores four times the first two numbers. The parent's part it stores twice as large. O(1).
     #[inline]
     pub fn words(&self) -> [u64; 3]
         ensures { result ≡ printed_words (words_of self.now) }

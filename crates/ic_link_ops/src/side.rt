@@ -4,11 +4,11 @@
 //! Side::Left // where the smaller members stand
 //! ```
 
-/// Left or right: what comes in two mirrored halves is written once, for a side.
+/// Left or right. Code with two mirrored halves is written once, for a side.
 #[derive(Clone, Copy, PartialEq, Eq, Debug)]
 pub enum Side {
-    /// The members before.
+    /// The side of the members before.
     Left,
-    /// The members after.
+    /// The side of the members after.
     Right,
 }

@@ -1,4 +1,4 @@
-//! The links of singly linked lists: what a list asks of its table, and the plain table.
+//! The links of singly linked lists: the trait that a list requires of its table, and the plain table.
 //!
 //! ```text
 //! let mut links = LinkOps::new(rt.alloc());
@@ -21,9 +21,9 @@ use crate::word::Word;
 use ic_unsafe_ref::Place;
 use std::alloc::{Allocator, Global};
 
-/// A table whose entries name what stands after, which is what a singly linked list asks for.
+/// A table for singly linked lists: each entry names the place after its own.
 pub trait SinglyLinkedListOps: link_ops::LinkOps {
-    // What an entry says: whether its place is linked, and what stands after it.
+    // What an entry states: whether its place is linked, and which place is after it.
     ghost successor: { Self.Entry → Successor };
 
     /// The place after `place`. It requires that the place is linked. O(1).
@@ -31,7 +31,8 @@ pub trait SinglyLinkedListOps: link_ops::LinkOps {
         requires linked { IsLinked Self.linked (Self.table self.now) place }
         ensures { result ≡ (successor_at successor (Self.table self.now) place).next };
 
-    /// Sets the place after `place`. It requires that the place is linked, and that the table can name that one. O(1).
+    /// Sets the place after `place`. It requires that the place is linked, and that the table can name the new
+    /// neighbor. O(1).
     fn set_next(&mut self, place: Place, next: Option<Place>)
         requires linked { IsLinked Self.linked (Self.table self.old) place }
         requires next { IsNameable Self.CanName next }
@@ -40,10 +41,10 @@ pub trait SinglyLinkedListOps: link_ops::LinkOps {
         ensures frame { ChangesOnly (Self.table self.old) (Self.table self.new) place }
         ensures trace_stays { Self.Trace self.old self.new [] };
 
-    /// Links `place` before another, unless it is refused, and says whether it did. It requires that the place is covered, and that the
-    /// table can name the other. O(1).
+    /// Links `place` before another and returns true, or returns false if the link is refused. It requires that the place is covered,
+    /// and that the table can name the other. O(1).
     ///
-    /// It is `acquire_link` and `set_next` in one, for a table that can write the word once.
+    /// It does what `acquire_link` and `set_next` do, in one call, so that a table can write the word once.
     #[inline]
     fn link_before(&mut self, place: Place, next: Option<Place>) -> bool
         requires covered { IsCovered (Self.table self.old) place }
@@ -60,29 +61,30 @@ pub trait SinglyLinkedListOps: link_ops::LinkOps {
         true
     }
 
-    // The law: both traits say alike whether a place is linked.
+    // The law: both traits agree on whether a place is linked.
     ghost linked_alike: { (e : Self.Entry) → (successor e).linked ≡ Self.linked e };
 }
 
-/// The kind of links whose word is that of the next place.
+/// The kind of links whose word names the next place.
 pub struct Singly;
 
-/// What the table keeps at a place: one word.
+/// What the table stores at a place: one word.
 pub type Link = link::Link<OneWord<Singly>>;
 
-/// The plain table of singly links, one word for each place. It carries XOR lists as well.
+/// The plain table for singly linked lists, one word for each place. XOR lists can use it as well.
 pub type LinkOps<A = Global> = PlainTable<OneWord<Singly>, A>;
 
-/// The plain table of singly links with a value beside each.
+/// The plain table for singly linked lists with a value beside each link.
 pub type LinkOpsWith<V, A = Global> = PlainTable<OneWord<Singly>, A, V>;
 
-/// What the table of narrow links keeps at a place, in half the bytes of a `Link`.
+/// What the table of narrow links stores at a place, in half the bytes of a `Link`.
 pub type NarrowLink = link::Link<OneNarrowWord<Singly>>;
 
-/// The plain table of singly links whose words have 4 bytes: half as large, and with room for 536,870,911 places.
+/// The plain table for singly linked lists with words of 4 bytes: its links are half as large, and it has room for
+/// 536,870,911 places.
 pub type NarrowLinkOps<A = Global> = PlainTable<OneNarrowWord<Singly>, A>;
 
-/// The plain table of narrow links with a value beside each.
+/// The plain table of narrow links with a value beside each link.
 pub type NarrowLinkOpsWith<V, A = Global> = PlainTable<OneNarrowWord<Singly>, A, V>;
 
 impl<W: NextWord, A: Allocator, V: LinkValue> SinglyLinkedListOps for PlainTable<W, A, V> {

@@ -17,9 +17,11 @@ use crate::link_value::LinkValue;
 use ic_unsafe_ref::Place;
 use std::alloc::{Allocator, Global};
 
-/// A table with one link for each place that it covers, in one `Vec`, and a value beside each, if it is made so.
+/// A table with one link for each place that it covers, in one `Vec`. Its type says whether a value is kept beside each
+/// link.
 ///
-/// Each kind of collection has its own by the name `LinkOps`, and a table carries every kind that its words can keep.
+/// Each kind of collection has its own plain table by the name `LinkOps`. A table can be used by every kind whose links
+/// its words can store.
 #[derive(Drop)]
 pub struct PlainTable<W, A: Allocator = Global, V = ()> {
     pub(crate) entries: Vec<Link<W, V>, A>,
@@ -33,7 +35,7 @@ impl<W: Words, A: Allocator, V: LinkValue> PlainTable<W, A, V> {
     ghost use Rattle.ic_link_ops.specs.Widths.{most_places};
     ghost use Rattle.std.specs.Borrow.{sem};
 
-    /// A table that covers no place. It takes no memory.
+    /// A table that covers no place. It takes no memory. O(1).
     pub fn new(alloc: A) -> PlainTable<W, A, V>
         ensures { (table_beside W.width W.unlinked V.initial V.printed result).extent.places ≡ 0 }
     {
@@ -42,7 +44,7 @@ impl<W: Words, A: Allocator, V: LinkValue> PlainTable<W, A, V> {
         }
     }
 
-    /// How many places are covered: those with a smaller index.
+    /// The number of places that are covered. A place is covered if its index is smaller than this number. O(1).
     #[inline]
     #[tactic(auto, using(crate::proofs::WidthLemmas::nameable_count, crate::proofs::WidthLemmas::nameable_fits, crate::proofs::WidthLemmas::nameable_read, crate::proofs::WidthLemmas::nameable_written))]
     pub fn covers(&self) -> usize
@@ -92,10 +94,11 @@ impl<W: Words, A: Allocator, V: LinkValue> PlainTable<W, A, V> {
         self.entries[place.index()].is_linked()
     }
 
-    /// Unlinks `place`, whoever linked it. An unlinked place stays so. It requires that the place is covered. O(1).
+    /// Unlinks `place`, whichever call linked it. An unlinked place stays unlinked. It requires that the place is
+    /// covered. O(1).
     ///
-    /// Every other entry stays, so each collection of which the place is no member keeps its sequence. For what
-    /// `fast_clear` leaves; a collection of which the place is a member is broken by it.
+    /// Every other entry stays, so each collection without this member keeps its sequence. Use it for objects that
+    /// `fast_clear` left linked. It breaks a collection that has the place as a member.
     #[inline]
     #[tactic(auto, using(crate::proofs::WidthLemmas::nameable_count, crate::proofs::WidthLemmas::nameable_fits, crate::proofs::WidthLemmas::nameable_read, crate::proofs::WidthLemmas::nameable_written))]
     pub fn force_unlink(&mut self, place: Place)
@@ -108,9 +111,9 @@ impl<W: Words, A: Allocator, V: LinkValue> PlainTable<W, A, V> {
         entry.words.unlink();
     }
 
-    /// Lends the links, in the order of their places, to be viewed as a table by [`LentTable::new`](crate::LentTable::new).
+    /// Lends the links, in the order of their places. [`LentTable::new`](crate::LentTable::new) makes a table of them.
     ///
-    /// When the borrow ends, the table has the links that stand there last. O(1).
+    /// When the borrow ends, the table has the links as they were written last. O(1).
     #[inline]
     pub fn lend(&mut self) -> &mut [Link<W, V>]
         ensures* writes_back { sem 𝓛 (LendsLinks W.row A.row V.row A.Allocator self.entry result) }
@@ -121,9 +124,9 @@ impl<W: Words, A: Allocator, V: LinkValue> PlainTable<W, A, V> {
 
     /// Covers the first `count` places, with an unlinked entry for each that is new.
     ///
-    /// It is refused above 4,294,967,296 places, or 536,870,911 if the words have 4 bytes, and where no memory is found;
-    /// then nothing has changed. The entries that are there stay, and where `count` is smaller than what is covered
-    /// nothing changes. At most one request for memory.
+    /// It is refused if `count` is above 4,294,967,296, or above 536,870,911 if the words have 4 bytes, or if there is
+    /// no memory; then nothing has changed. Entries that exist stay as they are. If at least `count` places are covered
+    /// already, nothing changes. At most one request for memory. O(n) in the places that are new.
     pub fn cover(&mut self, count: usize) -> Result<(), CoverError>
         ensures too_many { (result ≡ Err CoverError.TooManyPlaces) ↔ most_places W.width < count }
         ensures covers { OnOk result ((table_beside W.width W.unlinked V.initial V.printed self.new).extent.places ≡ max (table_beside W.width W.unlinked V.initial V.printed self.old).extent.places count) }
@@ -145,7 +148,7 @@ impl<W: Words, A: Allocator, V: LinkValue> PlainTable<W, A, V> {
         Ok(())
     }
 
-    // Makes so many links, with an unlinked one for each that is new, and answers whether there was memory for them.
+    // Extends the table to `count` links, each new one unlinked, and returns whether there was memory for them.
     fn grow(&mut self, count: usize) -> bool
         requires more { length (entries self.old) < count }
         ensures grown { OnTrue result (length (entries self.new) ≡ count) }

@@ -12,9 +12,11 @@ use crate::word::Word;
 use ic_unsafe_ref::Place;
 use std::cmp::min;
 
-/// The words of a tree link, of 4 bytes each: the children, and one word for the parent, the color and whether the place is linked.
+/// The words of a tree link, each of 4 bytes: one for each child, and one for the parent, the color and whether the place is
+/// linked.
 ///
-/// A list keeps its previous place on the left and its next one on the right; what an XOR list writes stands on the right.
+/// A list stores its previous place as the left child and its next place as the right one. An XOR list uses the word of
+/// the right child.
 #[derive(Drop)]
 pub struct ThreeNarrowWords {
     left: NarrowPlaceWord,

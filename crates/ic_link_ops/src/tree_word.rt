@@ -1,4 +1,4 @@
-//! The word of a tree link for the parent, the color and whether the place is linked.
+//! The word of a tree link that stores the parent, the color and whether the place is linked.
 //!
 //! ```text
 //! let mut word = TreeWord::linked(); // black, with no parent: 3
@@ -14,10 +14,11 @@ use crate::color::Color;
 use ic_unsafe_ref::Place;
 use std::marker::Model;
 
-/// It is kept as `8 * (parent + 1) + 2 * linked + black`, with 0 in place of `parent + 1` for no parent, and 1 for true. So the parent's
-/// word is what is left without the three lowest bits.
+/// It is stored as `8 * (parent + 1) + 2 * linked + black`, with 0 instead of `parent + 1` if there is no parent, and 1 for true. So all
+/// but the three lowest bits are the parent's word.
 ///
-/// A clause sees what it says. It is linked whatever its color and its parent are.
+/// Contracts see the word as its parts: whether the place is linked, its parent and its color. The place can be linked
+/// whatever its color and its parent are.
 #[derive(Drop)]
 pub struct TreeWord {
     bits: u64,
@@ -35,7 +36,7 @@ impl Model for TreeWord {
 }
 
 impl TreeWord {
-    /// The word of an unlinked place: 0.
+    /// The word of an unlinked place: 0. O(1).
     #[inline]
     #[tactic(auto, using(crate::proofs::TreeWordLemmas::parts_at_0))]
     pub fn unlinked() -> TreeWord
@@ -44,7 +45,7 @@ impl TreeWord {
         TreeWord { bits: 0 }
     }
 
-    /// The word of a linked place that is black and has no parent: 3.
+    /// The word of a linked place that is black and has no parent: 3. O(1).
     #[inline]
     #[tactic(auto, using(crate::proofs::TreeWordLemmas::parts_at_3))]
     pub fn linked() -> TreeWord
@@ -53,7 +54,7 @@ impl TreeWord {
         TreeWord { bits: 3 }
     }
 
-    /// The word of a linked place with this parent and this color.
+    /// The word of a linked place with this parent and this color. O(1).
     #[inline]
     pub fn below(parent: Option<Place>, color: Color) -> TreeWord
         ensures { result ≡ linked_below parent color }
@@ -67,7 +68,7 @@ impl TreeWord {
         }
     }
 
-    /// Whether the place is linked: the second bit.
+    /// Whether the place is linked: the second bit. O(1).
     #[inline]
     pub fn is_linked(&self) -> bool
         ensures { result ≡ self.now.linked }
@@ -75,7 +76,7 @@ impl TreeWord {
         self.bits / 2 % 2 == 1
     }
 
-    /// The parent, `None` at the root: all but the three lowest bits.
+    /// The parent, `None` at the root: all but the three lowest bits. O(1).
     #[inline]
     pub fn parent(&self) -> Option<Place>
         ensures { result ≡ self.now.parent }
@@ -83,7 +84,7 @@ impl TreeWord {
         Place::from_word(self.bits / 8 * 8)
     }
 
-    /// The color: the lowest bit, 1 for black.
+    /// The color: the lowest bit, 1 for black. O(1).
     #[inline]
     pub fn color(&self) -> Color
         ensures { result ≡ self.now.color }
@@ -95,7 +96,7 @@ impl TreeWord {
         }
     }
 
-    /// Replaces the parent, and leaves the color and whether the place is linked.
+    /// Replaces the parent, and leaves the color and whether the place is linked. O(1).
     #[inline]
     #[tactic(auto, using(crate::proofs::TreeWordLemmas::parent_set))]
     pub fn set_parent(&mut self, parent: Option<Place>)
@@ -104,7 +105,7 @@ impl TreeWord {
         self.bits = Place::to_word(parent) + self.bits % 8;
     }
 
-    /// Replaces the color, and leaves the parent and whether the place is linked.
+    /// Replaces the color, and leaves the parent and whether the place is linked. O(1).
     #[inline]
     #[tactic(auto, using(crate::proofs::TreeWordLemmas::color_set))]
     pub fn set_color(&mut self, color: Color)
@@ -117,7 +118,8 @@ impl TreeWord {
         self.bits = self.bits / 2 * 2 + black;
     }
 
-    /// What the word says as one number: `4 * (parent + 1) + 2 * linked + black`, with 0 in place of `parent + 1` for no parent.
+    /// The number that is printed for the word: `4 * (parent + 1) + 2 * linked + black`, with 0 instead of `parent + 1` if there
+    /// is no parent. O(1).
     #[inline]
     #[tactic(auto, using(crate::proofs::TreeWordLemmas::number_of_parts))]
     pub fn number(&self) -> u64

@@ -9,7 +9,8 @@ use crate::word::Word;
 use ic_unsafe_ref::Place;
 use std::cmp::min;
 
-/// The words of a doubly link, of 4 bytes each: the next place, or the mark while the place is unlinked, and the previous one.
+/// The words of a doubly linked list's link, each of 4 bytes: the next place, or the mark while the place is unlinked, and the
+/// previous place.
 #[derive(Drop)]
 pub struct TwoNarrowWords {
     next: NarrowMarkedWord,

@@ -1,7 +1,7 @@
-//! The word of which links are made.
+//! The word that links consist of.
 //!
-//! A place is kept as its word, `8 * (index + 1)`, and no place as 0, so that each word of a linked place is a multiple of 8
-//! below `2^36`. The exclusive or of two words is such a word again, so a place is read from it with no test of its range.
+//! A place is stored as its word, `8 * (index + 1)`, and no place as 0. So each word of a linked place is a multiple of 8
+//! below `2^36`. The exclusive or of two such words is one again, so a place is read from it without a test of its range.
 //!
 //! ```text
 //! let word = Word::between(Some(first), Some(third));
@@ -14,7 +14,7 @@ ghost use Rattle.ic_unsafe_ref.specs.Places.{word_of, place_at};
 
 use ic_unsafe_ref::Place;
 
-/// The word of a place, 0 for none, or the exclusive or of two of these.
+/// The word of a place, 0 for none, or the exclusive or of two such words.
 #[derive(Clone, Copy)]
 pub struct Word {
     pub(crate) bits: u64,
@@ -24,7 +24,7 @@ pub struct Word {
 impl Word {
     ghost use Rattle.ic_link_ops.specs.Words.{bits_of, none};
 
-    /// The word for no place: 0.
+    /// The word for no place: 0. O(1).
     #[inline]
     pub fn none() -> Word
         ensures { result ≡ none }
@@ -32,7 +32,7 @@ impl Word {
         Word { bits: 0 }
     }
 
-    /// The word for a place or none.
+    /// The word for a place or none. O(1).
     #[inline]
     pub fn of(place: Option<Place>) -> Word
         ensures { bits_of result ≡ word_of place }
@@ -42,7 +42,7 @@ impl Word {
         }
     }
 
-    /// The place that the word names, and none where it is 0. One test.
+    /// The place that the word names, `None` if the word is 0. One test. O(1).
     #[inline]
     pub fn place(self) -> Option<Place>
         ensures { result ≡ place_at (bits_of self) }
@@ -50,7 +50,7 @@ impl Word {
         Place::from_word(self.bits)
     }
 
-    /// The word of the places on both sides: the exclusive or of their words.
+    /// The word of the places on both sides: the exclusive or of their words. O(1).
     #[inline]
     #[tactic(auto, using(ic_unsafe_ref::proofs::PlaceLemmas::xor_fits))]
     pub fn between(prev: Option<Place>, next: Option<Place>) -> Word
@@ -61,7 +61,7 @@ impl Word {
         }
     }
 
-    /// The place on one side, where `known` is the one on the other.
+    /// The place on one side, given that `known` is the place on the other side. O(1).
     #[inline]
     #[tactic(auto, using(ic_unsafe_ref::proofs::PlaceLemmas::xor_fits))]
     pub fn other(self, known: Option<Place>) -> Option<Place>
@@ -70,7 +70,7 @@ impl Word {
         Place::from_word(self.bits ^ Place::to_word(known))
     }
 
-    /// The word with the place `new` in place of `old` on one side.
+    /// The word with `new` instead of `old` on one side. O(1).
     #[inline]
     #[tactic(auto, using(ic_unsafe_ref::proofs::PlaceLemmas::xor_fits))]
     pub fn replaced(self, old: Option<Place>, new: Option<Place>) -> Word
@@ -81,7 +81,7 @@ impl Word {
         }
     }
 
-    /// The word as a number.
+    /// The word as a number. O(1).
     #[inline]
     pub fn bits(self) -> u64
         ensures { result ≡ bits_of self }

@@ -1,4 +1,4 @@
-//! The links of XOR lists: what a list asks of its table, and the plain table.
+//! The links of XOR lists: the trait that a list requires of its table, and the plain table.
 //!
 //! ```text
 //! let mut links = LinkOps::new(rt.alloc());
@@ -20,22 +20,22 @@ use crate::word::Word;
 use ic_unsafe_ref::Place;
 use std::alloc::{Allocator, Global};
 
-/// A table whose entries name two neighbors without telling which is which, as an XOR list asks for.
+/// A table for XOR lists: each entry joins two neighbors in one word, and does not say which one is before.
 ///
-/// Only who knows one neighbor of a place can read the other.
+/// A caller has to know one neighbor of a place to read the other.
 pub trait XorLinkedListOps: link_ops::LinkOps {
-    // The entry of a place stands between these two, in either order.
-    ghost Joins: { Self.Entry → Option Place → Option Place → Type 0 };
+    // The place of the entry is between these two places, in either order.
+    ghost HasNeighbors: { Self.Entry → Option Place → Option Place → Type 0 };
 
-    // The neighbor on the other side of the one that is told.
+    // The neighbor of the entry's place that is not the given one.
     ghost other: { Self.Entry → Option Place → Option Place };
 
-    /// The place after `place`, if `prev` stands before it. It requires that the place is linked. O(1).
+    /// The place after `place`, given that `prev` is the one before it. It requires that the place is linked. O(1).
     fn next(&self, place: Place, prev: Option<Place>) -> Option<Place>
         requires linked { IsLinked Self.linked (Self.table self.now) place }
         ensures { result ≡ other ((Self.table self.now).entry place) prev };
 
-    /// The place before `place`, if `next` stands after it. It requires that the place is linked. O(1).
+    /// The place before `place`, given that `next` is the one after it. It requires that the place is linked. O(1).
     fn prev(&self, place: Place, next: Option<Place>) -> Option<Place>
         requires linked { IsLinked Self.linked (Self.table self.now) place }
         ensures { result ≡ other ((Self.table self.now).entry place) next };
@@ -45,33 +45,34 @@ pub trait XorLinkedListOps: link_ops::LinkOps {
         requires linked { IsLinked Self.linked (Self.table self.old) place }
         requires prev { IsNameable Self.CanName prev }
         requires next { IsNameable Self.CanName next }
-        ensures set { Joins ((Self.table self.new).entry place) prev next }
+        ensures set { HasNeighbors ((Self.table self.new).entry place) prev next }
         ensures linked { IsLinked Self.linked (Self.table self.new) place }
         ensures frame { ChangesOnly (Self.table self.old) (Self.table self.new) place }
         ensures trace_stays { Self.Trace self.old self.new [] };
 
-    /// Puts `new` where `old` stood beside `place`. It requires that the place is linked, and that the table can name both. O(1).
+    /// Replaces the neighbor `old` of `place` by `new`. It requires that the place is linked, and that the table can name both.
+    /// O(1).
     fn replace_next_or_prev(&mut self, place: Place, old: Option<Place>, new: Option<Place>)
         requires linked { IsLinked Self.linked (Self.table self.old) place }
         requires from { IsNameable Self.CanName old }
         requires to { IsNameable Self.CanName new }
-        ensures replaced { (x : Option Place) → Joins ((Self.table self.old).entry place) old x
-            → Joins ((Self.table self.new).entry place) new x }
+        ensures replaced { (x : Option Place) → HasNeighbors ((Self.table self.old).entry place) old x
+            → HasNeighbors ((Self.table self.new).entry place) new x }
         ensures linked { IsLinked Self.linked (Self.table self.new) place }
         ensures frame { ChangesOnly (Self.table self.old) (Self.table self.new) place }
         ensures trace_stays { Self.Trace self.old self.new [] };
 
-    /// Links `place` between two others, unless it is refused, and says whether it did. It requires that the place is covered, and that the
-    /// table can name the others. O(1).
+    /// Links `place` between two others and returns true, or returns false if the link is refused. It requires that the place is covered,
+    /// and that the table can name the others. O(1).
     ///
-    /// It is `acquire_link` and `set` in one, for a table that can write the word once.
+    /// It does what `acquire_link` and `set` do, in one call, so that a table can write the word once.
     #[inline]
     fn link_between(&mut self, place: Place, prev: Option<Place>, next: Option<Place>) -> bool
         requires covered { IsCovered (Self.table self.old) place }
         requires prev { IsNameable Self.CanName prev }
         requires next { IsNameable Self.CanName next }
         ensures acquired { OnTrue result (Self.Trace self.old self.new (acquires place ∷ [])) }
-        ensures set { OnTrue result (Joins ((Self.table self.new).entry place) prev next) }
+        ensures set { OnTrue result (HasNeighbors ((Self.table self.new).entry place) prev next) }
         ensures refused { OnFalse result (Self.Refused self.old self.new place) }
         ensures frame { ChangesOnly (Self.table self.old) (Self.table self.new) place }
     {
@@ -82,33 +83,34 @@ pub trait XorLinkedListOps: link_ops::LinkOps {
         true
     }
 
-    // The laws: the two sides are alike, one neighbor tells the other, and `other` finds it.
-    ghost symmetric: { (e : Self.Entry) (a b : Option Place) → Joins e a b → Joins e b a };
+    // The laws: the two neighbors can be exchanged, one neighbor determines the other, and `other` finds it.
+    ghost symmetric: { (e : Self.Entry) (a b : Option Place) → HasNeighbors e a b → HasNeighbors e b a };
 
-    ghost one_other: { (e : Self.Entry) (a b c : Option Place) → Joins e a b → Joins e a c → b ≡ c };
+    ghost one_other: { (e : Self.Entry) (a b c : Option Place) → HasNeighbors e a b → HasNeighbors e a c → b ≡ c };
 
-    ghost finds_other: { (e : Self.Entry) (a b : Option Place) → Joins e a b → other e a ≡ b };
+    ghost finds_other: { (e : Self.Entry) (a b : Option Place) → HasNeighbors e a b → other e a ≡ b };
 }
 
-/// The kind of links whose word is the exclusive or of two neighbors' words.
+/// The kind of links whose word is the exclusive or of both neighbors' words.
 pub struct Xor;
 
-/// What the table keeps at a place: one word.
+/// What the table stores at a place: one word.
 pub type Link = link::Link<OneWord<Xor>>;
 
-/// The plain table of XOR links, one word for each place. It carries singly linked lists as well.
+/// The plain table for XOR lists, one word for each place. Singly linked lists can use it as well.
 pub type LinkOps<A = Global> = PlainTable<OneWord<Xor>, A>;
 
-/// The plain table of XOR links with a value beside each.
+/// The plain table for XOR lists with a value beside each link.
 pub type LinkOpsWith<V, A = Global> = PlainTable<OneWord<Xor>, A, V>;
 
-/// What the table of narrow links keeps at a place, in half the bytes of a `Link`.
+/// What the table of narrow links stores at a place, in half the bytes of a `Link`.
 pub type NarrowLink = link::Link<OneNarrowWord<Xor>>;
 
-/// The plain table of XOR links whose words have 4 bytes: half as large, and with room for 536,870,911 places.
+/// The plain table for XOR lists with words of 4 bytes: its links are half as large, and it has room for 536,870,911
+/// places.
 pub type NarrowLinkOps<A = Global> = PlainTable<OneNarrowWord<Xor>, A>;
 
-/// The plain table of narrow links with a value beside each.
+/// The plain table of narrow links with a value beside each link.
 pub type NarrowLinkOpsWith<V, A = Global> = PlainTable<OneNarrowWord<Xor>, A, V>;
 
 impl link::Link<OneWord<Xor>> {
@@ -116,8 +118,8 @@ impl link::Link<OneWord<Xor>> {
     ghost use Rattle.ic_link_ops.specs.OneWord.{next_word_of};
     ghost use Rattle.ic_link_ops.specs.Words.{printed};
 
-    /// The exclusive or of the neighbors' numbers: `2 * (index + 1)` for a place, and 0 for none. The mark 1 while the
-    /// place is unlinked. What is kept of neighbors is four times as much.
+    /// The exclusive or of the neighbors' numbers, which are `2 * (index + 1)` for a place and 0 for none; or the mark
+    /// 1 while the place is unlinked. The link stores four times this number. O(1).
     #[inline]
     pub fn word(&self) -> u64
         ensures { result ≡ printed (next_word_of (words_of self.now)) }
@@ -128,11 +130,11 @@ impl link::Link<OneWord<Xor>> {
 }
 
 impl<W: NextWord, A: Allocator, V: LinkValue> XorLinkedListOps for PlainTable<W, A, V> {
-    ghost use Rattle.ic_link_ops.specs.Readings.{XorJoins, xor_other};
+    ghost use Rattle.ic_link_ops.specs.Readings.{HasXorNeighbors, xor_other};
     ghost use Rattle.ic_link_ops.specs.Links.{words_of};
     ghost use Rattle.ic_link_ops.specs.XorLaws.{joins_symmetric, joins_one_other, joins_finds_other};
 
-    ghost Joins = { XorJoins W.next_word };
+    ghost HasNeighbors = { HasXorNeighbors W.next_word };
 
     ghost other = { xor_other W.next_word };
 
@@ -180,11 +182,11 @@ impl<W: NextWord, A: Allocator, V: LinkValue> XorLinkedListOps for PlainTable<W,
 }
 
 impl<W: NextWord, V: LinkValue> XorLinkedListOps for LentTable<'_, W, V> {
-    ghost use Rattle.ic_link_ops.specs.Readings.{XorJoins, xor_other};
+    ghost use Rattle.ic_link_ops.specs.Readings.{HasXorNeighbors, xor_other};
     ghost use Rattle.ic_link_ops.specs.Links.{words_of};
     ghost use Rattle.ic_link_ops.specs.XorLaws.{joins_symmetric, joins_one_other, joins_finds_other};
 
-    ghost Joins = { XorJoins W.next_word };
+    ghost HasNeighbors = { HasXorNeighbors W.next_word };
 
     ghost other = { xor_other W.next_word };
 

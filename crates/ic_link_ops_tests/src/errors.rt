@@ -5,7 +5,7 @@ use ic_link_ops::{AlreadyLinked, CoverError, ReplaceError};
 use ic_unsafe_ref::{Place, UnsafeRef};
 use std::alloc::{AllocError, Global};
 
-// Where the objects stand that refusals give back.
+// Returns the places of the objects that refusals give back.
 fn given_back(place: Place) -> [Place; 3] {
     let refused: AlreadyLinked<u64> = AlreadyLinked(UnsafeRef::new(place));
     let null: ReplaceError<u64> = ReplaceError::Null(UnsafeRef::new(place));

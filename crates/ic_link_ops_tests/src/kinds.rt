@@ -1,4 +1,4 @@
-//! What the links of a table say of neighbors, for each kind of collection that the table carries.
+//! What the links of a table contain about neighbors, for each kind of collection that the table can serve.
 
 ghost use Rattle.std.specs.Prelude.{◌≡◌};
 ghost use Rattle.ic_link_ops.specs.Prelude.{Place, IsCovered, IsLinked, IsNameable};
@@ -12,7 +12,7 @@ use ic_link_ops::xor_linked_list::{self, XorLinkedListOps};
 use ic_link_ops::{Color, LentTable, Link, LinkOps, NodeWords, linked_list};
 use ic_unsafe_ref::Place;
 
-// What stands after a linked place, as it is set.
+// Returns the place after a linked place, after it was set.
 fn singly<L: SinglyLinkedListOps>(links: &mut L, place: Place, next: Option<Place>) -> Option<Place>
     requires linked { IsLinked L.linked (L.table links.old) place }
     requires next { IsNameable L.CanName next }
@@ -22,7 +22,7 @@ fn singly<L: SinglyLinkedListOps>(links: &mut L, place: Place, next: Option<Plac
     links.next(place)
 }
 
-// What stands before and after, as it is set.
+// Returns the places before and after, after they were set.
 fn doubly<L: LinkedListOps>(
     links: &mut L,
     place: Place,
@@ -39,7 +39,7 @@ fn doubly<L: LinkedListOps>(
     [links.prev(place), links.next(place)]
 }
 
-// What stands before and after in an XOR list, as it is set, the place after in place of none.
+// Returns the places before and after in an XOR list, after they were set, with the place after it replacing none.
 fn xor<L: XorLinkedListOps>(
     links: &mut L,
     place: Place,
@@ -76,8 +76,8 @@ fn tree<L: RBTreeOps>(
     (found, links.color(place))
 }
 
-// Whether each kind of link reads what it wrote at a linked place: what is after, what is before and after, the same of an XOR
-// list, and a red member of a tree. They name the first and the last place of which the table has names.
+// Returns whether each kind of link reads what it wrote at a linked place: the next place, both neighbors, both neighbors in an XOR list, and a red
+// member of a tree. The links name the first and the last place that the table can name.
 fn four_kinds<L: RBTreeOps + LinkedListOps + SinglyLinkedListOps + XorLinkedListOps>(
     links: &mut L,
     place: Place,
@@ -145,7 +145,7 @@ fn four_kinds_in_a_narrow_table_of_trees(rt: HostRuntime) {
     check(&rt, [is_kept, is_kept_by_view] == [[true; 4]; 2]);
 }
 
-// Whether the two lists that are no XOR lists read this place after a linked one, where an XOR list wrote these neighbors.
+// Returns whether the two other kinds of lists read this place after a linked one whose neighbors an XOR list has written.
 fn is_read<L: LinkedListOps + SinglyLinkedListOps + XorLinkedListOps>(
     links: &mut L,
     place: Place,

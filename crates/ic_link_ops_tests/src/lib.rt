@@ -1,5 +1,5 @@
-//! Places, objects, references, tables, the words of links, and errors: what no session of the program represents. Each call is made
-//! once, on one kind of table, and what it answers is compared with what it is to.
+//! Places, objects, references, tables, the words of links, and errors: what no session of the program represents. The tests make each call once, on
+//! one kind of table, and compare its result with the expected one.
 #![tactic(auto)]
 
 #[cfg(test)]

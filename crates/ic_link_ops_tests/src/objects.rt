@@ -4,7 +4,7 @@ use crate::fixture::{at, check};
 use ic_test_support::rationed::Rationed;
 use ic_unsafe_ref::{Objects, Place, UnsafeRef};
 
-// Places the value, if a place is left, and answers where it stands, or the value that came back.
+// Places the value, if a place is left, and returns its place, or the value that was given back.
 fn put(objects: &mut Objects<u64, &Rationed>, value: u64) -> Result<Option<Place>, u64> {
     if objects.next_place().is_none() {
         return Ok(None);
@@ -15,7 +15,7 @@ fn put(objects: &mut Objects<u64, &Rationed>, value: u64) -> Result<Option<Place
     }
 }
 
-// Sets the value at the place to 25, and takes the object out.
+// Sets the value at the place to 25, and removes the object.
 fn change_and_take(objects: &mut Objects<u64, &Rationed>, place: Place) -> Option<u64> {
     if let Some(value) = objects.get_mut(place) {
         *value = 25;

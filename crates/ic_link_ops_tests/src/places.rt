@@ -37,7 +37,7 @@ fn how_far_places_reach(rt: HostRuntime) {
     check(&rt, Place::COUNT == 4_294_967_296 && limits() == wanted);
 }
 
-// How two places stand to one another, in all ways.
+// Compares two places, in all ways.
 fn orders(low: Place, high: Place) -> ([Ordering; 3], [bool; 2]) {
     let orders = [low.cmp(&high), high.cmp(&low), low.cmp(&low)];
     (orders, [low < high, low == high])

@@ -11,12 +11,12 @@ use ic_link_ops::{
 use ic_test_support::rationed::Rationed;
 use ic_unsafe_ref::Place;
 
-// How many places a table has words for, of 8 bytes and of 4.
+// The number of places that a table can have, with words of 8 bytes and of 4.
 const MOST: usize = 4_294_967_296;
 
 const MOST_NARROW: usize = 536_870_911;
 
-// Why a table does not cover so many places, as a number, 0 where it does; and how many it covers then.
+// Returns why a table does not cover this many places, as a number that is 0 if it does, and how many it then covers.
 fn cover<W: Words>(links: &mut PlainTable<W, &Rationed>, count: usize) -> [usize; 2] {
     let refused = match links.cover(count) {
         Ok(()) => 0,
@@ -25,13 +25,13 @@ fn cover<W: Words>(links: &mut PlainTable<W, &Rationed>, count: usize) -> [usize
     [refused, links.covers()]
 }
 
-// Whether the place is covered and was not linked. It is then.
+// Returns whether the place is covered and was not linked. It is then.
 fn link<W: Words>(links: &mut PlainTable<W, &Rationed>, place: Place) -> bool {
     place.index() < links.covers() && links.acquire_link(place)
 }
 
-// Whether a new table grows where there is memory, and is as it was where it is refused, also once it covers a linked place. Its words
-// have names for the first `most` places: to cover all of these asks for memory, and one more is refused before that.
+// Returns whether a new table grows if there is memory, and is as it was if it is refused, even after it covers a linked place. Its words have names
+// for the first `most` places: to cover all of these asks for memory, and one more is refused before that.
 fn grows<W: Words>(
     mut links: PlainTable<W, &Rationed>,
     memory: &Rationed,
@@ -95,7 +95,7 @@ fn narrow_tables_grow_where_there_is_memory(rt: HostRuntime) {
     check(&rt, memory.requests() == 16);
 }
 
-// Whether a link is linked, a copy of it, a new one and the default.
+// Returns whether a link is linked, a copy of it, a new one and the default.
 fn copies(link: &Link) -> Option<[bool; 4]> {
     let copy = link.clone().ok()?;
     let (new, default) = (Link::new(), Link::default());
@@ -107,8 +107,8 @@ fn copies(link: &Link) -> Option<[bool; 4]> {
     ])
 }
 
-// What a view says of a linked place: whether it can be linked again, whether it is linked once it is unlinked by force, whether it
-// can be linked then, and whether it is linked once it is released.
+// Returns four facts about a linked place in a view: whether it can be linked again, whether it is still linked after it was unlinked by force,
+// whether it can then be linked, and whether it is linked after its release.
 fn by_view(links: &mut [Link], place: Place) -> [bool; 4] {
     let mut links = LentTable::new(links);
     if place.index() >= links.covers() {

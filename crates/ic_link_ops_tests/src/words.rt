@@ -31,8 +31,8 @@ fn marks(word: Word) -> ([u64; 3], [bool; 2]) {
     (numbers, [mark.is_word(), marked.is_word()])
 }
 
-// What a tree's word tells, unlinked, linked, then with a parent and then red, and that parent's word; and whether it is red and
-// linked then.
+// Returns what a tree's word contains when it is unlinked, when it is linked, then with a parent and then red, with the parent's word, and whether it
+// is then red and linked.
 fn tree_numbers(parent: Option<Place>) -> ([u64; 5], bool) {
     let mut word = TreeWord::linked();
     let black = word.number();
@@ -45,8 +45,7 @@ fn tree_numbers(parent: Option<Place>) -> ([u64; 5], bool) {
     ([unlinked, black, below, word.number(), above], is_red)
 }
 
-// Words of 4 bytes read back as what they keep of a place: a word, one that may be the mark, a place, and a tree's word of a red member below
-// it; and whether each says that there is one.
+// Reads words of 4 bytes back: a word, one that may be the mark, a place, and a tree's word of a red member below it, and whether each names a place.
 #[tactic(auto, using(ic_link_ops::proofs::WidthLemmas::word_kept))]
 fn narrow_numbers(place: Place) -> ([u64; 4], [bool; 3])
     requires named { HasRoom narrow place }

@@ -1,4 +1,4 @@
-//! The kind of doubly linked lists: each entry names both neighbors, and a list keeps both ends.
+//! The kind of doubly linked lists: each entry names both neighbors, and a list stores both ends.
 //!
 //! ```text
 //! let list: Chain<DoublyLinked, Job> = Chain::new();
@@ -112,7 +112,7 @@ impl<L: LinkedListOps> ForwardLinks<L> for DoublyLinked {
 }
 
 impl<L: LinkedListOps> BidirectionalLinks<L> for DoublyLinked {
-    ghost step_back = { λ e behind. (L.neighbors e).prev };
+    ghost step_back = { λ e after. (L.neighbors e).prev };
 
     #[inline]
     fn prev(links: &L, place: Place, next: Option<Place>) -> Option<Place> {

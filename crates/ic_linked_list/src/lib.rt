@@ -1,7 +1,7 @@
-//! A doubly linked list over any table with two neighbors in an entry.
+//! A doubly linked list over any table whose entries name two neighbors.
 //!
-//! Each operation takes the table of the link field. Linking takes no memory, and one object can be in lists of
-//! several fields. An object leaves from the middle by its reference. [`Chain`] has all calls.
+//! Each operation takes the table of the link field. Linking takes no memory, and one object can be in lists of several
+//! fields. A call removes an object from the middle given only its reference. [`Chain`] has all calls.
 //!
 //! ```text
 //! let mut links = linked_list::LinkOps::new(rt.alloc());
@@ -24,23 +24,23 @@ pub use ic_link_ops::linked_list::{Link, LinkOps, LinkedListOps};
 use ic_unsafe_ref::Objects;
 pub use kind::DoublyLinked;
 
-/// A doubly linked list of objects, of which it keeps the first and the last.
+/// A doubly linked list of objects. It stores its first member and its last.
 ///
-/// Good for queues, and for lists from whose middle objects leave. A clause sees the list's ends; which sequence it has is what the
-/// table represents for them.
+/// Good for queues, and for lists whose objects are removed from the middle. Contracts see the list's ends; the list has the
+/// sequence that the table represents for them.
 pub type LinkedList<T> = Chain<DoublyLinked, T>;
 
-/// A position in a list: on a member, or null, which stands between the last and the first.
+/// A cursor that reads: on a member, or at null, which is between the last member and the first.
 pub type Cursor<'a, T, L> = ic_cursors::Cursor<'a, LinkedList<T>, L>;
 
-/// A position in a list that it edits, with the list and the table of its links.
+/// A cursor that edits. It borrows the list and the table of its links.
 pub type CursorMut<'a, T, L> = ic_cursors::CursorMut<'a, LinkedList<T>, L>;
 
-/// A position in a list that it keeps. Its calls take the table of the list's links each time.
+/// A cursor that owns its list. Each call takes the table of the list's links.
 pub type CursorOwning<T> = ic_cursors::CursorOwning<LinkedList<T>>;
 
-/// The objects of a list that are not given out yet, from both ends.
+/// A walk over the objects of a list, from both ends.
 pub type Iter<'a, T, L, O = Objects<T>> = ic_chain::Iter<'a, DoublyLinked, T, L, O>;
 
-/// The members of a list that are not given out yet, from both ends. Each that is given out is unlinked.
+/// A walk that removes the members of a list, from both ends. It unlinks each member that it returns.
 pub type IntoIter<'a, T, L> = ic_chain::IntoIter<'a, DoublyLinked, T, L>;

@@ -156,7 +156,7 @@ module _ {L E W : Type 0} (between : E → Option Place → Option Place → Typ
         out = k.out;
         shown = one.shown;
         keeps = one.last_kept;
-        at = one.behind;
+        at = one.after;
         within = λ q h. rw (append_assoc k.done (p ∷ []) r) (rw is at (k.within q h));
         holds = rw (append_assoc k.done (p ∷ []) r) (rw is at k.holds);
         mixes = λ x o m. rw (append_assoc k.done (p ∷ []) x) (k.mixes (p ∷ x) o (rw is (inl (x, refl, m))));
@@ -182,7 +182,7 @@ module _ {L E W : Type 0} (between : E → Option Place → Option Place → Typ
         out = k.out ++ p ∷ [];
         shown = rw append-nil at one.shown;
         keeps = rw append-nil at one.last_kept;
-        at = one.behind;
+        at = one.after;
         within = λ q h. let h' : IsAbsent q (k.done ++ p ∷ r) = rw is at (k.within q h) in absent_both q k.done r (absent_left q k.done (p ∷ r) h') (absent_right q k.done (p ∷ r) h').1;
         holds =
             let h' : AllByRecursion Holds (k.done ++ p ∷ r) = rw is at k.holds in

@@ -11,7 +11,7 @@ use Rattle.ic_link_ops.proofs.Each.{all_map, all_both}
 use Rattle.ic_link_ops.proofs.SequenceLemmas.{distinct_right, first_is, last_of_push, nothing_first}
 use Rattle.ic_link_ops.proofs.Walks.{stretch_through}
 use Rattle.ic_list_algorithms.specs.Ordered.{IsOrdered}
-use Rattle.ic_list_algorithms.specs.Walks.{test_at, HoldsNowhere, stands_behind, ordered_from, are_neighbors_ordered}
+use Rattle.ic_list_algorithms.specs.Walks.{test_at, HoldsNowhere, comes_after, ordered_from, are_neighbors_ordered}
 
 -- what holds of each holds of one in the middle, and of the last first
 pub middle_holds : (P : Place → Type 0) (front back : List Place) {p : Place} → AllByRecursion P (front ++ p ∷ back) → P p
@@ -170,11 +170,11 @@ test_there holds objects p is e = rw is e
 
 module _ {X : Type 0} (lt : X → X → Bool) {answer : Bool} (prev : Option X) {rest : List X} (so_far : answer ≡ ordered_from lt prev rest) where
   -- NEIGHBORS IN ORDER so far: what follows of one more,
-  pub order_goes : {p : X} {r : List X} → rest ≡ p ∷ r → stands_behind lt prev p ≡ true → answer ≡ ordered_from lt (Some p) r
-  order_goes is behind = let whole = rw is at so_far in rw behind at whole
+  pub order_goes : {p : X} {r : List X} → rest ≡ p ∷ r → comes_after lt prev p ≡ true → answer ≡ ordered_from lt (Some p) r
+  order_goes is after = let whole = rw is at so_far in rw after at whole
 
-  pub order_breaks : {p : X} {r : List X} → rest ≡ p ∷ r → stands_behind lt prev p ≡ false → false ≡ answer
-  order_breaks is behind = let whole = rw is at so_far in sym (rw behind at whole)
+  pub order_breaks : {p : X} {r : List X} → rest ≡ p ∷ r → comes_after lt prev p ≡ false → false ≡ answer
+  order_breaks is after = let whole = rw is at so_far in sym (rw after at whole)
 
   -- and at the end
   pub order_ends : rest ≡ [] → true ≡ answer
@@ -188,15 +188,15 @@ module _ {X : Type 0} (lt : X → X → Bool) where
     from_neighbors p (x ∷ s) e = by (lt x p) refl (λ rest. from_neighbors x s rest) where
       by : (b : Bool) → lt x p ≡ b → (ordered_from lt (Some x) s ≡ true → AllByRecursion (λ y. lt y x ≡ false) s × IsOrdered lt s)
           → AllByRecursion (λ y. lt y p ≡ false) (x ∷ s) × IsOrdered lt (x ∷ s)
-      by true less behind =
+      by true less after =
           let both : (not (lt x p) && ordered_from lt (Some x) s) ≡ true = e in
           let never : false ≡ true = rw less at both in absurd (cc)
-      by false less behind =
+      by false less after =
           let both : (not (lt x p) && ordered_from lt (Some x) s) ≡ true = e in
-          let k = behind (rw less at both) in
+          let k = after (rw less at both) in
           ((less, all_map (λ y h. order.chain y x p h less) s k.0), (k.0, k.1))
 
-    to_neighbors : (prev : Option X) (s : List X) → AllByRecursion (λ y. stands_behind lt prev y ≡ true) s → IsOrdered lt s → ordered_from lt prev s ≡ true
+    to_neighbors : (prev : Option X) (s : List X) → AllByRecursion (λ y. comes_after lt prev y ≡ true) s → IsOrdered lt s → ordered_from lt prev s ≡ true
     to_neighbors prev [] h k = refl
     to_neighbors prev (x ∷ s) h k = rw (h.0, to_neighbors (Some x) s (all_map (λ y e. rw e refl) s k.0) k.1) refl
 
@@ -204,7 +204,7 @@ module _ {X : Type 0} (lt : X → X → Bool) where
     in_order [] e = tt
     in_order (x ∷ s) e = from_neighbors x s e
 
-    all_first : (s : List X) → AllByRecursion (λ y. stands_behind lt None y ≡ true) s
+    all_first : (s : List X) → AllByRecursion (λ y. comes_after lt None y ≡ true) s
     all_first [] = tt
     all_first (x ∷ s) = (refl, all_first s)
 

@@ -1,29 +1,31 @@
-//! Which members an edit of many keeps: a test of a member, and of the one that was kept last.
+//! How `retain` and `dedup_by` choose the members that they keep: by a test of a member, and of the one that was kept
+//! last.
 
 ghost use Rattle.std.specs.Prelude.{◌≡◌, Bool, Option, Some, None};
 ghost use Rattle.std.specs.Fn.{ComputesKey, ComputesOnPairs, CalledAt, CalledAtTwo};
 ghost use Rattle.ic_list_algorithms.specs.Asked.{asks_two};
 ghost use Rattle.ic_list_algorithms.specs.Sifts.{by_itself, differs};
 
-/// What says of each member whether it is kept.
+/// A test that decides for each member whether it is kept.
 pub(crate) trait Keeps<V> {
-    // Where it may be asked.
+    // The states and members for which the test may be called.
     ghost ready: { Self → Type 0 };
 
-    // Each answer from this state on is that of the test, of what was kept last, if anything was, and of the member.
+    // From this state on, each call returns what the mathematical test says of the member that was kept last, if any,
+    // and of the member itself.
     ghost obeys: { Self → (Option V → V → Bool) → Type 0 };
 
-    // What one question of the member, beside what was kept last, may answer, and what state it leaves.
+    // What one call for the member, with the one that was kept last, may return, and the state that it leaves.
     ghost asks: { Self → Option V → V → Bool → Self → Type 0 };
 
-    /// Whether the member is kept, where none was kept before.
+    /// Whether the member is kept, given that none was kept before.
     fn keeps_first(&mut self, member: &V) -> bool
         requires ready { ready self.old }
         ensures again { ready self.new }
         ensures answer { (test : Option V → V → Bool) → obeys self.old test → obeys self.new test × (result ≡ test None member.now) }
         ensures asked { asks self.old None member.now result self.new };
 
-    /// Whether the member is kept, where `prev` was kept last.
+    /// Whether the member is kept, given that `prev` was kept last.
     fn keeps(&mut self, prev: &V, member: &V) -> bool
         requires ready { ready self.old }
         ensures again { ready self.new }
@@ -31,14 +33,14 @@ pub(crate) trait Keeps<V> {
         ensures asked { asks self.old (Some prev.now) member.now result self.new };
 }
 
-/// Keeps what passes a test.
+/// A choice that keeps the members which pass a test.
 #[derive(Drop)]
 pub(crate) struct Passes<F> {
     test: F,
 }
 
 impl<F> Passes<F> {
-    /// Keeps what passes this test.
+    /// A choice that keeps the members which pass this test.
     pub(crate) fn new(test: F) -> Passes<F>
         ensures { result.test ≡ test }
     {
@@ -63,14 +65,14 @@ impl<V, F: FnMut(&V) -> bool> Keeps<V> for Passes<F> {
     }
 }
 
-/// Keeps what is not the same as what was kept last.
+/// A choice that keeps each member which is not the same as the one kept last.
 #[derive(Drop)]
 pub(crate) struct Differs<F> {
     same: F,
 }
 
 impl<F> Differs<F> {
-    /// Keeps what is not the same, by this test of what was kept last and of the member.
+    /// A choice that keeps each member which is not the same as the one kept last, by this test of the two.
     pub(crate) fn new(same: F) -> Differs<F>
         ensures { result.same ≡ same }
     {

@@ -1,7 +1,7 @@
 //! Algorithms over lists: a stable sort and a merge in place, walks, and edits of many members.
 //!
-//! Each is a function over a list of any kind that can: `sort_by` and `merge_by` go over doubly and singly linked lists. They take no
-//! memory, and no link is acquired or released by a sort or a merge: members change their neighbors alone.
+//! Each is a function over a list of every kind that has the links it needs: `sort_by` and `merge_by` work on doubly and singly
+//! linked lists. They take no memory. A sort or a merge acquires and releases no link: it changes only the neighbors of members.
 //!
 //! ```text
 //! let mut by_deadline = By::new(|a: &Task, b: &Task| a.deadline.cmp(&b.deadline));

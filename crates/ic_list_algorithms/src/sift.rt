@@ -22,8 +22,8 @@ use ic_unsafe_ref::{Place, Values};
 
 /// Keeps the members for which the test holds, in their order, and unlinks the others.
 ///
-/// It requires that all members are placed. It walks from the front, and calls the test once for each member, whatever the test keeps from
-/// one call to the next. O(n), and no memory.
+/// It requires that all members are placed. It walks from the front, and calls the test once for each member. The test may change its own
+/// state between calls. O(n), and no memory.
 pub fn retain<K: ForwardLinks<L>, T, V, L: LinkOps, O: Values<V>, F: FnMut(&V) -> bool>(
     list: &mut Chain<K, T>,
     links: &mut L,
@@ -43,10 +43,10 @@ pub fn retain<K: ForwardLinks<L>, T, V, L: LinkOps, O: Values<V>, F: FnMut(&V) -
     sift::<K, T, V, L, O, Passes<F>>(list, links, objects, &mut keep);
 }
 
-/// Of members that stand beside each other and are the same, keeps the first, and unlinks the others.
+/// Keeps the first of neighbors that are the same, and unlinks the others.
 ///
-/// The test is handed the member that was kept last, and the one after it. It requires that all members are placed. O(n), with one test for
-/// each member but the first, and no memory.
+/// The test gets the member that was kept last, and the one after it. It requires that all members are placed. O(n), with one call of the
+/// test for each member except the first, and no memory.
 pub fn dedup_by<K: ForwardLinks<L>, T, V, L: LinkOps, O: Values<V>, F: FnMut(&V, &V) -> bool>(
     list: &mut Chain<K, T>,
     links: &mut L,
@@ -66,7 +66,7 @@ pub fn dedup_by<K: ForwardLinks<L>, T, V, L: LinkOps, O: Values<V>, F: FnMut(&V,
     sift::<K, T, V, L, O, Differs<F>>(list, links, objects, &mut keep);
 }
 
-// Keeps the members that are to be kept, and unlinks the others.
+// Keeps the members that the choice keeps, and unlinks the others.
 fn sift<K: ForwardLinks<L>, T, V, L: LinkOps, O: Values<V>, S: Keeps<V>>(
     list: &mut Chain<K, T>,
     links: &mut L,
@@ -85,15 +85,15 @@ fn sift<K: ForwardLinks<L>, T, V, L: LinkOps, O: Values<V>, S: Keeps<V>>(
     let mut current = list.first();
     let mut prev = None;
     while let Some(member) = current {
-        let (last_kept, behind) = sift_one::<K, T, V, L, O, S>(
+        let (last_kept, after) = sift_one::<K, T, V, L, O, S>(
             list, links, objects, keep, prev, member,
         );
         prev = last_kept;
-        current = behind;
+        current = after;
     }
 }
 
-// Keeps the member, or unlinks it. It returns the member that was kept last, and the one after.
+// Keeps the member, or unlinks it. Returns the member that was kept last, and the next one.
 fn sift_one<K: ForwardLinks<L>, T, V, L: LinkOps, O: Values<V>, S: Keeps<V>>(
     list: &mut Chain<K, T>,
     links: &mut L,
@@ -113,16 +113,16 @@ fn sift_one<K: ForwardLinks<L>, T, V, L: LinkOps, O: Values<V>, S: Keeps<V>>(
     ensures again { S.ready keep.new }
     ensures obeys { (test : Option V → V → Bool) → S.obeys keep.old test → S.obeys keep.new test }
 {
-    let behind = K::next(&*links, member, prev);
+    let after = K::next(&*links, member, prev);
     if is_kept::<V, O, S>(objects, keep, prev, member) {
-        return (Some(member), behind);
+        return (Some(member), after);
     }
-    list.bypass(links, prev, member, behind);
+    list.bypass(links, prev, member, after);
     links.release_link(member);
-    (prev, behind)
+    (prev, after)
 }
 
-// Whether the member is kept, where that one was kept last.
+// Whether the member is kept, given the one that was kept last.
 fn is_kept<V, O: Values<V>, S: Keeps<V>>(
     objects: &O,
     keep: &mut S,

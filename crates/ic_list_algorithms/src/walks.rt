@@ -13,7 +13,7 @@ ghost use Rattle.ic_link_ops.specs.Chains.{RepresentsChain, RepresentsSomeChain}
 ghost use Rattle.ic_list_algorithms.specs.Asked.{AnswersNo, AsksAt, AsksAfter, FindsFirst, OrderedInTurn};
 ghost use Rattle.ic_list_algorithms.specs.Ordered.{GoesBy, IsOrdered};
 ghost use Rattle.ic_list_algorithms.specs.Runs.{less_at};
-ghost use Rattle.ic_list_algorithms.specs.Walks.{test_at, HoldsNowhere, HoldsFirst, stands_behind, are_neighbors_ordered};
+ghost use Rattle.ic_list_algorithms.specs.Walks.{test_at, HoldsNowhere, HoldsFirst, comes_after, are_neighbors_ordered};
 
 use crate::precedes::Precedes;
 use crate::whole::gap_at;
@@ -46,8 +46,8 @@ pub fn nth<K: ForwardLinks<L>, T, L: LinkOps>(
     requires shown { RepresentsSomeChain K.Between K.kept (L.table links.now) list.now }
     ensures { (s : List Place) → RepresentsChain K.Between K.kept (L.table links.now) list.now s → result ≡ first (drop n s) }
 {
-    let (_, behind) = gap_at::<K, T, L>(list, links, n);
-    match behind {
+    let (_, after) = gap_at::<K, T, L>(list, links, n);
+    match after {
         Some(place) => Some(UnsafeRef::new(place)),
         None => None,
     }
@@ -55,8 +55,8 @@ pub fn nth<K: ForwardLinks<L>, T, L: LinkOps>(
 
 /// The position of the first member for which the test holds, counted from 0, or `None` if it holds for none.
 ///
-/// It requires that all members are placed. It walks from the front, and calls the test once for each member up to that one, whatever the
-/// test keeps from one call to the next.
+/// It requires that all members are placed. It walks from the front, and calls the test once for each member up to that one. The test may
+/// change its own state between calls. O(n).
 pub fn position<K: ForwardLinks<L>, T, V, L: LinkOps, O: Values<V>, F: FnMut(&V) -> bool>(
     list: &Chain<K, T>,
     links: &L,
@@ -77,7 +77,7 @@ pub fn position<K: ForwardLinks<L>, T, V, L: LinkOps, O: Values<V>, F: FnMut(&V)
     Some(at)
 }
 
-/// The first member for which the test holds, or `None` if it holds for none. It requires and costs what [`position`] does.
+/// The first member for which the test holds, or `None` if it holds for none. It requires and costs what [`position`] does. O(n).
 pub fn find<K: ForwardLinks<L>, T, V, L: LinkOps, O: Values<V>, F: FnMut(&V) -> bool>(
     list: &Chain<K, T>,
     links: &L,
@@ -129,10 +129,11 @@ fn find_first<K: ForwardLinks<L>, T, V, L: LinkOps, O: Values<V>, F: FnMut(&V) -
     None
 }
 
-/// Whether no member goes before the one before it. It walks from the front, with one comparison for each pair of neighbors, up to the
-/// first pair that is out of order.
+/// Whether the list is in order: no member has to go before the one before it. It walks from the front, with one comparison for each
+/// pair of neighbors, up to the first pair that is out of order.
 ///
-/// It requires that all members are placed. By an order of values the list is in order then: no member goes before any before it.
+/// It requires that all members are placed. If the order is an order of values, no member then has to go before any of those
+/// before it. O(n).
 pub fn is_sorted_by<K: ForwardLinks<L>, T, V, L: LinkOps, O: Values<V>, C: Precedes<V>>(
     list: &Chain<K, T>,
     links: &L,
@@ -162,7 +163,7 @@ pub fn is_sorted_by<K: ForwardLinks<L>, T, V, L: LinkOps, O: Values<V>, C: Prece
     true
 }
 
-// Whether the member does not go before the one before it, if there is one.
+// Whether the member may follow the one before it, if there is one: it does not go before that one in the order.
 fn may_stand_after<V, O: Values<V>, C: Precedes<V>>(
     objects: &O,
     order: &mut C,
@@ -172,7 +173,7 @@ fn may_stand_after<V, O: Values<V>, C: Precedes<V>>(
     requires ready { C.ready order.old }
     requires placed { is_placed (O.values objects.now) member ≡ true }
     requires prev { (q : Place) → prev ≡ Some q → is_placed (O.values objects.now) q ≡ true }
-    ensures answer { (lt : V → V → Bool) → C.obeys order.old lt → result ≡ stands_behind (less_at lt (O.values objects.now)) prev member }
+    ensures answer { (lt : V → V → Bool) → C.obeys order.old lt → result ≡ comes_after (less_at lt (O.values objects.now)) prev member }
     ensures asked { AsksAfter (O.values objects.now) C.asks order.old prev member result order.new }
     ensures again { C.ready order.new }
     ensures obeys { (lt : V → V → Bool) → C.obeys order.old lt → C.obeys order.new lt }

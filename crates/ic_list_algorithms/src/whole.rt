@@ -1,4 +1,4 @@
-//! A list after another, and a list turned.
+//! Calls that append a list to another, and one that rotates a list.
 //!
 //! ```text
 //! append(&mut list, &mut links, &mut other);   // `other` is empty then
@@ -15,7 +15,7 @@ use ic_chain::{Chain, DoubleEnded, ForwardLinks, SingleEnded};
 use ic_link_ops::LinkOps;
 use ic_unsafe_ref::Place;
 
-/// Puts all of another list after this one, and leaves that one empty. O(1).
+/// Appends all members of another list to this one, and leaves the other empty. O(1).
 ///
 /// It requires that the two share no member. No link is acquired or released.
 pub fn append<K: DoubleEnded + ForwardLinks<L>, T, L: LinkOps>(
@@ -36,8 +36,8 @@ pub fn append<K: DoubleEnded + ForwardLinks<L>, T, L: LinkOps>(
     list.splice_between(links, last, given, end, None);
 }
 
-/// Puts all of another list after this one, and leaves that one empty, where lists keep no last member: it walks to the last one of this
-/// list. O(n).
+/// Appends all members of another list to this one, and leaves the other empty, for lists that do not store their last member: it walks
+/// to the last one of this list. O(n).
 ///
 /// It requires what [`append`] does. No link is acquired or released.
 pub fn append_walking<K: SingleEnded + ForwardLinks<L>, T, L: LinkOps>(
@@ -57,7 +57,7 @@ pub fn append_walking<K: SingleEnded + ForwardLinks<L>, T, L: LinkOps>(
     list.splice_between(links, last, given, None, None);
 }
 
-/// Turns the list: its first `n` members go after all others, in their order. A list of no more than n members stays as it is.
+/// Rotates the list: its first `n` members go after all others, in their order. A list of at most n members stays as it is.
 ///
 /// It walks from the front to the back. O(n), and no link is acquired or released.
 pub fn rotate_left<K: ForwardLinks<L>, T, L: LinkOps>(
@@ -72,15 +72,15 @@ pub fn rotate_left<K: ForwardLinks<L>, T, L: LinkOps>(
         → ChangesOnlyIn (L.table links.old) (L.table links.new) s }
     ensures trace_stays { L.Trace links.old links.new [] }
 {
-    let (before, behind) = gap_at::<K, T, L>(&*list, &*links, n);
-    let mut rest = list.split_between(links, before, behind);
+    let (before, after) = gap_at::<K, T, L>(&*list, &*links, n);
+    let mut rest = list.split_between(links, before, after);
     let last = last_walking::<K, T, L>(&rest, &*links);
     let front = list.take();
     rest.splice_between(links, last, front, before, None);
     *list = rest;
 }
 
-// The members before the gap after the first `n` members, and after it; the last gap, if there are no more than n.
+// The members before and after the gap that follows the first `n` members; the last gap, if there are at most n.
 pub(crate) fn gap_at<K: ForwardLinks<L>, T, L: LinkOps>(
     list: &Chain<K, T>,
     links: &L,

@@ -12,7 +12,7 @@ use Rattle.atomic_table.proofs.Lists.{at_longer}
 use Rattle.ic_unsafe_ref.specs.declared.place.Place.{Place}
 use Rattle.ic_lock_free_stack.specs.declared.hand.Size.{Size}
 use Rattle.ic_lock_free_stack.specs.declared.hand.Account.{Account}
-use Rattle.ic_lock_free_stack.specs.declared.hand.Hand.{Hand}
+use Rattle.ic_lock_free_stack.specs.declared.hand.HeldAccounts.{HeldAccounts}
 use Rattle.ic_lock_free_stack.specs.declared.stacks.Stacks.{Stacks}
 use Rattle.ic_lock_free_stack.specs.declared.stacks.Holder.{Holder}
 use Rattle.ic_lock_free_stack.specs.declared.step.Entry.{Entry}
@@ -29,15 +29,15 @@ use Rattle.ic_lock_free_stack.proofs.HistoryLemmas.{name_of_account}
 use Rattle.ic_lock_free_stack.proofs.HolderLemmas.{keeps_chains}
 
 -- a holder's seat has these accounts in hand
-abbrev pub HasHand : {A : Type 0} → Stacks A → List Account → Holder → Type 0
-HasHand stacks accounts h = IsSeatOf stacks h.seat × (h.seat.me.0 ≡ hand_with stacks accounts)
+abbrev pub HasAccounts : {A : Type 0} → Stacks A → List Account → Holder → Type 0
+HasAccounts stacks accounts h = IsSeatOf stacks h.seat × (h.seat.me.0 ≡ hand_with stacks accounts)
 
 -- the holder's account, that has seen this history
 abbrev pub seeing : List Entry → Holder → Account
 seeing order h = sees order (account_of h)
 
 -- the first of the gathered accounts goes back
-module _ (size : Size) (order : List Entry) (hs : List Holder) (i : ℕ) (d : Holder) (lt : i < length hs) (v : Hand) (has : v ≡ hand size (map (seeing order) (drop i hs))) where
+module _ (size : Size) (order : List Entry) (hs : List Holder) (i : ℕ) (d : Holder) (lt : i < length hs) (v : HeldAccounts) (has : v ≡ hand size (map (seeing order) (drop i hs))) where
   gathered : v ≡ hand size (seeing order (get_or hs i d) ∷ map (seeing order) (drop (i + 1) hs))
   gathered = has ∙ ap (λ (l : List Holder). hand size (map (seeing order) l)) (drop_more hs i d lt)
 
@@ -50,24 +50,24 @@ module _ (size : Size) (order : List Entry) (hs : List Holder) (i : ℕ) (d : Ho
 module _ {A : Type 0} (stacks : Stacks A) where
   -- one holder more has its account again
   pub one_back : (order : List Entry) (hs now : List Holder) (i : ℕ) (new : Holder) → i < length now
-      → ((k : ℕ) (d : Holder) → k < i → HasHand stacks (seeing order (get_or hs k d) ∷ []) (get_or now k d))
-      → ((d : Holder) → HasHand stacks (seeing order (get_or hs i d) ∷ []) new)
-      → (k : ℕ) (d : Holder) → k < i + 1 → HasHand stacks (seeing order (get_or hs k d) ∷ []) (get_or (set now i new) k d)
+      → ((k : ℕ) (d : Holder) → k < i → HasAccounts stacks (seeing order (get_or hs k d) ∷ []) (get_or now k d))
+      → ((d : Holder) → HasAccounts stacks (seeing order (get_or hs i d) ∷ []) new)
+      → (k : ℕ) (d : Holder) → k < i + 1 → HasAccounts stacks (seeing order (get_or hs k d) ∷ []) (get_or (set now i new) k d)
   one_back order hs now i new inside done here k d below = dite (ℕ_discrete k i)
-      (λ e. subst (λ j. HasHand stacks (seeing order (get_or hs j d) ∷ []) (get_or (set now i new) j d)) (sym e) (subst (HasHand stacks (seeing order (get_or hs i d) ∷ [])) (sym (get_or-set_same now i new d inside)) (here d)))
-      (λ ne. subst (HasHand stacks (seeing order (get_or hs k d) ∷ [])) (sym (get_or-set_other now i k new d ne)) (done k d (omega (arith, ne, below))))
+      (λ e. subst (λ j. HasAccounts stacks (seeing order (get_or hs j d) ∷ []) (get_or (set now i new) j d)) (sym e) (subst (HasAccounts stacks (seeing order (get_or hs i d) ∷ [])) (sym (get_or-set_same now i new d inside)) (here d)))
+      (λ ne. subst (HasAccounts stacks (seeing order (get_or hs k d) ∷ [])) (sym (get_or-set_other now i k new d ne)) (done k d (omega (arith, ne, below))))
 
   pub others_empty : (now : List Holder) (i n : ℕ) (new : Holder)
-      → ((k : ℕ) (d : Holder) → i ≤ k → k < n → HasHand stacks [] (get_or now k d))
-      → (k : ℕ) (d : Holder) → i + 1 ≤ k → k < n → HasHand stacks [] (get_or (set now i new) k d)
+      → ((k : ℕ) (d : Holder) → i ≤ k → k < n → HasAccounts stacks [] (get_or now k d))
+      → (k : ℕ) (d : Holder) → i + 1 ≤ k → k < n → HasAccounts stacks [] (get_or (set now i new) k d)
   others_empty now i n new empty k d above inside =
       let ne : k ≢ i = λ e. absurd (omega (arith, e, above)) in
-      subst (HasHand stacks []) (sym (get_or-set_other now i k new d ne)) (empty k d (omega (arith, above)) inside)
+      subst (HasAccounts stacks []) (sym (get_or-set_other now i k new d ne)) (empty k d (omega (arith, above)) inside)
 
   -- a holder that has its account again
-  module _ (order : List Entry) (x y : Holder) (back : HasHand stacks (seeing order x ∷ []) y) where
+  module _ (order : List Entry) (x y : Holder) (back : HasAccounts stacks (seeing order x ∷ []) y) where
     pub account_back : account_of y ≡ seeing order x
-    account_back = ap (λ (v : Hand). get_or v.accounts 0 (fresh 0)) back.1
+    account_back = ap (λ (v : HeldAccounts). get_or v.accounts 0 (fresh 0)) back.1
 
     pub holder_back : IsOf stacks y
     holder_back = record { table = back.0; hand = back.1 ∙ ap (λ (a : Account). hand_with stacks (a ∷ [])) (sym account_back) }
@@ -77,7 +77,7 @@ module _ {A : Type 0} (stacks : Stacks A) where
 
   -- all have their accounts again
   pub all_back : (order : List Entry) (hs now : List Holder) → length now ≡ length hs
-      → ((k : ℕ) (d : Holder) → k < length hs → HasHand stacks (seeing order (get_or hs k d) ∷ []) (get_or now k d))
+      → ((k : ℕ) (d : Holder) → k < length hs → HasAccounts stacks (seeing order (get_or hs k d) ∷ []) (get_or now k d))
       → map party_of now ≡ map party_of hs
   all_back order [] [] long back = refl
   all_back order [] (y ∷ ys) long back = absurd (omega (arith, long))
@@ -111,7 +111,7 @@ parties_same (x ∷ xs) = ap (λ l. party_of x ∷ l) (parties_same xs)
 
 module _ {A : Type 0} (stacks : Stacks A) where
   -- what was told of the gathered accounts
-  pub record Told (hs : List Holder) (w : Hand) : Type 0 where
+  pub record Told (hs : List Holder) (w : HeldAccounts) : Type 0 where
     pub order : List Entry
     pub one : AreOneHistory stacks order (map party_of hs)
     pub longer : (k : ℕ) (d : Holder) → k < length hs → IsSeen (seen_of (get_or hs k d)) order
@@ -127,9 +127,9 @@ module _ {A : Type 0} (stacks : Stacks A) where
   begun order (x ∷ xs) others each zero d low = each 0 (account_of x) refl
   begun order (x ∷ xs) others each (suc k) d low = begun order xs others (λ i a at. each (suc i) a at) k d (omega (arith, low))
 
-  pub answered : (hs : List Holder) (v w : Hand) → v ≡ hand_with stacks (map account_of hs) → Compares stacks.table.shared.key v w → Told hs w
+  pub answered : (hs : List Holder) (v w : HeldAccounts) → v ≡ hand_with stacks (map account_of hs) → Compares stacks.table.shared.key v w → Told hs w
   answered hs v w has c =
-      let here : Compares stacks.table.shared.key (hand_with stacks (map account_of hs)) w = subst (λ (y : Hand). Compares stacks.table.shared.key y w) has c in
+      let here : Compares stacks.table.shared.key (hand_with stacks (map account_of hs)) w = subst (λ (y : HeldAccounts). Compares stacks.table.shared.key y w) has c in
       let one : IsHistory here.one.order (map party_of_account (map account_of hs ++ here.others)) = history stacks.table.shared.key here.words (map account_of hs ++ here.others) here.one in
       record {
         order = here.one.order;
@@ -149,15 +149,15 @@ module _ {A : Type 0} (stacks : Stacks A) where
       subst (IsHistory order) (ap (λ l. parties ++ l) none ∙ append-nil parties) one.one
 
   -- while the accounts are dealt out again, up to the holder i
-  pub record Deals (hs now : List Holder) (all : Seat (Unit {0}) Hand) (i : ℕ) : Type 0 where
+  pub record Deals (hs now : List Holder) (all : Seat (Unit {0}) HeldAccounts) (i : ℕ) : Type 0 where
     pub order : List Entry
     pub one : AreOneHistory stacks order (map party_of hs)
     pub longer : (k : ℕ) (d : Holder) → k < length hs → IsSeen (seen_of (get_or hs k d)) order
     pub long : length now ≡ length hs
     pub table : IsSeatOf stacks all
     pub gathered : all.me.0 ≡ hand_with stacks (map (seeing order) (drop i hs))
-    pub done : (k : ℕ) (d : Holder) → k < i → HasHand stacks (seeing order (get_or hs k d) ∷ []) (get_or now k d)
-    pub empty : (k : ℕ) (d : Holder) → i ≤ k → k < length hs → HasHand stacks [] (get_or now k d)
+    pub done : (k : ℕ) (d : Holder) → k < i → HasAccounts stacks (seeing order (get_or hs k d) ∷ []) (get_or now k d)
+    pub empty : (k : ℕ) (d : Holder) → i ≤ k → k < length hs → HasAccounts stacks [] (get_or now k d)
 
 -- no place is held by two
 named_once : (order : List Entry) (parties others : List Party) → IsHistory order (parties ++ others) → NoneTwice parties

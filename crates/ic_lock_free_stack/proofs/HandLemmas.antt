@@ -7,7 +7,7 @@ use mathlib.Core.Option.{some, some-injective, some-ne-none}
 use lib.ListN.{get_elem?}
 use Rattle.atomic_table.proofs.Lists.{set_else}
 use Rattle.ic_lock_free_stack.specs.declared.hand.Account.{Account}
-use Rattle.ic_lock_free_stack.specs.declared.hand.Hand.{Hand}
+use Rattle.ic_lock_free_stack.specs.declared.hand.HeldAccounts.{HeldAccounts}
 use Rattle.ic_lock_free_stack.specs.Hands.{accounts_in}
 
 module _ {A : Type 0} where
@@ -25,15 +25,15 @@ module _ {A : Type 0} where
       (subst (IsPermutation ((xs ++ ys) ++ zs)) (append_assoc ys xs zs) (IsPermutation-append_left zs (xs ++ ys) (ys ++ xs) (IsPermutation-append_comm xs ys)))
 
 -- where the one account of a hand stands among all
-pub record IsAmong (views : List Hand) (id : ℕ) (r : Account) : Type 0 where
+pub record IsAmong (views : List HeldAccounts) (id : ℕ) (r : Account) : Type 0 where
   pub place : ℕ
   pub at : get_elem? (accounts_in views) place ≡ some r
-  pub changes : (w : Hand) (new : Account) → w.accounts ≡ new ∷ [] → accounts_in (set views id w) ≡ set (accounts_in views) place new
+  pub changes : (w : HeldAccounts) (new : Account) → w.accounts ≡ new ∷ [] → accounts_in (set views id w) ≡ set (accounts_in views) place new
 
-pub among : (views : List Hand) (id : ℕ) (v : Hand) (r : Account) → get_elem? views id ≡ some v → v.accounts ≡ r ∷ [] → IsAmong views id r
+pub among : (views : List HeldAccounts) (id : ℕ) (v : HeldAccounts) (r : Account) → get_elem? views id ≡ some v → v.accounts ≡ r ∷ [] → IsAmong views id r
 among [] id v r e one = absurd (some-ne-none v (sym e))
 among (x ∷ xs) zero v r e one =
-    let is : x.accounts ≡ r ∷ [] = ap (λ (u : Hand). u.accounts) (some-injective x v e) ∙ one in record {
+    let is : x.accounts ≡ r ∷ [] = ap (λ (u : HeldAccounts). u.accounts) (some-injective x v e) ∙ one in record {
       place = 0;
       at = ap (λ l. get_elem? (l ++ accounts_in xs) 0) is;
       changes = λ w new h. ap (λ l. l ++ accounts_in xs) h ∙ ap (λ l. set (l ++ accounts_in xs) 0 new) (sym is);
@@ -46,16 +46,16 @@ among (x ∷ xs) (suc id) v r e one =
     }
 
 -- the accounts of one hand, and all others, whatever that hand has
-pub record Apart (views : List Hand) (id : ℕ) (v : Hand) : Type 0 where
+pub record Apart (views : List HeldAccounts) (id : ℕ) (v : HeldAccounts) : Type 0 where
   pub others : List Account
   pub all : IsPermutation (accounts_in views) (v.accounts ++ others)
-  pub set_all : (w : Hand) → IsPermutation (accounts_in (set views id w)) (w.accounts ++ others)
+  pub set_all : (w : HeldAccounts) → IsPermutation (accounts_in (set views id w)) (w.accounts ++ others)
 
-pub apart : (views : List Hand) (id : ℕ) (v : Hand) → get_elem? views id ≡ some v → Apart views id v
+pub apart : (views : List HeldAccounts) (id : ℕ) (v : HeldAccounts) → get_elem? views id ≡ some v → Apart views id v
 apart [] id v e = absurd (some-ne-none v (sym e))
 apart (x ∷ xs) zero v e = record {
   others = accounts_in xs;
-  all = subst (λ (u : Hand). IsPermutation (x.accounts ++ accounts_in xs) (u.accounts ++ accounts_in xs)) (some-injective x v e) (IsPermutation-refl (x.accounts ++ accounts_in xs));
+  all = subst (λ (u : HeldAccounts). IsPermutation (x.accounts ++ accounts_in xs) (u.accounts ++ accounts_in xs)) (some-injective x v e) (IsPermutation-refl (x.accounts ++ accounts_in xs));
   set_all = λ w. IsPermutation-refl (w.accounts ++ accounts_in xs);
 }
 apart (x ∷ xs) (suc id) v e =
@@ -66,11 +66,11 @@ apart (x ∷ xs) (suc id) v e =
     }
 
 -- a new seat
-pub seat_more : (views : List Hand) (w : Hand) → accounts_in (views ++ w ∷ []) ≡ accounts_in views ++ w.accounts
-seat_more views w = flat_map-append (λ (v : Hand). v.accounts) views (w ∷ []) ∙ ap (λ l. accounts_in views ++ l) (append-nil w.accounts)
+pub seat_more : (views : List HeldAccounts) (w : HeldAccounts) → accounts_in (views ++ w ∷ []) ≡ accounts_in views ++ w.accounts
+seat_more views w = flat_map-append (λ (v : HeldAccounts). v.accounts) views (w ∷ []) ∙ ap (λ l. accounts_in views ++ l) (append-nil w.accounts)
 
 -- a hand is cut in two
-pub cut : (views : List Hand) (id : ℕ) (v left right : Hand) → get_elem? views id ≡ some v → right.accounts ++ left.accounts ≡ v.accounts
+pub cut : (views : List HeldAccounts) (id : ℕ) (v left right : HeldAccounts) → get_elem? views id ≡ some v → right.accounts ++ left.accounts ≡ v.accounts
     → IsPermutation (accounts_in views) (accounts_in (set views id left ++ right ∷ []))
 cut views id v left right at is =
     let a = apart views id v at in
@@ -84,13 +84,13 @@ cut views id v left right at is =
     (IsPermutation-trans _ _ _ old (IsPermutation-sym _ _ (IsPermutation-trans _ _ _ new turned)))
 
 -- a hand takes in another
-pub glue : (views : List Hand) (id other : ℕ) (v w both spent : Hand) → get_elem? views id ≡ some v → (other ≡ id → ⊥) → get_elem? (set views id both) other ≡ some w
+pub glue : (views : List HeldAccounts) (id other : ℕ) (v w both spent : HeldAccounts) → get_elem? views id ≡ some v → (other ≡ id → ⊥) → get_elem? (set views id both) other ≡ some w
     → both.accounts ≡ v.accounts ++ w.accounts → spent.accounts ≡ []
     → IsPermutation (accounts_in views) (accounts_in (set (set views id both) other spent))
 glue views id other v w both spent at apart_from there joined none =
     let there' : get_elem? views other ≡ some w = sym (set_else views id other both apart_from) ∙ there in
     let a = apart views other w there' in
-    let views' : List Hand = set views other spent in
+    let views' : List HeldAccounts = set views other spent in
     let at' : get_elem? views' id ≡ some v = set_else views other id spent (λ e. apart_from (sym e)) ∙ at in
     let b = apart views' id v at' in
     -- without w

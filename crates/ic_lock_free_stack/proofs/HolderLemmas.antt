@@ -15,7 +15,7 @@ use Rattle.ic_lock_free_stack.specs.declared.step.Step.TheVariants.{Claim, Relea
 use Rattle.ic_lock_free_stack.specs.declared.hand.Size.{Size}
 use Rattle.ic_lock_free_stack.specs.declared.hand.Known.{Known}
 use Rattle.ic_lock_free_stack.specs.declared.hand.Account.{Account}
-use Rattle.ic_lock_free_stack.specs.declared.hand.Hand.{Hand}
+use Rattle.ic_lock_free_stack.specs.declared.hand.HeldAccounts.{HeldAccounts}
 use Rattle.ic_lock_free_stack.specs.declared.stacks.Stacks.{Stacks}
 use Rattle.ic_lock_free_stack.specs.declared.stacks.Holder.{Holder}
 use Rattle.ic_lock_free_stack.specs.declared.stacks.Chain.{Chain}
@@ -48,7 +48,7 @@ module _ {A : Type 0} (stacks : Stacks A) where
   -- a holder with this account in hand
   module _ (h : Holder) (b : Account) (table : IsSeatOf stacks h.seat) (e : h.seat.me.0 ≡ only stacks.table.shared.key b) where
     pub account_is : account_of h ≡ b
-    account_is = ap (λ (v : Hand). get_or v.accounts 0 (fresh 0)) e
+    account_is = ap (λ (v : HeldAccounts). get_or v.accounts 0 (fresh 0)) e
 
     pub is_of : IsOf stacks h
     is_of = record { table = table; hand = e ∙ ap (only stacks.table.shared.key) (sym account_is) }
@@ -284,7 +284,7 @@ pub known_link : (ks : List Known) (places : ℕ) (s : List Place) (p : Place) �
 known_link ks places s p x e = let k = x.known in absurd (omega (arith, k, e))
 
 -- one more fresh account is dealt
-module _ (size : Size) (h n m : ℕ) (v : Hand) (has : v ≡ hand size (map fresh (range_with_len h n))) (is : n ≡ suc m) where
+module _ (size : Size) (h n m : ℕ) (v : HeldAccounts) (has : v ≡ hand size (map fresh (range_with_len h n))) (is : n ≡ suc m) where
   dealt : v ≡ hand size (fresh h ∷ map fresh (range_with_len (h + 1) m))
   dealt = has ∙ (ap (λ k. hand size (map fresh (range_with_len h k))) is ∙ ap (λ l. hand size (map fresh l)) (range_more h m))
     where

@@ -15,7 +15,7 @@ use Rattle.atomic_table.specs.Table.{State, step, opening, keeps, Allows, Splits
 use Rattle.ic_unsafe_ref.specs.Places.{index_of}
 use Rattle.ic_lock_free_stack.specs.declared.hand.Size.{Size}
 use Rattle.ic_lock_free_stack.specs.declared.hand.Account.{Account}
-use Rattle.ic_lock_free_stack.specs.declared.hand.Hand.{Hand}
+use Rattle.ic_lock_free_stack.specs.declared.hand.HeldAccounts.{HeldAccounts}
 use Rattle.ic_lock_free_stack.specs.declared.step.Entry.{Entry}
 use Rattle.ic_lock_free_stack.specs.Moments.{at_first}
 use Rattle.ic_lock_free_stack.specs.Words.{head_at, Spells}
@@ -48,7 +48,7 @@ permuted size words xs ys p was =
     }
 
 -- the same accounts in other hands
-module _ (size : Size) (s t : State (Unit {0}) Hand) (words : t.words ≡ s.words) (moves : IsPermutation (accounts_in s.views) (accounts_in t.views)) where
+module _ (size : Size) (s t : State (Unit {0}) HeldAccounts) (words : t.words ≡ s.words) (moves : IsPermutation (accounts_in s.views) (accounts_in t.views)) where
   same_accounts : Rule size s → Rule size t
   same_accounts was = record {
     words = ap length words ∙ was.words;
@@ -58,11 +58,11 @@ module _ (size : Size) (s t : State (Unit {0}) Hand) (words : t.words ≡ s.word
   }
 
 -- the first account goes to a new seat, and the accounts of a seat go to another
-pub splits : (size : Size) (id : ℕ) (v : Hand) → Splits (Rule size) id v (without_first v) (only_first v)
+pub splits : (size : Size) (id : ℕ) (v : HeldAccounts) → Splits (Rule size) id v (without_first v) (only_first v)
 splits size id v s was at = same_accounts size s record { words = s.words; homes = s.homes; views = set s.views id (without_first v) ++ only_first v ∷ [] } refl
     (cut s.views id v (without_first v) (only_first v) at (take-append-drop 1 v.accounts)) was
 
-pub joins : (size : Size) (id : ℕ) (v : Hand) (other : ℕ) (w : Hand) → Joins (Rule size) id v other w (both_hands v w) nothing_left
+pub joins : (size : Size) (id : ℕ) (v : HeldAccounts) (other : ℕ) (w : HeldAccounts) → Joins (Rule size) id v other w (both_hands v w) nothing_left
 joins size id v other w s was at apart_from there = same_accounts size s record { words = s.words; homes = s.homes; views = set (set s.views id (both_hands v w)) other nothing_left } refl
     (glue s.views id other v w (both_hands v w) nothing_left at apart_from there refl refl) was
 
@@ -109,7 +109,7 @@ compares size slots id me sized s was homes at small =
     let a = apart s.views id me.0 at in
     let n : ℕ = get_or s.words 0 0 in
     let one : IsOneHistory size s.words (me.0.accounts ++ a.others) = permuted size s.words (accounts_in s.views) (me.0.accounts ++ a.others) a.all was.one in
-    let w : Hand = hand size (map (sees was.one.order) me.0.accounts) in
+    let w : HeldAccounts = hand size (map (sees was.one.order) me.0.accounts) in
     let counted : length me.0.accounts + length a.others ≡ size.holders = sym (length-append me.0.accounts a.others) ∙ (length_permutation (accounts_in s.views) (me.0.accounts ++ a.others) a.all ∙ was.holders) in
     let words : set s.words 0 n ≡ s.words = set-get_or s.words 0 0 in
     let moved : IsPermutation (accounts_in (set s.views id w)) (w.accounts ++ a.others) = a.set_all w in (

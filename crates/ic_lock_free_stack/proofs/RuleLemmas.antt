@@ -18,7 +18,7 @@ use Rattle.ic_lock_free_stack.specs.declared.step.Step.TheVariants.{Claim, Relea
 use Rattle.ic_lock_free_stack.specs.declared.hand.Size.{Size}
 use Rattle.ic_lock_free_stack.specs.declared.hand.Known.{Known}
 use Rattle.ic_lock_free_stack.specs.declared.hand.Account.{Account}
-use Rattle.ic_lock_free_stack.specs.declared.hand.Hand.{Hand}
+use Rattle.ic_lock_free_stack.specs.declared.hand.HeldAccounts.{HeldAccounts}
 use Rattle.ic_lock_free_stack.specs.Moments.{Moment, entry, nowhere, with_holder, is_nowhere, is_with, same, is_in, IsOnce, in_stack, moves, after, Fits}
 use Rattle.ic_lock_free_stack.specs.Records.{holds, pushes_and_takes, most_steps}
 use Rattle.ic_lock_free_stack.specs.Words.{link_to, word_at, head_at, Spells, known_of, knows, knows_all, AreKnownTo, forgets}
@@ -34,10 +34,10 @@ use Rattle.ic_lock_free_stack.proofs.HistoryLemmas.{Leaves, few_heads, kept_seen
 -- what a step tells at its own place or head, it tells at whichever they are
 module _ (t : TableStep (Unit {0})) (me : Mine) (size : Size) (a : Account) (is : me.0 ≡ only size a) where
   one_size : (z : Size) (b : Account) → me.0 ≡ only z b → size ≡ z
-  one_size z b e = ap (λ (v : Hand). v.size) (sym is ∙ e)
+  one_size z b e = ap (λ (v : HeldAccounts). v.size) (sym is ∙ e)
 
   one_account : (z : Size) (b : Account) → me.0 ≡ only z b → a ≡ b
-  one_account z b e = ap (λ (v : Hand). get_or v.accounts 0 a) (sym is ∙ e)
+  one_account z b e = ap (λ (v : HeldAccounts). get_or v.accounts 0 a) (sym is ∙ e)
 
   pub of_place : (answered : Size → Account → Place → Type 0) (p : Place) → index_of p ≡ t.word → answered size a p → OfPlace t me answered
   of_place answered p on here z b q e f =
@@ -53,12 +53,12 @@ link_some : (o : Option Place) → link_to o ≢ 0
 link_some o e = absurd (omega (arith, e))
 
 module _ (size : Size) (slots id : ℕ) (a : Account) (me : Mine) (is : me.0 ≡ only size a) where
-  module _ (s : State (Unit {0}) Hand) (was : Rule size s) (at : get_elem? s.views id ≡ some me.0) where
+  module _ (s : State (Unit {0}) HeldAccounts) (was : Rule size s) (at : get_elem? s.views id ≡ some me.0) where
     abbrev accounts : List Account
     accounts = accounts_in s.views
 
     abbrev here : IsAmong s.views id a
-    here = among s.views id me.0 a at (ap (λ (v : Hand). v.accounts) is)
+    here = among s.views id me.0 a at (ap (λ (v : HeldAccounts). v.accounts) is)
 
     abbrev one : IsOneHistory size s.words accounts
     one = was.one
@@ -301,8 +301,8 @@ module _ (size : Size) (slots id : ℕ) (a : Account) (me : Mine) (is : me.0 ≡
             (head_leaves 1) (omega (arith, few)) take_known
 
 -- what a compare-exchange of a head does, which finds n and leaves n'
-record Tries (size : Size) (a : Account) (k new : ℕ) (s : State (Unit {0}) Hand) (id n n' : ℕ) : Type 0 where
-  after : Hand
+record Tries (size : Size) (a : Account) (k new : ℕ) (s : State (Unit {0}) HeldAccounts) (id n n' : ℕ) : Type 0 where
+  after : HeldAccounts
   ruled : Rule size record { words = set s.words (size.places + k) n'; homes = s.homes; views = set s.views id after }
   hits : n ≡ a.saw → (t : List Place) → new ≡ link_to (first t) → IsOnce t → AreKnownTo a.known t a.saw → Makes size a (Push k t) (forgets t a.known) after
   misses : n ≢ a.saw → Misses size a k n after
@@ -403,7 +403,7 @@ module _ (size : Size) (slots id : ℕ) (a : Account) (me : Mine) (is : me.0 ≡
 
       module _ (p : Place) (r : List Place) (new : ℕ) (is_p : new ≡ link_to (Some p)) (once : IsOnce (p ∷ r)) (ready : AreKnownTo a.known (p ∷ r) a.saw) (on : a.stack ≡ k) where
         -- whether it finds what was seen, or not
-        try_one : (s : State (Unit {0}) Hand) (was : Rule size s) (at : get_elem? s.views id ≡ some me.0) (b : Bool) → eqb (head_at size s.words k) a.saw ≡ b
+        try_one : (s : State (Unit {0}) HeldAccounts) (was : Rule size s) (at : get_elem? s.views id ≡ some me.0) (b : Bool) → eqb (head_at size s.words k) a.saw ≡ b
             → Tries size a k new s id (head_at size s.words k) (either b new (head_at size s.words k))
         try_one s was at true e =
             let hit : head_at size s.words k ≡ a.saw = eqb-true (head_at size s.words k) a.saw e in

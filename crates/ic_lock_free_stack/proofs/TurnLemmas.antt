@@ -59,8 +59,8 @@ module _ {A : Type 0} (stacks : Stacks A) where
     here : is_in p was.rest ≡ true
     here = first_in was.rest p (sym found)
 
-    behind : (q : Place) → is_in q rest' ≡ true → is_in q was.rest ≡ true
-    behind q e = ap (is_in q) split ∙ in_rest p q rest' e
+    after : (q : Place) → is_in q rest' ≡ true → is_in q was.rest ≡ true
+    after q e = ap (is_in q) split ∙ in_rest p q rest' e
 
     pub turns_more : IsTurning stacks old new chain left' turned' s
     turns_more = record {
@@ -70,9 +70,9 @@ module _ {A : Type 0} (stacks : Stacks A) where
       done = p ∷ was.done;
       rest = rest';
       is = was.is ∙ (ap (λ l. reverse was.done ++ l) split ∙ (sym (append_assoc (reverse was.done) (p ∷ []) rest') ∙ ap (λ l. l ++ rest') (sym (reverse-append (p ∷ []) was.done))));
-      inside = λ q e. was.inside q (behind q e);
+      inside = λ q e. was.inside q (after q e);
       apart = λ q e. by_test (λ b. same q p ≡ b → (b || is_in q was.done) ≡ false) (same q p)
-          (λ _ f. absurd (true≢false (sym e ∙ (ap (λ r. is_in r rest') (one_place q p f) ∙ out)))) (λ _ _. was.apart q (behind q e)) refl;
+          (λ _ f. absurd (true≢false (sym e ∙ (ap (λ r. is_in r rest') (one_place q p f) ∙ out)))) (λ _ _. was.apart q (after q e)) refl;
       left_is = keeps left' rest' rest_is (λ q e. apart_in rest' p q out e);
       turned_is = linked;
       keeps = λ t u has clean. keeps t u (was.keeps t u has clean) (λ q member. by_test (λ b. same q p ≡ b → b ≡ false) (same q p)

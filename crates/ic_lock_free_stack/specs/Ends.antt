@@ -2,7 +2,7 @@
 use Rattle.std.specs.Prelude.{Option, Some, None, List, [], ◌∷◌}
 use Rattle.ic_unsafe_ref.specs.declared.place.Place.{Place}
 
--- the first of a list, and its last, none where it is empty
+-- the first and the last of a list, none if it is empty
 abbrev pub first : List Place → Option Place
 first [] = None
 first (p ∷ s) = Some p

@@ -1,4 +1,4 @@
--- What clauses see of stacks, of their holders and of chains.
+-- Stacks, their holders and chains, as contracts see them.
 use Rattle.std.specs.Prelude.{◌≡◌, ℕ, ◌+◌, ◌<◌, ◌≤◌, Bool, true, false, List, [], ◌∷◌, ◌++◌, length, slice_index_or, zero, suc, None, Some, ◌-◌, Option}
 use mathlib.Core.Option.{some}
 use lib.ListN.{get_elem?}
@@ -10,7 +10,7 @@ use Rattle.ic_lock_free_stack.specs.declared.step.Step.{Step}
 use Rattle.ic_lock_free_stack.specs.declared.step.Entry.{Entry}
 use Rattle.ic_lock_free_stack.specs.declared.hand.Known.{Known}
 use Rattle.ic_lock_free_stack.specs.declared.hand.Account.{Account}
-use Rattle.ic_lock_free_stack.specs.declared.hand.Hand.{Hand}
+use Rattle.ic_lock_free_stack.specs.declared.hand.HeldAccounts.{HeldAccounts}
 use Rattle.ic_lock_free_stack.specs.declared.stacks.Stacks.{Stacks}
 use Rattle.ic_lock_free_stack.specs.declared.stacks.Holder.{Holder}
 use Rattle.ic_lock_free_stack.specs.declared.stacks.Chain.{Chain}
@@ -27,23 +27,23 @@ places_of stacks = stacks.places
 abbrev pub stacks_of : {A : Type 0} → Stacks A → ℕ
 stacks_of stacks = stacks.stacks
 
--- how many holders were made with them: so many records there are, and no other
+-- how many holders were made with the stacks. There are exactly as many records
 abbrev pub holders_of : {A : Type 0} → Stacks A → ℕ
 holders_of stacks = stacks.table.shared.key.holders
 
--- the seat is one of their table
-abbrev pub IsSeatOf : {A : Type 0} → Stacks A → Seat (Unit {0}) Hand → Type 0
+-- the seat belongs to the table of these stacks
+abbrev pub IsSeatOf : {A : Type 0} → Stacks A → Seat (Unit {0}) HeldAccounts → Type 0
 IsSeatOf stacks seat = seat.table_id ≡ stacks.table.shared.table_id
 
--- these accounts in a hand of theirs
-abbrev pub hand_with : {A : Type 0} → Stacks A → List Account → Hand
+-- these accounts in a hand of these stacks
+abbrev pub hand_with : {A : Type 0} → Stacks A → List Account → HeldAccounts
 hand_with stacks accounts = hand stacks.table.shared.key accounts
 
 -- the holder's account
 abbrev pub account_of : Holder → Account
 account_of holder = slice_index_or holder.seat.me.0.accounts 0 (fresh 0)
 
--- which holder it is, and its steps so far, in their order
+-- the holder's name, and its steps so far, in their order
 abbrev pub name_of : Holder → ℕ
 name_of holder = (account_of holder).name
 
@@ -54,22 +54,22 @@ record_of holder = (account_of holder).steps
 abbrev pub seen_of : Holder → List Entry
 seen_of holder = (account_of holder).seen
 
--- how many pushes and calls that take all it has made: a holder makes `most_steps` of them at most
+-- how many pushes and calls that take all the holder has made. It makes at most `most_steps` of them
 abbrev pub spent_by : Holder → ℕ
 spent_by holder = pushes_and_takes (record_of holder)
 
--- it has made no step and seen none
+-- the holder has made no step and seen none
 abbrev pub IsNew : Holder → Type 0
 IsNew holder = (record_of holder ≡ []) × (seen_of holder ≡ [])
 
--- A CALL MADE ONE STEP: the holder's record has it after all others, and the holder has seen the history up to it
+-- A CALL MADE ONE STEP: the holder's record gains it at the end, and the holder has seen the history up to it
 pub record Steps (old new : Holder) (e : Step) : Type 0 where
   pub name : name_of new ≡ name_of old
   pub gained : record_of new ≡ record_of old ++ e ∷ []
   pub goes : GoesOn (name_of old) (seen_of old) e (seen_of new)
   pub spends : spent_by new ≡ spent_by old + on_head e
 
--- A CALL MADE NO STEP, and the holder has seen no more of the history
+-- A CALL MADE NO STEP, and the holder has seen no more of the history than before
 pub record Stays (old new : Holder) : Type 0 where
   pub name : name_of new ≡ name_of old
   pub record_is : record_of new ≡ record_of old
@@ -86,18 +86,19 @@ pub record IsOf {A : Type 0} (stacks : Stacks A) (holder : Holder) : Type 0 wher
   pub table : IsSeatOf stacks holder.seat
   pub hand : holder.seat.me.0 ≡ hand_with stacks (account_of holder ∷ [])
 
--- the word that is known of each but the last names the next one
+-- the known word of each place except the last names the next one
 abbrev pub AreKnownBut : List Known → List Place → Type 0
 AreKnownBut ks [] = Unit {0}
 AreKnownBut ks (p ∷ []) = Unit {0}
 AreKnownBut ks (p ∷ q ∷ s) = (known_of ks p ≡ link_to (Some q)) × AreKnownBut ks (q ∷ s)
 
--- the word that is known of each names the next one
+-- the known word of each place names the next one
 abbrev pub AreKnown : List Known → List Place → Type 0
 AreKnown ks [] = Unit {0}
 AreKnown ks (p ∷ s) = (known_of ks p ≡ link_to (first s)) × AreKnown ks s
 
--- A CHAIN of places that a holder holds: these, in this order, each once, and the word of each names the next one
+-- A CHAIN of places that a holder holds: these places, in this order, each once, and the word of each names the next
+-- one
 pub record HasChain {A : Type 0} (stacks : Stacks A) (holder : Holder) (chain : Chain) (s : List Place) : Type 0 where
   pub starts : chain.first ≡ first s
   pub once : IsOnce s
@@ -106,7 +107,7 @@ pub record HasChain {A : Type 0} (stacks : Stacks A) (holder : Holder) (chain : 
   pub inside : (p : Place) → is_in p s ≡ true → index_of p < places_of stacks
   pub held : (p : Place) → is_in p s ≡ true → holds p (record_of holder) ≡ true
 
--- places from one to another, each once, which a holder holds and has linked but for the last
+-- places from one to another, each once; a holder holds them, and each except the last is linked to the next
 pub record IsReady {A : Type 0} (stacks : Stacks A) (holder : Holder) (front back : Place) (s : List Place) : Type 0 where
   pub starts : first s ≡ Some front
   pub ends : last s ≡ Some back
@@ -123,7 +124,7 @@ first_of chain = chain.first
 abbrev pub IsNoChain : Chain → Type 0
 IsNoChain chain = chain.first ≡ None
 
--- how many places a chain has, for the measure of a loop: no more than n, from this place on
+-- how many places a chain has from this place on, at most n. It is the measure of a loop
 abbrev pub left_from : ℕ → List Known → Option Place → ℕ
 left_from zero ks o = 0
 left_from (suc n) ks None = 0
@@ -132,7 +133,7 @@ left_from (suc n) ks (Some p) = suc (left_from n ks (place_at (known_of ks p - 1
 unfoldable pub left_of : Holder → Chain → ℕ
 left_of holder chain = left_from (length (account_of holder).known) (account_of holder).known chain.first
 
--- a chain without the places of which this is true is as it was
+-- a chain that has none of the places for which this is true is as it was
 abbrev pub KeepsChains : {A : Type 0} → Stacks A → Holder → Holder → (Place → Bool) → Type 0
 KeepsChains stacks old new edited = (chain : Chain) (s : List Place) → HasChain stacks old chain s
     → ((p : Place) → is_in p s ≡ true → edited p ≡ false) → HasChain stacks new chain s
@@ -141,7 +142,7 @@ KeepsChains stacks old new edited = (chain : Chain) (s : List Place) → HasChai
 abbrev pub party_of : Holder → Party
 party_of holder = party_of_account (account_of holder)
 
--- THE RECORDS OF SOME HOLDERS at one moment: with those of all other holders they are one history
+-- THE RECORDS OF SOME HOLDERS at one moment: together with the records of all other holders they are one history
 pub record AreOneHistory {A : Type 0} (stacks : Stacks A) (order : List Entry) (parties : List Party) : Type 0 where
   pub others : List Party
   pub all : length parties + length others ≡ holders_of stacks

@@ -1,4 +1,4 @@
--- Where each place is and what each stack has, and what a step does to that.
+-- Where each place is and what each stack contains, and how a step changes that.
 use Rattle.std.specs.Prelude.{◌≡◌, ℕ, ◌==◌, Bool, true, false, ◌&&◌, ◌||◌, if◌then◌else◌, List, [], ◌∷◌, ◌++◌}
 use Rattle.ic_unsafe_ref.specs.declared.place.Place.{Place}
 use Rattle.ic_unsafe_ref.specs.Places.{index_of}
@@ -6,7 +6,7 @@ use Rattle.ic_lock_free_stack.specs.declared.step.Step.{Step}
 use Rattle.ic_lock_free_stack.specs.declared.step.Entry.{Entry}
 use Rattle.ic_lock_free_stack.specs.declared.step.Step.TheVariants.{Claim, Release, Push, TakeAll}
 
--- where a place is: with nobody, with the holder of that name, or in the stack of that number
+-- where a place is: free, with the holder of this name, or in the stack with this number
 pub data Where : Type 0 where
   nowhere : Where
   with_holder : ℕ → Where
@@ -36,7 +36,7 @@ pub record Moment : Type 0 where
 abbrev pub at_first : Moment
 at_first = record { place = λ p. nowhere; stack = λ k. [] }
 
--- whether they are one place
+-- whether two places are the same
 abbrev pub same : Place → Place → Bool
 same p q = index_of p == index_of q
 
@@ -57,21 +57,21 @@ moves p (Release q) = same p q
 moves p (Push k s) = is_in p s
 moves p (TakeAll k s) = is_in p s
 
--- where a step of the holder a puts the places that it moves
+-- where the places that a step of the holder a moves are afterwards
 abbrev pub goes : ℕ → Step → Where
 goes a (Claim q got) = with_holder a
 goes a (Release q) = nowhere
 goes a (Push k s) = in_stack k
 goes a (TakeAll k s) = with_holder a
 
--- the members of the stack j after the step, where it had these
+-- the members of the stack j after the step, given those before it
 abbrev pub members_after : ℕ → List Place → Step → List Place
 members_after j s (Claim q got) = s
 members_after j s (Release q) = s
 members_after j s (Push k t) = if k == j then t ++ s else s
 members_after j s (TakeAll k t) = if k == j then [] else s
 
--- whether the step is on the stack of that number
+-- whether the step is on the stack with this number
 abbrev pub is_on_stack : ℕ → Step → Bool
 is_on_stack j (Claim q got) = false
 is_on_stack j (Release q) = false
@@ -85,8 +85,8 @@ after m a e = record {
   stack = λ k. members_after k (m.stack k) e;
 }
 
--- WHAT A STEP MAY SAY at a moment: a claim is true exactly if the place is with nobody, a holder gives up what it holds and pushes such places, each
--- once, and a call that takes all answers the members, the last pushed first
+-- WHICH STEPS ARE POSSIBLE at a moment: a claim returns true exactly if the place is free, a holder releases and pushes only places that it holds,
+-- each once, and a call that takes all returns the members, the last pushed first
 abbrev pub Fits : Moment → ℕ → Step → Type 0
 Fits m a (Claim q got) = got ≡ is_nowhere (m.place q)
 Fits m a (Release q) = m.place q ≡ with_holder a
@@ -97,7 +97,7 @@ Fits m a (TakeAll k s) = s ≡ m.stack k
 abbrev pub entry : ℕ → Step → Entry
 entry h e = record { holder = h; step = e }
 
--- each step says what it may, one after the other
+-- each step of the list is possible at its moment
 abbrev pub IsLegal : Moment → List Entry → Type 0
 IsLegal m [] = Unit {0}
 IsLegal m (x ∷ xs) = Fits m x.holder x.step × IsLegal (after m x.holder x.step) xs
@@ -115,7 +115,7 @@ stack_after order k = (moment_after at_first order).stack k
 abbrev pub place_after : List Entry → Place → Where
 place_after order p = (moment_after at_first order).place p
 
--- the steps of the holder of that name, in their order
+-- the steps of the holder with this name, in their order
 abbrev pub steps_of : ℕ → List Entry → List Step
 steps_of h [] = []
 steps_of h (x ∷ xs) = if x.holder == h then x.step ∷ steps_of h xs else steps_of h xs

@@ -1,11 +1,11 @@
--- In which order places come to a stack, and in which they are taken of it.
+-- The order in which places are pushed to a stack, and the order in which they are taken from it.
 use Rattle.std.specs.Prelude.{ℕ, ◌==◌, if◌then◌else◌, List, [], flat_map, reverse}
 use Rattle.ic_unsafe_ref.specs.declared.place.Place.{Place}
 use Rattle.ic_lock_free_stack.specs.declared.step.Step.{Step}
 use Rattle.ic_lock_free_stack.specs.declared.step.Entry.{Entry}
 use Rattle.ic_lock_free_stack.specs.declared.step.Step.TheVariants.{Claim, Release, Push, TakeAll}
 
--- the places that a step puts into the stack k, and those that it takes out, the first that came first
+-- the places that a step pushes to the stack k, and those that it takes from it, in the order of the pushes
 abbrev pub sent : ℕ → Step → List Place
 sent k (Claim q got) = []
 sent k (Release q) = []
@@ -18,7 +18,7 @@ got k (Release q) = []
 got k (Push j s) = []
 got k (TakeAll j s) = if j == k then reverse s else []
 
--- those of all steps of a record, and of a history
+-- the same for all steps of a record, and of a history
 abbrev pub of_record : (Step → List Place) → List Step → List Place
 of_record f es = flat_map f es
 

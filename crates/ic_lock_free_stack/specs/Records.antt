@@ -1,11 +1,11 @@
--- Records of holders, and what they say of the places that a holder holds.
+-- Records of holders, and which places a holder holds according to its record.
 use Rattle.std.specs.Prelude.{◌≡◌, ◌≢◌, ℕ, ◌+◌, Bool, true, false, if◌then◌else◌, List, [], ◌∷◌}
 use Rattle.ic_unsafe_ref.specs.declared.place.Place.{Place}
 use Rattle.ic_lock_free_stack.specs.declared.step.Step.{Step}
 use Rattle.ic_lock_free_stack.specs.declared.step.Step.TheVariants.{Claim, Release, Push, TakeAll}
 use Rattle.ic_lock_free_stack.specs.Moments.{moves, is_in}
 
--- whether a step brings the places that it moves to its holder
+-- whether a step moves places to its holder
 abbrev pub brings : Step → Bool
 brings (Claim q got) = true
 brings (Release q) = false
@@ -21,41 +21,41 @@ held_from p held (e ∷ es) = held_from p (if moves p e then brings e else held)
 abbrev pub holds : Place → List Step → Bool
 holds p es = held_from p false es
 
--- 1 for a step on a head, else 0
+-- 1 for a step on a head, otherwise 0
 abbrev pub on_head : Step → ℕ
 on_head (Claim q got) = 0
 on_head (Release q) = 0
 on_head (Push k s) = 1
 on_head (TakeAll k s) = 1
 
--- how many steps on heads there are
+-- the number of steps on heads
 abbrev pub pushes_and_takes : List Step → ℕ
 pushes_and_takes [] = 0
 pushes_and_takes (e ∷ es) = on_head e + pushes_and_takes es
 
--- of a holder so many at most
+-- the greatest number of them that a holder makes
 abbrev pub most_steps : ℕ
 most_steps = 281474976710656
 
--- the holder did not hold p and now it does, and nothing else is changed in what it holds
+-- the holder did not hold p and now it does, and it holds all other places as before
 pub record HoldsAlso (old new : List Step) (p : Place) : Type 0 where
   pub was : holds p old ≡ false
   pub is : holds p new ≡ true
   pub others : (q : Place) → q ≢ p → holds q new ≡ holds q old
 
--- the holder held p and no longer does, and nothing else is changed in what it holds
+-- the holder held p and no longer does, and it holds all other places as before
 pub record GivesUp (old new : List Step) (p : Place) : Type 0 where
   pub was : holds p old ≡ true
   pub is : holds p new ≡ false
   pub others : (q : Place) → q ≢ p → holds q new ≡ holds q old
 
--- the holder held the places of s and no longer does, and nothing else is changed in what it holds
+-- the holder held the places of s and no longer does, and it holds all other places as before
 pub record GivesUpAll (old new : List Step) (s : List Place) : Type 0 where
   pub was : (p : Place) → is_in p s ≡ true → holds p old ≡ true
   pub is : (p : Place) → is_in p s ≡ true → holds p new ≡ false
   pub others : (p : Place) → is_in p s ≡ false → holds p new ≡ holds p old
 
--- the holder did not hold the places of s and now it does, and nothing else is changed in what it holds
+-- the holder did not hold the places of s and now it does, and it holds all other places as before
 pub record HoldsAll (old new : List Step) (s : List Place) : Type 0 where
   pub was : (p : Place) → is_in p s ≡ true → holds p old ≡ false
   pub is : (p : Place) → is_in p s ≡ true → holds p new ≡ true

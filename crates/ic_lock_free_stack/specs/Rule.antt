@@ -1,13 +1,14 @@
--- The rule as the table of words keeps it.
+-- The rule that the table of words keeps.
 use Rattle.std.specs.Prelude.{◌≡◌, ◌+◌, ◌<◌, length}
 use Rattle.atomic_table.specs.Table.{State, Me}
 use Rattle.ic_lock_free_stack.specs.declared.hand.Size.{Size}
-use Rattle.ic_lock_free_stack.specs.declared.hand.Hand.{Hand}
+use Rattle.ic_lock_free_stack.specs.declared.hand.HeldAccounts.{HeldAccounts}
 use Rattle.ic_lock_free_stack.specs.Hands.{accounts_in}
 use Rattle.ic_lock_free_stack.specs.OneHistory.{IsOneHistory}
 
--- there are so many words and so many accounts in all hands, few enough for their steps on heads to be counted, and they are one history
-pub record Rule (size : Size) (s : State (Unit {0}) Hand) : Type 0 where
+-- there are this many words, and this many accounts in all hands, few enough that their steps on heads can be counted, and the accounts
+-- are one history
+pub record Rule (size : Size) (s : State (Unit {0}) HeldAccounts) : Type 0 where
   pub words : length s.words ≡ size.places + size.stacks
   pub holders : length (accounts_in s.views) ≡ size.holders
   pub few : size.holders < 65536
@@ -15,4 +16,4 @@ pub record Rule (size : Size) (s : State (Unit {0}) Hand) : Type 0 where
 
 -- what a seat knows: its hand, and no slots
 abbrev pub Mine : Type 0
-Mine = Me (Unit {0}) Hand
+Mine = Me (Unit {0}) HeldAccounts

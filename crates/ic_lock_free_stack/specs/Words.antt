@@ -23,46 +23,46 @@ abbrev pub AreLinked : List ℕ → List Place → Type 0
 AreLinked words [] = Unit {0}
 AreLinked words (p ∷ s) = (word_at words p ≡ link_to (first s)) × AreLinked words s
 
--- the link to the first of the list, or to what is after it
+-- the link to the first of the list, or if it is empty, to the place after it
 abbrev pub link_or : List Place → ℕ → ℕ
-link_or [] behind = behind
-link_or (p ∷ s) behind = link_to (Some p)
+link_or [] after = after
+link_or (p ∷ s) after = link_to (Some p)
 
--- the word of each names the next one, and that of the last is this one
+-- the word of each place names the next one, and that of the last is this word
 abbrev pub AreLinkedTo : List ℕ → List Place → ℕ → Type 0
-AreLinkedTo words [] behind = Unit {0}
-AreLinkedTo words (p ∷ s) behind = (word_at words p ≡ link_or s behind) × AreLinkedTo words s behind
+AreLinkedTo words [] after = Unit {0}
+AreLinkedTo words (p ∷ s) after = (word_at words p ≡ link_or s after) × AreLinkedTo words s after
 
 -- THE WORDS AT A MOMENT
 pub record Spells (size : Size) (words : List ℕ) (m : Moment) : Type 0 where
-  -- A place's word is 0 exactly if the place is with nobody.
+  -- A place's word is 0 exactly if the place is free.
   pub free : (p : Place) → index_of p < size.places → word_at words p == 0 ≡ is_nowhere (m.place p)
   -- A head names the first member of its stack, and each member's word the next one.
   pub heads : (k : ℕ) → k < size.stacks → head_at size words k ≡ link_to (first (m.stack k))
   pub links : (k : ℕ) → AreLinked words (m.stack k)
-  -- Only places that there are lie in stacks.
+  -- Only existing places are in stacks.
   pub inside : (k : ℕ) (p : Place) → is_in p (m.stack k) ≡ true → index_of p < size.places
 
--- the word that is known of a place, 0 where none is: the latest counts
+-- the word that is known of a place, 0 if none is; the latest one counts
 abbrev pub known_of : List Known → Place → ℕ
 known_of [] p = 0
 known_of (x ∷ xs) p = if same p x.place then x.word else known_of xs p
 
--- what is known of a place from now on
+-- the knowledge that a place has this word
 abbrev pub knows : Place → ℕ → Known
 knows p n = record { place = p; word = n }
 
--- what is known of the members of a stack
+-- the knowledge of the words of a stack's members, added to what is known
 abbrev pub knows_all : List Place → List Known → List Known
 knows_all [] ks = ks
 knows_all (p ∷ s) ks = knows p (link_to (first s)) ∷ knows_all s ks
 
--- the word that is known of each names the next one, and that of the last is this one
+-- the known word of each place names the next one, and that of the last is this word
 abbrev pub AreKnownTo : List Known → List Place → ℕ → Type 0
-AreKnownTo ks [] behind = Unit {0}
-AreKnownTo ks (p ∷ s) behind = (known_of ks p ≡ link_or s behind) × AreKnownTo ks s behind
+AreKnownTo ks [] after = Unit {0}
+AreKnownTo ks (p ∷ s) after = (known_of ks p ≡ link_or s after) × AreKnownTo ks s after
 
--- what is known where the words of these are known no longer
+-- the known words without those of these places
 abbrev pub forgets : List Place → List Known → List Known
 forgets [] ks = ks
 forgets (p ∷ s) ks = knows p 0 ∷ forgets s ks

@@ -1,10 +1,10 @@
-//! What a seat of the words has in hand: accounts of holders.
+//! The accounts of holders that a seat of the words has in hand.
 
 use crate::step::{History, Record};
 use ic_unsafe_ref::Place;
 use std::collections::LinkedList;
 
-// How many places, stacks and holders there are.
+// The number of places, stacks and holders.
 #[derive(Drop)]
 pub(crate) struct Size {
     pub(crate) places: usize,
@@ -12,14 +12,14 @@ pub(crate) struct Size {
     pub(crate) holders: usize,
 }
 
-// The word of a place that its holder knows, or 0 where it no longer does.
+// A place and the word of it that its holder knows, or 0 if it no longer knows the word.
 pub(crate) struct Known {
     pub(crate) place: Place,
     pub(crate) word: u64,
 }
 
-// A holder: its name, its steps, the history up to the last of them or to an audit after it, the words that it knows, and what it last saw
-// of a head, when so many steps on heads had been made.
+// An account of a holder: its name and its steps; the history up to its last step or a later audit; the words that it knows; and the head
+// that it saw last, with the number of steps on heads at that time.
 pub(crate) struct Account {
     pub(crate) name: usize,
     pub(crate) steps: Record,
@@ -30,8 +30,9 @@ pub(crate) struct Account {
     pub(crate) looked: usize,
 }
 
-// The accounts in hand: one of a holder's seat, none of a seat that only passes them on. No value of it is made.
-pub(crate) struct Hand {
+// The accounts in hand: one for a holder's seat, none for a seat that has passed them on. No value of this type is
+// made.
+pub(crate) struct HeldAccounts {
     pub(crate) size: Size,
     pub(crate) accounts: LinkedList<Account>,
 }

@@ -1,4 +1,4 @@
-//! Stacks of claimed places, to which threads push with no lock and of which one call takes all members at once.
+//! Stacks of claimed places. Threads push to them without a lock, and one call takes all members at once.
 //!
 //! ```text
 //! let (stacks, holders) = Stacks::new(rt.alloc(), 1000, 1, 3)?; // 1,000 places, one stack, three holders
@@ -15,7 +15,8 @@
 //! stacks.audit(&mut holders);
 //! ```
 //!
-//! Since nothing takes a single member, a head that is again what it was is no trap: the members after it are those of that moment.
+//! No call takes a single member, so the ABA problem does not arise: if a push finds the head that it has read, it may link its
+//! places to that head, whatever happened in between.
 #![tactic(auto)]
 
 mod hand;

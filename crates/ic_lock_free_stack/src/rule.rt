@@ -1,12 +1,12 @@
-//! The rule of the words, and what each kind of step tells its holder.
+//! The rule of the words, and what a holder knows after each kind of step.
 
-use crate::hand::{Hand, Size};
+use crate::hand::{HeldAccounts, Size};
 use atomic_table::{Join, Play, Split, TableRule};
 
 // The rule between any two steps.
 pub(crate) struct OneHistory;
 
-impl TableRule<(), Hand, Size> for OneHistory {
+impl TableRule<(), HeldAccounts, Size> for OneHistory {
     ghost use Rattle.ic_lock_free_stack.specs.Hands.{all_fresh};
     ghost use Rattle.ic_lock_free_stack.specs.Rule.{Rule};
 
@@ -18,7 +18,7 @@ impl TableRule<(), Hand, Size> for OneHistory {
 // A compare-exchange of a place's word, 0 to 1.
 pub(crate) struct Claimed;
 
-impl Play<(), Hand> for Claimed {
+impl Play<(), HeldAccounts> for Claimed {
     ghost use Rattle.ic_lock_free_stack.specs.Plays.{claimed};
 
     ghost then = { claimed };
@@ -27,7 +27,7 @@ impl Play<(), Hand> for Claimed {
 // A store of 0 in a place's word.
 pub(crate) struct Released;
 
-impl Play<(), Hand> for Released {
+impl Play<(), HeldAccounts> for Released {
     ghost use Rattle.ic_lock_free_stack.specs.Plays.{released};
 
     ghost then = { released };
@@ -36,7 +36,7 @@ impl Play<(), Hand> for Released {
 // A load of a head.
 pub(crate) struct Looked;
 
-impl Play<(), Hand> for Looked {
+impl Play<(), HeldAccounts> for Looked {
     ghost use Rattle.ic_lock_free_stack.specs.Plays.{looked};
 
     ghost then = { looked };
@@ -45,16 +45,16 @@ impl Play<(), Hand> for Looked {
 // A store of the next member in a place's word.
 pub(crate) struct Linked;
 
-impl Play<(), Hand> for Linked {
+impl Play<(), HeldAccounts> for Linked {
     ghost use Rattle.ic_lock_free_stack.specs.Plays.{linked};
 
     ghost then = { linked };
 }
 
-// A compare-exchange of a head, from what was seen to a place.
+// A compare-exchange of a head, from the value that was seen to a place.
 pub(crate) struct Tried;
 
-impl Play<(), Hand> for Tried {
+impl Play<(), HeldAccounts> for Tried {
     ghost use Rattle.ic_lock_free_stack.specs.Plays.{tried};
 
     ghost then = { tried };
@@ -63,16 +63,16 @@ impl Play<(), Hand> for Tried {
 // A swap of a head with the word of an empty stack.
 pub(crate) struct TookAll;
 
-impl Play<(), Hand> for TookAll {
+impl Play<(), HeldAccounts> for TookAll {
     ghost use Rattle.ic_lock_free_stack.specs.Plays.{took_all};
 
     ghost then = { took_all };
 }
 
-// A load of a head that tells what its stack has.
+// A load of a head after which the holder knows the stack's members.
 pub(crate) struct Peeked;
 
-impl Play<(), Hand> for Peeked {
+impl Play<(), HeldAccounts> for Peeked {
     ghost use Rattle.ic_lock_free_stack.specs.Plays.{peeked};
 
     ghost then = { peeked };
@@ -81,34 +81,34 @@ impl Play<(), Hand> for Peeked {
 // A load of a place's word that the holder knows.
 pub(crate) struct Followed;
 
-impl Play<(), Hand> for Followed {
+impl Play<(), HeldAccounts> for Followed {
     ghost use Rattle.ic_lock_free_stack.specs.Plays.{followed};
 
     ghost then = { followed };
 }
 
-// A load by which a new seat comes, with no account in hand.
+// A load by which a new seat is made, with no account in hand.
 pub(crate) struct Seated;
 
-impl Play<(), Hand> for Seated {
+impl Play<(), HeldAccounts> for Seated {
     ghost use Rattle.ic_lock_free_stack.specs.Plays.{seated};
 
     ghost then = { seated };
 }
 
-// A load that tells that the accounts in hand are one history with all others.
+// A load after which the holder knows that the accounts in hand are one history with all others.
 pub(crate) struct Compared;
 
-impl Play<(), Hand> for Compared {
+impl Play<(), HeldAccounts> for Compared {
     ghost use Rattle.ic_lock_free_stack.specs.Plays.{compared};
 
     ghost then = { compared };
 }
 
-// The first account goes to a new seat.
+// The first account moves to a new seat.
 pub(crate) struct FirstOff;
 
-impl Split<Hand> for FirstOff {
+impl Split<HeldAccounts> for FirstOff {
     ghost use Rattle.ic_lock_free_stack.specs.Hands.{without_first, only_first};
 
     ghost left = { without_first };
@@ -116,10 +116,10 @@ impl Split<Hand> for FirstOff {
     ghost right = { only_first };
 }
 
-// The accounts of another seat come after.
+// The accounts of another seat are appended.
 pub(crate) struct After;
 
-impl Join<Hand> for After {
+impl Join<HeldAccounts> for After {
     ghost use Rattle.ic_lock_free_stack.specs.Hands.{both_hands, nothing_left};
 
     ghost both = { both_hands };

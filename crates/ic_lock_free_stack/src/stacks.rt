@@ -6,7 +6,7 @@ ghost use Rattle.ic_unsafe_ref.specs.declared.place.Place.{Place};
 ghost use Rattle.ic_unsafe_ref.specs.Places.{index_of};
 ghost use Rattle.ic_lock_free_stack.specs.Ends.{first};
 
-use crate::hand::{Hand, Size};
+use crate::hand::{HeldAccounts, Size};
 use crate::rule::{
     After, Claimed, Compared, FirstOff, Followed, Linked, Looked, OneHistory, Peeked, Released,
     Seated, TookAll, Tried,
@@ -18,11 +18,12 @@ use thiserror::Error;
 
 /// Claims on places, and stacks of claimed places: a word for each place, and one for the head of each stack.
 ///
-/// The word of a place is 0 where the place is with nobody. Else it is with a holder or in a stack, and then its word names the next member.
-/// Threads share it by reference, and each call is made by a holder. Between any two atomic steps there is one history of all holders' steps.
+/// The word of a place is 0 if the place is free. Otherwise a holder holds the place, or it is in a stack, and its word names the next
+/// member. Threads share the stacks by reference, and a holder makes each call. Between any two atomic steps there is one history of all
+/// holders' steps.
 #[derive(Drop)]
 pub struct Stacks<A: Allocator = Global> {
-    table: Table<(), Hand, Size, OneHistory, A>,
+    table: Table<(), HeldAccounts, Size, OneHistory, A>,
     places: usize,
     stacks: usize,
     ghost words: { table.shared.table_id.words ≡ places + stacks },
@@ -32,17 +33,19 @@ pub struct Stacks<A: Allocator = Global> {
     ghost fits: { places + stacks ≤ 8589934592 },
 }
 
-/// What a party claims, pushes and takes with: a token of no bytes, with the record of its steps, which contracts alone see.
+/// A token of no bytes, with which a party claims, pushes and takes places. It has the record of its steps, which only
+/// contracts see.
 ///
-/// A holder that is dropped keeps what it held.
+/// If a holder is dropped, its places stay held.
 #[derive(Drop)]
 pub struct Holder {
-    seat: Seat<(), Hand>,
+    seat: Seat<(), HeldAccounts>,
 }
 
-/// Places that a holder holds, each linked to the next: what was taken of a stack, or what its holder has linked.
+/// A chain of places that a holder holds, each linked to the next. The holder has taken them from a stack, or linked
+/// them itself.
 ///
-/// A chain that is dropped keeps its places with their holder.
+/// If a chain is dropped, its holder still holds its places.
 #[derive(Drop)]
 pub struct Chain {
     first: Option<Place>,
@@ -51,14 +54,14 @@ pub struct Chain {
 impl Chain {
     ghost use Rattle.ic_lock_free_stack.specs.Holders.{first_of, IsNoChain};
 
-    /// A chain of no places, of any stacks and any holder.
+    /// An empty chain, for any stacks and any holder. O(1).
     pub fn new() -> Chain
         ensures { IsNoChain result }
     {
         Chain { first: None }
     }
 
-    /// Its first place, or `None` where it has none.
+    /// Its first place, or `None` if the chain is empty. O(1).
     #[inline]
     pub fn first(&self) -> Option<Place>
         ensures { result ≡ first_of self.now }
@@ -66,7 +69,7 @@ impl Chain {
         self.first
     }
 
-    /// Whether it has no place.
+    /// Whether the chain is empty. O(1).
     #[inline]
     pub fn is_empty(&self) -> bool
         ensures empty { OnTrue result (IsNoChain self.now) }
@@ -79,7 +82,7 @@ impl Chain {
 /// Why no stacks were made.
 #[derive(Clone, Copy, PartialEq, Eq, Debug, Error)]
 pub enum StacksError {
-    /// More than 4,294,967,296 places were asked for.
+    /// The caller requested more than 4,294,967,296 places.
     #[error("TooManyPlaces")]
     TooManyPlaces = 1,
     /// There was no memory for them.
@@ -93,12 +96,12 @@ impl<A: Allocator + Copy> Stacks<A> {
     ghost use Rattle.ic_lock_free_stack.specs.Hands.{fresh};
     ghost use Rattle.ic_lock_free_stack.specs.Holders.{places_of, stacks_of, holders_of, IsSeatOf, hand_with, name_of, IsOf, IsNew};
 
-    /// Stacks of that number, all of them empty, over the places with an index below `places`, which are with nobody, and
+    /// Makes the given number of empty stacks over the places with an index below `places`, all of them free, and
     /// `holders` holders, whose records are empty.
     ///
-    /// It is refused above 4,294,967,296 places, and where no memory is found; then nothing is made. It requires one stack at least and 65,535
-    /// holders at most. At most four requests for memory, for a word a place and a stack, and the holders; no other call makes any.
-    /// O(places + stacks + holders).
+    /// It is refused if `places` is above 4,294,967,296, or if there is no memory; then nothing is made. It requires at least one stack and at
+    /// most 65,535 holders. At most four requests for memory, for one word for each place and each stack, and for the holders; no other call
+    /// makes any. O(places + stacks + holders).
     pub fn new(
         alloc: A,
         places: usize,
@@ -133,13 +136,13 @@ impl<A: Allocator + Copy> Stacks<A> {
         Ok((made, all))
     }
 
-    // Stacks, and a seat that has every account in hand.
+    // Makes stacks, and a seat that has every account in hand.
     fn free(
         alloc: A,
         places: usize,
         stacks: usize,
         holders: usize,
-    ) -> Result<(Stacks<A>, Seat<(), Hand>), AllocError>
+    ) -> Result<(Stacks<A>, Seat<(), HeldAccounts>), AllocError>
         requires places { places ≤ 4294967296 }
         requires stacks { (0 < stacks) × (stacks ≤ 4294967296) }
         requires holders { holders < 65536 }
@@ -183,8 +186,8 @@ impl<A: Allocator> Stacks<A> {
     ghost use Rattle.ic_lock_free_stack.specs.Records.{holds, HoldsAlso, HoldsAll, GivesUp, GivesUpAll, HoldsTheSame, most_steps};
     ghost use Rattle.ic_lock_free_stack.specs.Holders.{places_of, stacks_of, record_of, spent_by, seen_of, Steps, Stays, Looks, IsOf, IsReady, HasChain, KeepsChains};
 
-    // The first account that a seat has in hand, in a seat of its own.
-    fn first_of(&self, seat: &mut Seat<(), Hand>) -> Seat<(), Hand>
+    // Moves the first account that a seat has in hand to a seat of its own.
+    fn first_of(&self, seat: &mut Seat<(), HeldAccounts>) -> Seat<(), HeldAccounts>
         requires seat { IsSeatOf self.now seat.old }
         ensures seat { IsSeatOf self.now seat.new }
         ensures rest { seat.new.me.0 ≡ without_first seat.old.me.0 }
@@ -194,8 +197,8 @@ impl<A: Allocator> Stacks<A> {
         self.table.shared.split_seat::<FirstOff>(seat)
     }
 
-    // Puts the accounts of another seat after those of this one, and that seat is gone.
-    fn put_after(&self, seat: &mut Seat<(), Hand>, other: Seat<(), Hand>)
+    // Appends the accounts of another seat to those of this one, and consumes that seat.
+    fn put_after(&self, seat: &mut Seat<(), HeldAccounts>, other: Seat<(), HeldAccounts>)
         requires seat { IsSeatOf self.now seat.old }
         requires other { IsSeatOf self.now other × (other.me.1 ≡ []) }
         ensures seat { IsSeatOf self.now seat.new }
@@ -204,7 +207,7 @@ impl<A: Allocator> Stacks<A> {
         self.table.shared.join_seat::<After>(seat, other);
     }
 
-    /// How many places there are: those with a smaller index.
+    /// The number of places. These are the places whose index is smaller than this number. O(1).
     #[inline]
     pub fn places(&self) -> usize
         ensures { result ≡ places_of self.now }
@@ -212,7 +215,7 @@ impl<A: Allocator> Stacks<A> {
         self.places
     }
 
-    /// How many stacks there are.
+    /// The number of stacks. O(1).
     #[inline]
     pub fn stacks(&self) -> usize
         ensures { result ≡ stacks_of self.now }
@@ -220,10 +223,11 @@ impl<A: Allocator> Stacks<A> {
         self.stacks
     }
 
-    /// Proves to its caller that the records of these holders are parts of one history, which they then have seen.
+    /// Proves to its caller that the records of these holders are parts of one history, which each of them has seen
+    /// then.
     ///
-    /// It is the history of all holders, and it goes on from all that each of these had seen. No place is held by two of them. No word and no
-    /// record is changed, and chains stay. It is never refused. Four loads a holder and two more, O(holders). It waits for nobody.
+    /// It is the history of all holders, and it continues what each of these had seen. No place is held by two of them. It changes no word
+    /// and no record, and chains stay. It is never refused. Four loads for each holder and two more, O(holders). It waits for nobody.
     pub fn audit<B: Allocator>(&self, holders: &mut Vec<Holder, B>)
         requires made { All (λ h. IsOf self.now h) holders.old.items }
         ensures made { All (λ h. IsOf self.now h) holders.new.items }
@@ -237,7 +241,7 @@ impl<A: Allocator> Stacks<A> {
         ensures apart { NoneTwice (map party_of holders.new.items) }
     {
         let words = &self.table.shared;
-        // One load speaks of one seat, so all accounts go to one first.
+        // The contract of a load is about one seat, so all accounts are first moved to one.
         let mut all = words.load_new_seat::<Seated>(0).1;
         for i in 0..holders.len() {
             let account = self.first_of(&mut holders[i].seat);
@@ -250,7 +254,8 @@ impl<A: Allocator> Stacks<A> {
         }
     }
 
-    /// Claims `place`, if it is with nobody, and says whether it did. One compare-exchange, O(1), which waits for nobody.
+    /// Claims `place` and returns true, or returns false if the place is not free. One compare-exchange, O(1), which
+    /// waits for nobody.
     #[inline]
     pub fn claim(&self, holder: &mut Holder, place: Place) -> bool
         requires place { index_of place < places_of self.now }
@@ -266,7 +271,7 @@ impl<A: Allocator> Stacks<A> {
         found == 0
     }
 
-    /// Gives up `place`, which anybody may claim then. One store, O(1), which waits for nobody.
+    /// Releases `place`. Any holder may claim it then. One store, O(1), which waits for nobody.
     #[inline]
     pub fn release(&self, holder: &mut Holder, place: Place)
         requires place { index_of place < places_of self.now }
@@ -281,11 +286,12 @@ impl<A: Allocator> Stacks<A> {
         words.store::<Released>(&mut holder.seat, place.index(), 0);
     }
 
-    /// Whether the stack of that number is empty, at a moment no earlier than the last that the holder had seen. One load, O(1), which
-    /// waits for nobody.
+    /// Whether the stack with the given number is empty, at a moment no earlier than the last that the holder had seen. One load,
+    /// O(1), which waits for nobody.
     ///
-    /// The holder has then seen the history up to that moment. It is one of the call, but the contract says less: of a holder that has seen
-    /// nothing yet it may be any moment since the stacks were made. An [`Stacks::audit`] of all holders shows them all steps.
+    /// Afterwards the holder has seen the history up to that moment. The moment is during the call, but the contract states less: if the
+    /// holder has seen nothing yet, it may be any moment since the stacks were made. After a [`Stacks::audit`] of all holders, each of them
+    /// has seen all steps.
     #[inline]
     pub fn is_empty(&self, holder: &mut Holder, stack: usize) -> bool
         requires stack { stack < stacks_of self.now }
@@ -300,11 +306,11 @@ impl<A: Allocator> Stacks<A> {
         words.load::<Peeked>(&mut holder.seat, self.places + stack) == 1
     }
 
-    /// Puts `place` at the front of the stack of that number, and the holder then holds it no longer.
+    /// Pushes `place` to the front of the stack with the given number. The holder no longer holds it then.
     ///
     /// It requires that the holder holds the place, and that it has made fewer than 281,474,976,710,656 pushes and calls that take all. It is
-    /// never refused, takes no lock and waits for nobody. A load, and then a store and a compare-exchange a try: a try fails only if some
-    /// other holder's step on a head came between, so there is one try more than such steps at most.
+    /// never refused, takes no lock and waits for nobody. It makes one load, and then a store and a compare-exchange for each try. A try
+    /// fails only if another holder has changed a head in between, so there is at most one try more than such changes. O(1) a try.
     #[inline]
     pub fn push(&self, holder: &mut Holder, stack: usize, place: Place)
         requires stack { stack < stacks_of self.now }
@@ -320,10 +326,11 @@ impl<A: Allocator> Stacks<A> {
         self.push_linked(holder, stack, place, place);
     }
 
-    /// Puts a chain at the front of the stack of that number, as it is: its first place is then the stack's first. The holder holds none of it then.
+    /// Pushes a chain to the front of the stack with the given number, in its order: the chain's first place is the stack's first then. The holder
+    /// no longer holds its places.
     ///
-    /// It requires that `last` is the last place of the chain, which has one at least: the first that was linked, say. In all else it is as
-    /// [`Stacks::push`], with as many steps for any number of places.
+    /// It requires that the chain is not empty, and that `last` is its last place: for example the one that was linked first. Otherwise it
+    /// is as [`Stacks::push`], and takes as many steps, whatever the number of places. O(1) a try.
     #[inline]
     pub fn push_all(&self, holder: &mut Holder, stack: usize, chain: Chain, last: Place)
         requires stack { stack < stacks_of self.now }
@@ -339,7 +346,7 @@ impl<A: Allocator> Stacks<A> {
         self.push_linked(holder, stack, first, last);
     }
 
-    // Pushes the places from `front` to `back`, which are linked but for the last.
+    // Pushes the places from `front` to `back`; each except the last is linked to the next.
     #[inline]
     fn push_linked(&self, holder: &mut Holder, stack: usize, front: Place, back: Place)
         requires stack { stack < stacks_of self.now }
@@ -370,10 +377,11 @@ impl<A: Allocator> Stacks<A> {
         unreachable!()
     }
 
-    /// Takes all members of the stack of that number, the last pushed first, and leaves it empty. The holder then holds each.
+    /// Takes all members of the stack with the given number, the last pushed first, and leaves it empty. The holder holds
+    /// each of them then.
     ///
     /// It requires that the holder has made fewer than 281,474,976,710,656 pushes and calls that take all. One swap, O(1), which waits for
-    /// nobody. [`Stacks::next`] gives the members of the chain.
+    /// nobody. [`Stacks::next`] returns the members of the chain one by one.
     #[inline]
     pub fn take_all(&self, holder: &mut Holder, stack: usize) -> Chain
         requires stack { stack < stacks_of self.now }
@@ -393,9 +401,10 @@ impl<A: Allocator> Stacks<A> {
         }
     }
 
-    /// Links `place` at the front of a chain. One store, O(1).
+    /// Adds `place` at the front of a chain. One store, O(1).
     ///
-    /// It requires that the holder holds the place, and that the chain lacks it. It makes no step: no other holder sees a chain.
+    /// It requires that the holder holds the place, and that the place is not in the chain. It makes no step of the history,
+    /// since no other holder sees a chain.
     #[inline]
     pub fn link(&self, holder: &mut Holder, chain: &mut Chain, place: Place)
         requires place { index_of place < places_of self.now }
@@ -413,9 +422,10 @@ impl<A: Allocator> Stacks<A> {
         chain.first = Some(place);
     }
 
-    /// The first place of a chain, or `None`. The others are left in it, and the holder holds the place as before. One load, O(1).
+    /// Removes the first place from a chain and returns it, or `None` if the chain is empty. The holder still holds the place. One
+    /// load, O(1).
     ///
-    /// It requires that the chain is as it was: none of its places was given up or pushed in between.
+    /// It requires that the chain is intact: the holder has released or pushed none of its places.
     #[inline]
     pub fn next(&self, holder: &mut Holder, chain: &mut Chain) -> Option<Place>
         requires made { IsOf self.now holder.old }
@@ -433,9 +443,10 @@ impl<A: Allocator> Stacks<A> {
         Some(place)
     }
 
-    /// The chain turned round: of what was taken, the first that came is then the first. A load and a store a place, O(n).
+    /// Reverses the chain: if it was taken from a stack, the place that was pushed first comes first then. One load and
+    /// one store for each place, O(n).
     ///
-    /// The holder rewrites words of its own places, and makes no step.
+    /// The holder rewrites the words of its own places, and makes no step of the history.
     pub fn reversed(&self, holder: &mut Holder, chain: Chain) -> Chain
         requires made { IsOf self.now holder.old }
         requires shown { (s : List Place) × HasChain self.now holder.old chain s }

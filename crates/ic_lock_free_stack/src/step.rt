@@ -1,28 +1,28 @@
-//! What a holder does, and what its record keeps of it.
+//! The steps of a holder, and how its record stores them.
 
 use ic_unsafe_ref::Place;
 use std::collections::LinkedList;
 
-/// A step of a holder, with its answer.
+/// A step of a holder, with its result.
 ///
-/// No value of it is made. Records are seen by contracts alone.
+/// No value of this type is made. Only contracts see records.
 pub enum Step {
-    /// It asked to hold the place, and was told whether it does now.
+    /// It tried to claim the place; the result says whether it succeeded.
     Claim(Place, bool),
-    /// It gave up the place.
+    /// It released the place.
     Release(Place),
-    /// It put these places at the front of the stack of that number, in this order.
+    /// It pushed these places to the front of the stack with this number, in this order.
     Push(usize, LinkedList<Place>),
-    /// It took all members of the stack of that number, which were these.
+    /// It took all members of the stack with this number, which were these.
     TakeAll(usize, LinkedList<Place>),
 }
 
 /// The steps of one holder, in their order.
 pub type Record = LinkedList<Step>;
 
-/// A step of the holder of that name, in a history of all holders.
+/// A step of the holder with this name, in a history of all holders.
 ///
-/// No value of it is made.
+/// No value of this type is made.
 pub struct Entry {
     pub holder: usize,
     pub step: Step,

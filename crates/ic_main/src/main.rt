@@ -11,14 +11,14 @@ use std::str;
 use std::sync::Wait;
 use std::thread::Threads;
 
-// How many bytes are read at once.
+// The number of bytes that the program reads at once.
 const CAPACITY: usize = 65536;
 
-// How many bytes an argument has at most that the program knows.
+// The most bytes of any argument that the program knows.
 const LONGEST: usize = 32;
 
-/// The arguments after the program's name, whatever that is. Where one is not UTF-8, or longer than any that the program knows, a single
-/// empty word stands for them all.
+/// Returns the arguments after the program's name. If one of them is not UTF-8, or longer than any argument that the program knows, it returns a
+/// single empty word instead of all of them.
 fn arguments(rt: &(impl Env + AllocGlobal)) -> Result<Vec<String>, AllocError> {
     let mut words = Vec::new(rt.alloc());
     for number in 1..usize::MAX {
@@ -36,12 +36,12 @@ fn arguments(rt: &(impl Env + AllocGlobal)) -> Result<Vec<String>, AllocError> {
     Ok(words)
 }
 
-// What stands for arguments of which one is unknown.
+// The word that replaces all arguments if one of them is unknown.
 fn unknown(rt: &impl AllocGlobal) -> Result<Vec<String>, AllocError> {
     Ok(vec![in rt.alloc(); String::new(rt.alloc())]?)
 }
 
-/// Runs the program over the standard streams, and returns its status. The error is want of memory before the program begins.
+/// Runs the program over the standard streams, and returns its status. It returns an error if there is not enough memory to begin.
 fn run(
     rt: &(impl Env + Input + Print + Eprint + AllocGlobal + Threads + Wait + Sync),
     alloc: Global,

@@ -22,19 +22,19 @@ SinglyLinkOps A = PlainTable (OneWord Singly) A ⊤
 abbrev pub is_linked : SinglyLink → Bool
 is_linked = linked_by has_word
 
--- THE PLAIN TABLE of these links, as clauses of its callers see it
+-- THE PLAIN TABLE of these links, as contracts of its callers see it
 abbrev pub plain_table : {A : Type 0} → SinglyLinkOps A → Table SinglyLink
 plain_table links = table wide no_word links
 
--- a table of singly links represents s for the list with this first member
+-- a table of such links represents s for the list with this first member
 abbrev pub RepresentsList : Table SinglyLink → Front → List Place → Type 0
 RepresentsList = Represents (successor_of next_word_of has_word)
 
--- and some sequence
+-- the table represents some sequence for the list
 abbrev pub RepresentsSomeList : Table SinglyLink → Front → Type 0
 RepresentsSomeList = RepresentsSome (successor_of next_word_of has_word)
 
--- the plain table does; and it represents some sequence
+-- the plain table represents s, or some sequence, for the list
 abbrev pub PlainRepresents : {A : Type 0} → SinglyLinkOps A → Front → List Place → Type 0
 PlainRepresents links list s = RepresentsList (plain_table links) list s
 

@@ -1,4 +1,4 @@
--- Trees whose members stand in the order of their keys.
+-- Trees whose members are in the order of their keys.
 use Rattle.std.specs.Prelude.{⊤, Option, Bool, not, List, ◌∷◌, ◌++◌, map}
 use Rattle.std.specs.List.{filter}
 use Rattle.std.specs.declared.cmp.Ordering.{Ordering}
@@ -13,7 +13,7 @@ use Rattle.ic_rbtree.specs.Comparing.{compared, order_of, own_order}
 use Rattle.ic_rbtree.specs.PlainTrees.{node_by}
 use Rattle.ic_rbtree.specs.Tree.{adapter_of, root_of}
 
--- the link of a tree over words of 4 bytes, and what it says of the tree
+-- the link of a tree with words of 4 bytes, and the node that it stores
 abbrev pub NarrowTreeLink : Type 0
 NarrowTreeLink = Link ThreeNarrowWords ⊤
 
@@ -21,16 +21,16 @@ abbrev pub narrow_node_of : NarrowTreeLink → Node
 narrow_node_of = node_by node_in
 
 module _ {T K : Type 0} (cmp : K → K → Ordering) (key : T → K) where
-  -- a sequence is represented, an object stands at each of its members, and from one to the next their keys never fall
+  -- a sequence is represented, each of its members has an object, and no key is less than the one before it
   pub record RepresentsInOrder (shows : List Place → Type 0) (objects : Objects T) : Type 0 where
     pub placed : RepresentsPlaced shows objects
     pub sorted : IsSorted cmp (map key (values_at objects placed.members))
 
 -- `cmp`: how two keys compare. `key_of`: the key of an object, as an adapter finds it
 module _ {D T K : Type 0} (cmp : K → K → Ordering) (key_of : D → T → K) where
-  -- `node`: what an entry says of a tree
+  -- `node`: the node of a tree that an entry stores
   module _ {E : Type 0} (node : E → Node) where
-    -- THE TREE IS IN ORDER: its members stand in the order of their keys, as the table represents them
+    -- THE TREE IS IN ORDER: its members, as the table represents them, are in the order of their keys
     unfoldable pub IsInOrder : Table E → RBTree D (Option Place) → Objects T → Type 0
     IsInOrder t tree objects = RepresentsInOrder cmp (key_of (adapter_of tree)) (Represents node t (root_of tree)) objects
 
@@ -39,7 +39,7 @@ module _ {D T K : Type 0} (cmp : K → K → Ordering) (key_of : D → T → K) 
     StaysInOrder t old u new = (objects : Objects T) → IsInOrder t old objects → IsInOrder u new objects
 
   module _ (tree : RBTree D (Option Place)) (objects : Objects T) where
-    -- of a sequence, the members with this key, and those with this key or a greater one
+    -- the members of a sequence with this key, and those with this key or a greater one
     abbrev pub with_key : K → List Place → List Place
     with_key key s = filter (equal_at (compared (order_of cmp (key_of (adapter_of tree)) key) objects)) s
 
@@ -50,6 +50,6 @@ module _ {D T K : Type 0} (cmp : K → K → Ordering) (key_of : D → T → K) 
     abbrev pub is_before : Place → Place → Bool
     is_before p q = less_at (compared (own_order cmp (key_of (adapter_of tree)) objects p) objects) q
 
-    -- p put in by its key: after those whose keys are equal or less, before those whose keys are greater
+    -- p inserted by its key: after the members whose keys are equal or less, before those whose keys are greater
     abbrev pub put_by_key : List Place → Place → List Place
     put_by_key s p = filter (λ q. not (is_before p q)) s ++ p ∷ filter (is_before p) s

@@ -9,7 +9,7 @@ use Rattle.ic_link_ops.specs.Chains.{Ends}
 use Rattle.ic_link_ops.specs.OneWord.{no_word, has_word, next_word_of}
 use Rattle.ic_link_ops.specs.PlainTables.{table, linked_by}
 use Rattle.ic_link_ops.specs.Widths.{wide}
-use Rattle.ic_link_ops.specs.Readings.{XorJoins}
+use Rattle.ic_link_ops.specs.Readings.{HasXorNeighbors}
 use Rattle.ic_link_ops.specs.XorLinkedList.{Represents, RepresentsSome}
 
 -- the link of an XOR list, and a table of such links
@@ -23,19 +23,19 @@ XorLinkOps A = PlainTable (OneWord Xor) A ⊤
 abbrev pub is_linked : XorLink → Bool
 is_linked = linked_by has_word
 
--- THE PLAIN TABLE of these links, as clauses of its callers see it
+-- THE PLAIN TABLE of these links, as contracts of its callers see it
 abbrev pub plain_table : {A : Type 0} → XorLinkOps A → Table XorLink
 plain_table links = table wide no_word links
 
 -- a table of XOR links represents s for the list with these ends
 abbrev pub RepresentsList : Table XorLink → Ends → List Place → Type 0
-RepresentsList = Represents is_linked (XorJoins next_word_of)
+RepresentsList = Represents is_linked (HasXorNeighbors next_word_of)
 
--- and some sequence
+-- the table represents some sequence for the list
 abbrev pub RepresentsSomeList : Table XorLink → Ends → Type 0
-RepresentsSomeList = RepresentsSome is_linked (XorJoins next_word_of)
+RepresentsSomeList = RepresentsSome is_linked (HasXorNeighbors next_word_of)
 
--- the plain table does; and it represents some sequence
+-- the plain table represents s, or some sequence, for the list
 abbrev pub PlainRepresents : {A : Type 0} → XorLinkOps A → Ends → List Place → Type 0
 PlainRepresents links list s = RepresentsList (plain_table links) list s
 

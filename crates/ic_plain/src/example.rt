@@ -1,4 +1,4 @@
-//! Callers of these calls, with their contracts. None of them has a proof file.
+//! Examples of callers, with their contracts. None of them needs a proof file.
 //!
 //! ```text
 //! example::add(&mut recent, &mut links, object);
@@ -30,7 +30,7 @@ use ic_rbtree::{KeyAdapter, RBTree};
 use ic_unsafe_ref::{Objects, UnsafeRef};
 use std::alloc::Allocator;
 
-/// Adds an object that is not linked, before all others.
+/// Inserts an object that is not linked, before all others. O(1).
 pub fn add<T, A: Allocator>(list: &mut LinkedList<T>, links: &mut LinkOps<A>, object: UnsafeRef<T>)
     requires covered { IsCovered (plain_table links.old) object }
     requires unlinked { IsUnlinked is_linked (plain_table links.old) object }
@@ -40,7 +40,7 @@ pub fn add<T, A: Allocator>(list: &mut LinkedList<T>, links: &mut LinkOps<A>, ob
     linked_list::push_front(list, links, object);
 }
 
-/// Puts a member before all others, since it was used.
+/// Moves a member before all others, since it was used. O(1).
 pub fn reuse<T, A: Allocator>(
     list: &mut LinkedList<T>,
     links: &mut LinkOps<A>,
@@ -53,7 +53,7 @@ pub fn reuse<T, A: Allocator>(
     linked_list::move_to_front(list, links, object);
 }
 
-/// Takes a member off, and puts it in again after all others.
+/// Removes a member, and inserts it again after all others. O(1).
 pub fn requeue<T, A: Allocator>(
     list: &mut LinkedList<T>,
     links: &mut LinkOps<A>,
@@ -67,8 +67,8 @@ pub fn requeue<T, A: Allocator>(
     linked_list::push_back(list, links, UnsafeRef::new(object.place()));
 }
 
-/// Adds an object that is not linked, after all others, and takes the first member off, as a window slides over what comes. The links have
-/// words of 8 bytes or of 4.
+/// Inserts an object that is not linked after all others, and removes the first member, as a sliding window does. The links have words of
+/// 8 bytes or of 4. O(1).
 pub fn slide<T, L: LinkedListOps + AcceptsUnlinked>(
     window: &mut LinkedList<T>,
     links: &mut L,
@@ -86,16 +86,16 @@ pub fn slide<T, L: LinkedListOps + AcceptsUnlinked>(
     linked_list::pop_front(window, links)
 }
 
-/// What waits until it is due.
+/// A timer: an object that waits until it is due.
 #[derive(Drop)]
 pub struct Timer {
-    /// By which its owner knows it.
+    /// The number by which its owner knows the timer.
     pub number: u64,
-    /// From when on it is due.
+    /// The time from which on the timer is due.
     pub deadline: u64,
 }
 
-/// Says that the deadline of a timer is its key.
+/// The adapter whose key is the deadline of a timer.
 #[derive(Clone, Copy, Default)]
 pub struct ByDeadline;
 
@@ -112,7 +112,7 @@ impl KeyAdapter for ByDeadline {
     }
 }
 
-/// Adds a timer that is not linked, after those with the same deadline or an earlier one.
+/// Inserts a timer that is not linked, after the timers with the same deadline or an earlier one. O(log n).
 pub fn schedule<A: Allocator, B: Allocator>(
     timers: &mut RBTree<ByDeadline>,
     links: &mut TreeLinkOps<A>,
@@ -128,7 +128,7 @@ pub fn schedule<A: Allocator, B: Allocator>(
     rbtree::insert(timers, links, objects, timer);
 }
 
-/// The number of the first timer that is due at this time or later, `None` if all are due before it.
+/// The number of the first timer that is due at this time or later, `None` if all are due before it. O(log n).
 pub fn first_from<A: Allocator, B: Allocator>(
     timers: &RBTree<ByDeadline>,
     links: &TreeLinkOps<A>,
@@ -141,7 +141,7 @@ pub fn first_from<A: Allocator, B: Allocator>(
     Some(objects.get(place)?.number)
 }
 
-/// Takes a timer off, and puts it in again after those with the same deadline.
+/// Removes a timer, and inserts it again after the timers with the same deadline. O(log n).
 pub fn reschedule<A: Allocator, B: Allocator>(
     timers: &mut RBTree<ByDeadline>,
     links: &mut TreeLinkOps<A>,

@@ -1,9 +1,9 @@
 //! The lists and the tree over plain tables, by calls that are not refused.
 //!
-//! A collection takes any table, and so its contracts speak of a link that may be refused. Here the table accepts each place that is not
-//! linked ([`AcceptsUnlinked`](ic_link_ops::AcceptsUnlinked)), and the object is not linked yet. Plain tables do so, whether their words have 8 bytes
-//! or 4. The contracts are a few clauses, and most callers need no proof file. A call by the name of the collection's own call is that call, and
-//! costs what that costs.
+//! A collection works over any table, so its contracts have to treat a link that the table refuses. The calls here require a table that accepts
+//! each place that is not linked ([`AcceptsUnlinked`](ic_link_ops::AcceptsUnlinked)), and an object that is not linked yet. Plain tables accept
+//! such places, whether their words have 8 bytes or 4. The contracts are a few clauses, and most callers need no proof file. A call with the name
+//! of the collection's own call does and costs the same.
 //!
 //! ```text
 //! use ic_plain::{linked_list, rbtree};
@@ -21,7 +21,7 @@ pub mod example;
 pub mod list;
 pub mod rbtree;
 
-// The calls on lists, by the name of each kind.
+// The calls on lists, under the name of each kind.
 pub use list as linked_list;
 pub use list as singly_linked_list;
 pub use list as xor_linked_list;

@@ -1,6 +1,7 @@
 //! Lists of every kind, over a table that accepts each place that is not linked, as a plain one does with words of 8 bytes or of 4.
 //!
-//! A call has the bounds of the collection's own call, so they say which kinds have it. For `list` you can also write the name of a kind.
+//! A call has the bounds of the collection's own call, and these determine which kinds have it. Instead of `list` you can also write the
+//! name of a kind.
 //!
 //! ```text
 //! let mut list: LinkedList<Job> = linked_list::new();
@@ -16,7 +17,7 @@ use ic_chain::{BidirectionalLinks, Chain, DoubleEnded, ForwardLinks, ListKind, N
 use ic_link_ops::{AcceptsUnlinked, LinkOps};
 use ic_unsafe_ref::{Place, UnsafeRef};
 
-/// A list with no members, for which every table represents the empty sequence. It takes no memory.
+/// A list with no members, for which every table represents the empty sequence. It takes no memory. O(1).
 #[inline]
 pub fn new<K: ListKind, T>() -> Chain<K, T>
     ensures empty { result ≡ empty_list K.kept }
@@ -57,7 +58,8 @@ pub fn last<K: DoubleEnded + ForwardLinks<L>, T, L: LinkOps>(
     list.last()
 }
 
-/// Puts the object before all others. It requires that its place is covered, and that it is not linked. O(1).
+/// Inserts the object before all others. It requires that the object's place is covered, and that the object is not
+/// linked. O(1).
 #[inline]
 pub fn push_front<K: ForwardLinks<L>, T, L: AcceptsUnlinked>(
     list: &mut Chain<K, T>,
@@ -77,7 +79,8 @@ pub fn push_front<K: ForwardLinks<L>, T, L: AcceptsUnlinked>(
     let _ = list.push_front(links, object); // proved: it is not linked
 }
 
-/// Puts the object after all others. It requires that its place is covered, and that it is not linked. O(1).
+/// Inserts the object after all others. It requires that the object's place is covered, and that the object is not
+/// linked. O(1).
 #[inline]
 pub fn push_back<K: DoubleEnded + ForwardLinks<L>, T, L: AcceptsUnlinked>(
     list: &mut Chain<K, T>,
@@ -97,7 +100,7 @@ pub fn push_back<K: DoubleEnded + ForwardLinks<L>, T, L: AcceptsUnlinked>(
     let _ = list.push_back(links, object); // proved: it is not linked
 }
 
-/// Takes the first member off and returns it, or `None` if the list is empty. O(1).
+/// Removes the first member and returns it, or `None` if the list is empty. O(1).
 #[inline]
 pub fn pop_front<K: ForwardLinks<L>, T, L: LinkOps>(
     list: &mut Chain<K, T>,
@@ -116,7 +119,7 @@ pub fn pop_front<K: ForwardLinks<L>, T, L: LinkOps>(
     list.pop_front(links)
 }
 
-/// Takes the last member off and returns it, or `None` if the list is empty. O(1).
+/// Removes the last member and returns it, or `None` if the list is empty. O(1).
 #[inline]
 pub fn pop_back<K: DoubleEnded + BidirectionalLinks<L>, T, L: LinkOps>(
     list: &mut Chain<K, T>,
@@ -135,7 +138,7 @@ pub fn pop_back<K: DoubleEnded + BidirectionalLinks<L>, T, L: LinkOps>(
     list.pop_back(links)
 }
 
-/// Takes the object off the list. It requires that it is a member. O(1).
+/// Removes the object from the list. It requires that the object is a member. O(1).
 #[inline]
 pub fn remove<K: NamesBoth<L>, T, L: LinkOps>(
     list: &mut Chain<K, T>,
@@ -153,7 +156,7 @@ pub fn remove<K: NamesBoth<L>, T, L: LinkOps>(
     list.remove(links, object);
 }
 
-/// Puts the object, which stays linked, before all others. It requires that it is a member. O(1).
+/// Moves the object before all others. It requires that the object is a member, which stays linked. O(1).
 #[inline]
 pub fn move_to_front<K: DoubleEnded + NamesBoth<L>, T, L: LinkOps>(
     list: &mut Chain<K, T>,
@@ -171,7 +174,7 @@ pub fn move_to_front<K: DoubleEnded + NamesBoth<L>, T, L: LinkOps>(
     list.move_to_front(links, object);
 }
 
-/// Puts the object, which stays linked, after all others. It requires that it is a member. O(1).
+/// Moves the object after all others. It requires that the object is a member, which stays linked. O(1).
 #[inline]
 pub fn move_to_back<K: DoubleEnded + NamesBoth<L>, T, L: LinkOps>(
     list: &mut Chain<K, T>,

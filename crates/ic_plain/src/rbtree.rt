@@ -1,4 +1,4 @@
-//! Trees over a plain table of their links, of words of 8 bytes or of 4, whose members stand in the order of their keys.
+//! Trees over a plain table of their links, of words of 8 bytes or of 4, whose members are in the order of their keys.
 //!
 //! ```text
 //! let mut tree = rbtree::new(ByDeadline);
@@ -23,7 +23,7 @@ use ic_unsafe_ref::{Objects, Place, UnsafeRef};
 use std::alloc::Allocator;
 
 /// A tree with no members, in the order of the keys that the adapter finds, for which every table represents the empty sequence. It takes no
-/// memory.
+/// memory. O(1).
 #[inline]
 pub fn new<K: KeyAdapter>(adapter: K) -> RBTree<K>
     ensures empty { root_of result ≡ None }
@@ -63,7 +63,7 @@ pub fn last<K: KeyAdapter, L: RBTreeOps>(tree: &RBTree<K>, links: &L) -> Option<
     tree.last(links)
 }
 
-/// The place of the first member with this key, `None` if no member has it. It requires that the members stand in the order of their keys.
+/// The place of the first member with this key, `None` if no member has it. It requires that the members are in the order of their keys.
 /// O(log n).
 #[inline]
 pub fn find<K: KeyAdapter, L: RBTreeOps, B: Allocator>(
@@ -79,7 +79,7 @@ pub fn find<K: KeyAdapter, L: RBTreeOps, B: Allocator>(
     tree.find(links, objects, key).get_ptr()
 }
 
-/// The place of the first member with this key or a greater one, `None` if all keys are less. It requires that the members stand in the
+/// The place of the first member with this key or a greater one, `None` if all keys are less. It requires that the members are in the
 /// order of their keys. O(log n).
 #[inline]
 pub fn lower_bound<K: KeyAdapter, L: RBTreeOps, B: Allocator>(
@@ -116,8 +116,8 @@ pub fn prev<K: KeyAdapter, L: RBTreeOps>(tree: &RBTree<K>, links: &L, place: Pla
     tree.prev_of(links, &PlaceWord::of(Some(place))).get()
 }
 
-/// Puts the object in by its key, after the members with the same key or a lower one. It requires that its place is covered, that it is
-/// placed and not linked, and that the members stand in the order of their keys. O(log n).
+/// Inserts the object by its key, after the members with the same key or a lower one. It requires that the object is placed and not
+/// linked, that its place is covered, and that the members are in the order of their keys. O(log n).
 #[inline]
 pub fn insert<K: KeyAdapter, L: RBTreeOps + AcceptsUnlinked, B: Allocator>(
     tree: &mut RBTree<K>,
@@ -141,7 +141,7 @@ pub fn insert<K: KeyAdapter, L: RBTreeOps + AcceptsUnlinked, B: Allocator>(
     let _ = tree.insert(links, objects, object); // proved: it is not linked
 }
 
-/// Takes the object off the tree. It requires that it is a member. O(log n).
+/// Removes the object from the tree. It requires that the object is a member. O(log n).
 #[inline]
 pub fn remove<K: KeyAdapter, L: RBTreeOps>(
     tree: &mut RBTree<K>,
@@ -160,7 +160,7 @@ pub fn remove<K: KeyAdapter, L: RBTreeOps>(
     tree.remove(links, object);
 }
 
-/// Takes the first member with this key off and returns it, or `None` if no member has the key. It requires that the members stand in the
+/// Removes the first member with this key and returns it, or `None` if no member has the key. It requires that the members are in the
 /// order of their keys. O(log n).
 #[inline]
 pub fn remove_key<K: KeyAdapter, L: RBTreeOps, B: Allocator>(
@@ -186,7 +186,7 @@ pub fn remove_key<K: KeyAdapter, L: RBTreeOps, B: Allocator>(
     Some(object)
 }
 
-/// Takes the first member off and returns it, or `None` if the tree is empty. In a tree in order this member has the lowest key. O(log n).
+/// Removes the first member and returns it, or `None` if the tree is empty. In a tree in order this member has the lowest key. O(log n).
 #[inline]
 pub fn pop_front<K: KeyAdapter, L: RBTreeOps>(
     tree: &mut RBTree<K>,
@@ -207,7 +207,7 @@ pub fn pop_front<K: KeyAdapter, L: RBTreeOps>(
     Some(object)
 }
 
-/// Takes the last member off and returns it, or `None` if the tree is empty. In a tree in order this member has the highest key. O(log n).
+/// Removes the last member and returns it, or `None` if the tree is empty. In a tree in order this member has the highest key. O(log n).
 #[inline]
 pub fn pop_back<K: KeyAdapter, L: RBTreeOps>(
     tree: &mut RBTree<K>,

@@ -1,4 +1,4 @@
-//! Objects with the tables of their links, which have room for all of them.
+//! Objects together with the tables of their links. The tables have room for all of them.
 //!
 //! ```text
 //! let mut pool = Pool::new(rt.alloc(), linked_list::LinkOps::new(rt.alloc()));

@@ -7,26 +7,26 @@
 //! let object = pool.place(other)?; // in a function that returns the same error, or an `anyhow::Result`
 //! ```
 //!
-//! It is a `std::error::Error` where the values can be printed and dropped.
+//! It is a `std::error::Error` if the values can be printed and dropped.
 
 ghost use Rattle.std.specs.Prelude.{◌≡◌, Some};
 
 use std::error::Error;
 use std::fmt;
 
-/// A value that was not placed. It comes back.
+/// Why a value was not placed. The error returns the value.
 #[derive(Debug, Drop)]
 pub enum PlaceError<T> {
     /// There is no place left for another object.
     NoPlaceLeft(T),
-    /// There was no memory, for the object or for its links.
+    /// There was no memory for the object or for its links.
     OutOfMemory(T),
 }
 
 impl<T> PlaceError<T> {
     ghost use Rattle.ic_pool.specs.Refusals.{value_of};
 
-    /// The value that was refused.
+    /// The value that was refused. O(1).
     #[inline]
     pub fn into_value(self) -> T
         ensures { result ≡ value_of self }

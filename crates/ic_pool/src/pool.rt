@@ -20,13 +20,13 @@ use std::alloc::{Allocator, Global};
 /// Objects with the tables of their links.
 ///
 /// Both fields are public, since a call of a collection borrows a table, or a table and the objects:
-/// `list.push_back(&mut pool.links, ..)`, `tree.insert(&mut pool.links.0, &pool.objects, ..)`. A loop keeps `IsPooled`
-/// of them (specs/Pooled.antt).
+/// `list.push_back(&mut pool.links, ..)`, `tree.insert(&mut pool.links.0, &pool.objects, ..)`. The invariant of a loop
+/// over a pool is `IsPooled` (specs/Pooled.antt).
 #[derive(Drop)]
 pub struct Pool<T, L, A: Allocator = Global> {
-    /// The objects, each at its place.
+    /// The store of objects, each at its place.
     pub objects: Objects<T, A>,
-    /// The table of their links, or a pair of tables.
+    /// The table of the objects' links, or a pair of tables.
     pub links: L,
 }
 
@@ -35,7 +35,7 @@ impl<T, L: Tables, A: Allocator> Pool<T, L, A> {
     ghost use Rattle.std.specs.Option.{option_copied_mut};
     ghost use Rattle.ic_pool.specs.Lends.{LendsPooled};
 
-    /// A pool of no objects, with these tables. It takes no memory.
+    /// An empty pool with these tables. It takes no memory. O(1).
     pub fn new(alloc: A, links: L) -> Pool<T, L, A>
         ensures empty { result.objects.values ≡ map.empty }
         ensures vacant { (place : Place) → object_at result.objects place ≡ None }
@@ -48,13 +48,14 @@ impl<T, L: Tables, A: Allocator> Pool<T, L, A> {
         }
     }
 
-    /// Places `value`, and makes room for its links first. O(1), and it takes memory only where a table or the objects
-    /// grow.
+    /// Places `value`, after making room for its links. O(1), and it takes memory only if a table or the objects grow.
     ///
-    /// Where it is refused the value comes back, and no object and no link has changed: with `NoPlaceLeft` exactly if
-    /// no place is left, of 4,294,967,296, and else with `OutOfMemory`, also where a table of 4-byte words has no name left.
+    /// If it is refused, the error returns the value, and no object and no link has changed. The error is `NoPlaceLeft`
+    /// exactly if all 4,294,967,296 places are in use. Otherwise it is `OutOfMemory`, also if a table of 4-byte words can
+    /// name no further place.
     ///
-    /// Over a plain table `keeps` is `Grows`. Its `entries` says that each link is as it was, which lemmas on lists ask for.
+    /// Over a plain table, `keeps` is `Grows`. Its field `entries` states that each link is as it was, which lemmas on lists
+    /// require.
     pub fn place(&mut self, value: T) -> Result<UnsafeRef<T>, PlaceError<T>>
         ensures placed { IfOk result (λ object. Places self.old.objects self.new.objects object value) }
         ensures covered { IfOk result (λ object. L.Covers self.new.links object) }
@@ -74,9 +75,10 @@ impl<T, L: Tables, A: Allocator> Pool<T, L, A> {
         }
     }
 
-    /// Takes the object out. Its place is vacant then, and may be given again. O(1), and it takes no memory.
+    /// Removes the object from the pool and returns it. Its place is vacant then, and a later object may get it. O(1),
+    /// and it takes no memory.
     ///
-    /// It requires that the object is placed, and linked in no table.
+    /// It requires that the object is placed, and that no table links it.
     pub fn remove(&mut self, object: UnsafeRef<T>) -> T
         requires placed { is_placed self.old.objects object ≡ true }
         requires free { L.IsFree self.old.links object }
@@ -87,7 +89,7 @@ impl<T, L: Tables, A: Allocator> Pool<T, L, A> {
         object.into_box(&mut self.objects)
     }
 
-    /// The object, if one stands at its place. O(1).
+    /// The object at the reference's place, `None` if the place is vacant. O(1).
     #[inline]
     pub fn get(&self, object: &UnsafeRef<T>) -> Option<&T>
         ensures { option_copied result ≡ object_at self.now.objects object.now }
@@ -95,9 +97,9 @@ impl<T, L: Tables, A: Allocator> Pool<T, L, A> {
         self.objects.get(object.place())
     }
 
-    /// The object to be changed, if one stands at its place. O(1).
+    /// A mutable reference to the object at the reference's place, `None` if the place is vacant. O(1).
     ///
-    /// What is left after the reference when it ends stands there then, and nothing else has changed.
+    /// When the borrow ends, the object there is the last value written through it, and nothing else has changed.
     #[inline]
     pub fn get_mut(&mut self, object: &UnsafeRef<T>) -> Option<&mut T>
         ensures* writes_back { sem 𝓛 (LendsPooled T.row L.row A.row A.Allocator self.entry object.now result) }
@@ -106,7 +108,7 @@ impl<T, L: Tables, A: Allocator> Pool<T, L, A> {
         self.objects.get_mut(object.place())
     }
 
-    /// Whether an object stands at its place. O(1).
+    /// Whether there is an object at the reference's place. O(1).
     #[inline]
     pub fn is_placed(&self, object: &UnsafeRef<T>) -> bool
         ensures { result ≡ is_placed self.now.objects object.now }
@@ -114,7 +116,7 @@ impl<T, L: Tables, A: Allocator> Pool<T, L, A> {
         self.objects.is_placed(object.place())
     }
 
-    /// How many objects there are.
+    /// The number of objects that are placed. O(1).
     #[inline]
     pub fn len(&self) -> usize
         ensures { result ≡ map.len self.now.objects.values }

@@ -14,32 +14,33 @@ use std::cmp::min;
 
 /// Tables of links that grow together: a plain table, or a pair of such tables.
 pub trait Tables {
-    // How many places are covered at most.
+    // The greatest number of places that can be covered.
     ghost most: { ℕ };
 
     // THE PLACE HAS ROOM for its link in each table.
     ghost Covers: { Self → Place → Type 0 };
 
-    // THE PLACE IS LINKED in none of them.
+    // NO TABLE LINKS THE PLACE.
     ghost IsFree: { Self → Place → Type 0 };
 
-    // EACH ENTRY STAYS as it was, and what was covered is covered. The tables may have grown.
+    // EACH ENTRY STAYS as it was, and each place that was covered still is. The tables may have grown.
     ghost Keeps: { Self → Self → Type 0 };
 
-    /// How many places are covered at most: 4,294,967,296, or 536,870,911 if one of the tables has words of 4 bytes.
+    /// The greatest number of places that can be covered: 4,294,967,296, or 536,870,911 if one of the tables has words
+    /// of 4 bytes.
     fn most_places() -> usize
         ensures { result ≡ most };
 
     /// Covers the first `count` places in each table.
     ///
-    /// It is refused above so many places, and where no memory is found. Then the first of two tables may have
-    /// grown. Each link stays as it was. At most one request for memory a table.
+    /// It is refused if `count` is above [`most_places`](Self::most_places), or if there is no memory. Then the first
+    /// of two tables may have grown. Each link stays as it was. At most one request for memory for each table.
     fn cover(&mut self, count: usize) -> Result<(), CoverError>
         ensures too_many { (result ≡ Err CoverError.TooManyPlaces) ↔ most < count }
         ensures covers { OnOk result ((place : Place) → index_of place < count → Covers self.new place) }
         ensures keeps { Keeps self.old self.new };
 
-    // The laws: what is kept has its room, and is as free as it was; tables that stay are kept.
+    // The laws: tables that are kept have the same room, and link the same places; tables that do not change are kept.
     ghost keeps_room: { (old new : Self) (place : Place) → Keeps old new → Covers old place → Covers new place };
 
     ghost keeps_free: { (old new : Self) (place : Place) → Keeps old new → IsFree old place → IsFree new place };
@@ -78,7 +79,7 @@ impl<W: Words, A: Allocator, V: LinkValue> Tables for PlainTable<W, A, V> {
     ghost keeps_itself = { λ tables. grows_itself (table_beside W.width W.unlinked V.initial V.printed tables) };
 }
 
-/// Two tables, or pairs of tables: an object has a link in each.
+/// A pair of tables, or of such pairs. An object has a link in each table.
 impl<L: Tables, M: Tables> Tables for (L, M) {
     ghost most = { min L.most M.most };
 

@@ -266,15 +266,15 @@ stop_first text stop read before w output some none count how =
 -- THE FIRST LINE OF A TEXT was answered: it has no words, or it is a call
 pub empty_first : (text rest : List ℕ) (read before : ℕ) (w : Family OwnKey ℕ) (output : Option (List ℕ)) → 0 < length text → said_in (line_in text) ≡ Empty → rest ≡ after_line text → read ≡ before + 1
     → AnsweredFirst (Some (lines text)) (λ count others. (read ≡ before + count) × (others ≡ lines rest)) w w output output
-empty_first text rest read before w output some empty behind count =
+empty_first text rest read before w output some empty after count =
     one_first (line_in text) (lines (after_line text)) (lines text) (λ count others. (read ≡ before + count) × (others ≡ lines rest)) w w output output
-    (text_lines text some) (empty_answered (line_in text) w output empty) (count, ap lines (sym behind))
+    (text_lines text some) (empty_answered (line_in text) w output empty) (count, ap lines (sym after))
 
 pub call_first : (text rest : List ℕ) (command : Command ℕ ℕ) (read before : ℕ) (old new : Family OwnKey ℕ) (output now : List ℕ) → 0 < length text → said_in (line_in text) ≡ Call command → rest ≡ after_line text → read ≡ before + 1
     → AnswersCall command old new output now → AnsweredFirst (Some (lines text)) (λ count others. (read ≡ before + count) × (others ≡ lines rest)) old new (Some output) (Some now)
-call_first text rest command read before old new output now some call behind count a =
+call_first text rest command read before old new output now some call after count a =
     one_first (line_in text) (lines (after_line text)) (lines text) (λ count others. (read ≡ before + count) × (others ≡ lines rest)) old new (Some output) (Some now)
-    (text_lines text some) (call_answered (line_in text) command old new output now call a) (count, ap lines (sym behind))
+    (text_lines text some) (call_answered (line_in text) command old new output now call a) (count, ap lines (sym after))
 
 -- NO LINE WAS ANSWERED, and so many were read
 pub reading_first : (all : Option (List (List ℕ))) (before : ℕ) (w : Family OwnKey ℕ) (output : Option (List ℕ)) → AnsweredFirst all (λ count others. before ≡ before + count) w w output output

@@ -15,7 +15,7 @@ Entry = List ℕ × (List (List ℕ) → Option (Command ℕ ℕ))
 pub is_call : (name : List ℕ) (read : List (List ℕ) → Option (Command ℕ ℕ)) (text : List ℕ) (command : Command ℕ ℕ) (rest : List ℕ)
     → IsCall name read text command rest → named calls (without_last name) ≡ Some read → (command_in (words_in text) ≡ Some command) × (rest ≡ after_line text)
 unfolding command_in
-is_call name read text command rest is entry = (ap (command_among calls) is.are ∙ ap (λ o. option_and_then (λ r. r is.words) o) entry ∙ is.said, is.behind)
+is_call name read text command rest is entry = (ap (command_among calls) is.are ∙ ap (λ o. option_and_then (λ r. r is.words) o) entry ∙ is.said, is.after)
 
 -- no entry of that name, and no words that it reads
 among_one : (entry : Entry) (entries : List Entry) (w : List ℕ) (ws : List (List ℕ))

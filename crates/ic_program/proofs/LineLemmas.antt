@@ -30,4 +30,4 @@ says_none text start is some none =
     at (w ∷ ws) o some none = sym (ap (said_by (w ∷ ws)) none)
 
 pub after_same : (text start rest : List ℕ) → start ≡ after_spaces text → rest ≡ after_line start → rest ≡ after_line text
-after_same text start rest is behind = behind ∙ ap after_line is ∙ after_line_spaces text
+after_same text start rest is after = after ∙ ap after_line is ∙ after_line_spaces text

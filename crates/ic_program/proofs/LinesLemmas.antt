@@ -109,12 +109,12 @@ starts [] qs other some is = some (cc)
 starts (y ∷ ys) qs other some is = starts_more y ys qs other is
 
 one_more : (x : ℕ) (xs : List ℕ) → (x == 10) ≡ false → begins_with 10 xs ≡ false → FirstLine xs → FirstLine (x ∷ xs)
-one_more x xs not other (last p is line behind) =
+one_more x xs not other (last p is line after) =
     let goes : ends_line (x ∷ xs) ≡ false = or_from _ _ not (and_right _ _ other) in
-    last (x ∷ p) (pieces_more x xs not ∙ ap (onto_first x) is) (line_more x xs goes ∙ ap (λ l. x ∷ l) line) (cond-false _ _ _ not ∙ behind)
-one_more x xs not other (more p rest is line behind) =
+    last (x ∷ p) (pieces_more x xs not ∙ ap (onto_first x) is) (line_more x xs goes ∙ ap (λ l. x ∷ l) line) (cond-false _ _ _ not ∙ after)
+one_more x xs not other (more p rest is line after) =
     let goes : ends_line (x ∷ xs) ≡ false = or_from _ _ not (and_right _ _ other) in
-    more (x ∷ p) rest (pieces_more x xs not ∙ ap (onto_first x) is) (line_more x xs goes ∙ ap (λ l. x ∷ l) line ∙ sym (at p is)) (cond-false _ _ _ not ∙ behind)
+    more (x ∷ p) rest (pieces_more x xs not ∙ ap (onto_first x) is) (line_more x xs goes ∙ ap (λ l. x ∷ l) line ∙ sym (at p is)) (cond-false _ _ _ not ∙ after)
   where
     at : (p : List ℕ) → pieces xs ≡ p ∷ pieces rest → strip_carriage_return (x ∷ p) ≡ x ∷ strip_carriage_return p
     at [] is = absurd (starts xs (pieces rest) other (no_pieces (pieces rest) (has_first rest)) is)
@@ -137,14 +137,14 @@ unfolding pieces
 first_line [] = last [] refl refl refl
 first_line (x ∷ xs) = at (x == 10) refl xs (first_line xs)
   where
-    behind : (xs : List ℕ) → (x == 10) ≡ false → FirstLine xs → (b : Bool) → begins_with 10 xs ≡ b → FirstLine (x ∷ xs)
-    behind xs not others false other = one_more x xs not other others
-    behind [] not others true feed = absurd (cc (feed))
-    behind (y ∷ ys) not others true feed = last_byte x y ys not feed
+    after : (xs : List ℕ) → (x == 10) ≡ false → FirstLine xs → (b : Bool) → begins_with 10 xs ≡ b → FirstLine (x ∷ xs)
+    after xs not others false other = one_more x xs not other others
+    after [] not others true feed = absurd (cc (feed))
+    after (y ∷ ys) not others true feed = last_byte x y ys not feed
 
     at : (b : Bool) → (x == 10) ≡ b → (xs : List ℕ) → FirstLine xs → FirstLine (x ∷ xs)
     at true feed xs others = more [] xs (pieces_feed x xs feed) (line_end (x ∷ xs) (or_left _ _ feed)) (cond-true _ _ _ feed)
-    at false not xs others = behind xs not others (begins_with 10 xs) refl
+    at false not xs others = after xs not others (begins_with 10 xs) refl
 
 -- THE LINES OF A TEXT are the first one and those after it
 pub lines_first : (x : ℕ) (xs : List ℕ) → lines (x ∷ xs) ≡ line_in (x ∷ xs) ∷ lines (after_line (x ∷ xs))
@@ -158,12 +158,12 @@ lines_first x xs = at (first_line (x ∷ xs))
     ])
     whole (y ∷ ys) is = let some : (length (y ∷ ys) == 0) ≡ false = ne_eqb (length (y ∷ ys)) 0 (λ e. omega (arith, e)) in cond-false _ _ _ some
 
-    behind : (p rest : List ℕ) → First (pieces rest) → lines_of_parts (p ∷ pieces rest) ≡ strip_carriage_return p ∷ lines_of_parts (pieces rest)
-    behind p rest (first q qs is) = ap (λ (l : List (List ℕ)). lines_of_parts (p ∷ l)) is ∙ sym (ap (λ (l : List (List ℕ)). strip_carriage_return p ∷ lines_of_parts l) is)
+    after : (p rest : List ℕ) → First (pieces rest) → lines_of_parts (p ∷ pieces rest) ≡ strip_carriage_return p ∷ lines_of_parts (pieces rest)
+    after p rest (first q qs is) = ap (λ (l : List (List ℕ)). lines_of_parts (p ∷ l)) is ∙ sym (ap (λ (l : List (List ℕ)). strip_carriage_return p ∷ lines_of_parts l) is)
 
     at : FirstLine (x ∷ xs) → lines (x ∷ xs) ≡ line_in (x ∷ xs) ∷ lines (after_line (x ∷ xs))
     at (last p is line end) = ap lines_of_parts is ∙ whole p is ∙ sym (ap₂ (λ (l : List ℕ) (t : List ℕ). l ∷ lines t) line end)
-    at (more p rest is line end) = ap lines_of_parts is ∙ behind p rest (has_first rest) ∙ sym (ap₂ (λ (l : List ℕ) (t : List ℕ). l ∷ lines t) line end)
+    at (more p rest is line end) = ap lines_of_parts is ∙ after p rest (has_first rest) ∙ sym (ap₂ (λ (l : List ℕ) (t : List ℕ). l ∷ lines t) line end)
 
 pub text_lines : (text : List ℕ) → 0 < length text → lines text ≡ line_in text ∷ lines (after_line text)
 text_lines [] some = absurd (omega (arith, some))

@@ -71,15 +71,15 @@ module _ (text name : List ℕ) (n : ℕ) (long : length name ≡ n) (within : n
   short_name low high first last =
       begins text name n long within (λ k here. elim (cases_lt k 4) [
         | inl before ↦ alike_at text name 0 4 k first (omega arith) (omega (arith, before))
-        | inr behind ↦ alike_at text name (n - 4) 4 k last (omega (arith, behind, high)) (omega (arith, here, low))
+        | inr after ↦ alike_at text name (n - 4) 4 k last (omega (arith, after, high)) (omega (arith, here, low))
       ])
 
   pub long_name : 8 ≤ n → n ≤ 24 → Alike text name 0 8 → (16 < n → Alike text name 8 8) → Alike text name (n - 8) 8 → take n text ≡ name
   long_name low high first mid last =
       begins text name n long within (λ k here. elim (cases_lt k 8) [
         | inl before ↦ alike_at text name 0 8 k first (omega arith) (omega (arith, before))
-        | inr behind ↦ elim (cases_lt k (n - 8)) [
-          | inl between ↦ alike_at text name 8 8 k (mid (omega (arith, behind, between))) behind (omega (arith, between, high))
+        | inr after ↦ elim (cases_lt k (n - 8)) [
+          | inl between ↦ alike_at text name 8 8 k (mid (omega (arith, after, between))) after (omega (arith, between, high))
           | inr last_part ↦ alike_at text name (n - 8) 8 k last last_part (omega (arith, here, low))
         ]
       ])

@@ -47,7 +47,7 @@ no_first {A} says word others is = at (says word) refl is
 -- a word was read, and says that, or does not
 pub word_says : {A : Type 0} (says : List ℕ → Option A) (text word rest : List ℕ) (x : A) → ReadsWord text word rest → says [] ≡ None → says word ≡ Some x → Reads says text x rest
 word_says says text [] rest x reads none is = absurd (cc (none, is))
-word_says says text (c ∷ cs) rest x reads none is = record { first = ap (first_says says) reads.words ∙ first_is says (c ∷ cs) (words_in rest) x is; behind = reads.behind }
+word_says says text (c ∷ cs) rest x reads none is = record { first = ap (first_says says) reads.words ∙ first_is says (c ∷ cs) (words_in rest) x is; after = reads.after }
 
 pub word_says_not : {A : Type 0} (says : List ℕ → Option A) (text word rest : List ℕ) → ReadsWord text word rest → says word ≡ None → first_says says (words_in text) ≡ None
 word_says_not says text [] rest reads is = ap (first_says says) (reads.none refl)
@@ -77,7 +77,7 @@ module _ {A B : Type 0} (says : List ℕ → Option A) (f : A → Option B) wher
   pub then_reads : (text rest : List ℕ) (x : A) (y : B) → Reads says text x rest → f x ≡ Some y → Reads then_says text y rest
   then_reads text rest x y reads is =
       let p = first_parts says (words_in text) x (words_in rest) reads.first in
-      record { first = ap (first_says then_says) p.1 ∙ first_is then_says p.0 (words_in rest) y (ap (option_and_then f) p.2 ∙ is); behind = reads.behind }
+      record { first = ap (first_says then_says) p.1 ∙ first_is then_says p.0 (words_in rest) y (ap (option_and_then f) p.2 ∙ is); after = reads.after }
 
   pub then_not : (text rest : List ℕ) (x : A) → Reads says text x rest → f x ≡ None → first_says then_says (words_in text) ≡ None
   then_not text rest x reads is =
@@ -119,11 +119,11 @@ small_reads text rest number digits is some few rest_is stops =
     let whole : text ≡ ds ++ rest = sym (take-append-drop (prefix_len is_ascii_digit text) text) ∙ ap (λ (r : List ℕ). ds ++ r) (ap (λ n. drop n text) (sym (is.1 ∙ length-prefix_len is_ascii_digit text)) ∙ sym rest_is) in
     let parts = digits_word ds rest all stops in
     let word : word_in text ≡ ds = ap word_in whole ∙ parts.0 in
-    let behind : after_word text ≡ rest = ap after_word whole ∙ parts.1 in
-    let words : words_in text ≡ before_words ds (words_in rest) = words_are text ∙ ap₂ (λ a b. before_words a (words_in b)) word behind in
+    let after : after_word text ≡ rest = ap after_word whole ∙ parts.1 in
+    let words : words_in text ≡ before_words ds (words_in rest) = words_are text ∙ ap₂ (λ a b. before_words a (words_in b)) word after in
     record {
       first = ap (first_says number_in) words ∙ first_of ds rest number all (omega (arith, some, is.1)) (omega (arith, few, is.1)) is.0;
-      behind = ap after_line (sym behind) ∙ after_line_word text;
+      after = ap after_line (sym after) ∙ after_line_word text;
     }
   where
     first_of : (ds rest : List ℕ) (number : ℕ) → AllDigits 10 ds → 1 ≤ length ds → length ds ≤ 4 → number ≡ digits_value 10 ds
@@ -148,12 +148,12 @@ named_word (x ∷ y ∷ ys) (c ∷ text) is same =
     (word_more c text goes ∙ ap₂ (λ (d : ℕ) (ds : List ℕ). d ∷ ds) here others.0, after_more c text goes ∙ others.1)
 
 pub name_read : (name text rest : List ℕ) → IsTrue (is_name name) → 4 ≤ length name → take (length name) text ≡ name → rest ≡ drop (length name) text → ReadsName name text rest
-name_read [] text rest is long same behind = absurd (omega (arith, long))
-name_read (x ∷ []) text rest is long same behind = absurd (omega (arith, long))
-name_read (x ∷ y ∷ ys) text rest is long same behind =
+name_read [] text rest is long same after = absurd (omega (arith, long))
+name_read (x ∷ []) text rest is long same after = absurd (omega (arith, long))
+name_read (x ∷ y ∷ ys) text rest is long same after =
     let w = named_word (x ∷ y ∷ ys) text is same in record {
-      words = words_are text ∙ ap₂ (λ a b. before_words a (words_in b)) w.0 w.1 ∙ ap (λ r. (x ∷ without_last (y ∷ ys)) ∷ words_in r) (sym behind);
-      behind = ap after_line behind ∙ ap after_line (sym w.1) ∙ after_line_word text;
+      words = words_are text ∙ ap₂ (λ a b. before_words a (words_in b)) w.0 w.1 ∙ ap (λ r. (x ∷ without_last (y ∷ ys)) ∷ words_in r) (sym after);
+      after = ap after_line after ∙ ap after_line (sym w.1) ∙ after_line_word text;
     }
 
 -- a line that has the name for its first word has no other word, unless a space is after the name
@@ -175,7 +175,7 @@ space_after name text rest is space same =
     let whole : text ≡ name ++ rest = word_then_after text ∙ ap₂ (λ (a b : List ℕ). a ++ b) same space ∙ joined (without_last name) rest ∙ ap (λ (n : List ℕ). n ++ rest) (sym (name_is name is)) in
     ap (take (length name)) whole ∙ take_front name rest
 
-after_is : (name text behind : List ℕ) → is_name name ≡ true → take (length name) text ≢ name → word_in text ≡ without_last name → after_word text ≡ behind → ends_word behind ≡ true → words_in behind ≡ []
+after_is : (name text after : List ℕ) → is_name name ≡ true → take (length name) text ≢ name → word_in text ≡ without_last name → after_word text ≡ after → ends_word after ≡ true → words_in after ≡ []
 after_is name text [] is other same at stops = refl
 after_is name text (x ∷ xs) is other same at stops =
     elim (or_cases _ _ stops) [

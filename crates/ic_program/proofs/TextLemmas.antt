@@ -171,7 +171,7 @@ reads_word text start n start_is n_is =
     record {
       words = sym same ∙ words_are start ∙ sym (ap₂ (λ a b. before_words a (words_in b)) w r);
       none = λ none. sym same ∙ words_end start (word_or_end start (ap (begins_with 32) start_is ∙ no_space text) (sym w ∙ none));
-      behind = ap after_line r ∙ after_line_word start ∙ line;
+      after = ap after_line r ∙ after_line_word start ∙ line;
     }
 
 pub word_then_after : (text : List ℕ) → text ≡ word_in text ++ after_word text

@@ -1,4 +1,4 @@
--- THE GRAMMAR: which command a line is.
+-- THE GRAMMAR: which command a line stands for.
 use Rattle.std.specs.Prelude.{ℕ, ◌*◌, ◌+◌, ◌^◌, ◌&&◌, List, [], ◌∷◌, length, drop, filter, codes, Option, Some, None, option_map, option_and_then, nat_eq, nat_lt, nat_le, ◌==◌, if◌then◌else◌, bytes_eq}
 use Rattle.std.specs.List.{slice_split, starts_with}
 use Rattle.std.specs.Str.{all_ascii_digits}
@@ -22,29 +22,29 @@ use Rattle.ic_world.specs.declared.calls.insertion.Insertion.TheVariants.{Insert
 use Rattle.ic_program.specs.declared.line.Line.{Line}
 use Rattle.ic_program.specs.declared.line.Line.TheVariants.{Empty, Call, NoCommand}
 
--- THE WORDS OF A LINE stand between spaces, and empty ones are dropped
+-- THE WORDS OF A LINE are separated by spaces, and empty words are dropped
 abbrev pub words_of : List ℕ → List (List ℕ)
 words_of line = filter (λ word. nat_lt 0 (length word)) (slice_split (λ byte. byte == 32) line)
 
--- WHAT A WORD SAYS. A number: 1 to 20 decimal digits, of a value below 2^64
+-- WHAT A WORD MEANS. A number: 1 to 20 decimal digits with a value below 2^64
 abbrev pub number_in : List ℕ → Option ℕ
 number_in word =
     if all_ascii_digits word && nat_lt 0 (length word) && nat_le (length word) 20 && nat_lt (digits_value 10 word) (2 ^ 64)
     then Some (digits_value 10 word) else None
 
--- the place of an object: its number, which is below 2^32
+-- the place of an object: a number below 2^32
 abbrev pub nth_place : ℕ → Option Place
 nth_place index = if nat_lt index (2 ^ 32) then place_at (8 * (index + 1)) else None
 
 abbrev pub place_in : List ℕ → Option Place
 place_in word = option_and_then nth_place (number_in word)
 
--- what a name stands for, among some names
+-- the value of a name, in a list of names with their values
 abbrev pub named : {A : Type 0} → List (List ℕ × A) → List ℕ → Option A
 named [] word = None
 named (entry ∷ entries) word = if bytes_eq word entry.0 then Some entry.1 else named entries word
 
--- a kind
+-- the kind that a word names
 abbrev pub kind_in : List ℕ → Option Kind
 kind_in = named ((codes "singly", Singly) ∷ (codes "doubly", Doubly) ∷ (codes "xor", Xor) ∷ (codes "tree", Tree) ∷ [])
 
@@ -55,11 +55,11 @@ bound_in word =
     else if starts_with nat_eq word (codes "excluded:") then option_map Excluded (number_in (drop 9 word))
     else named ((codes "unbounded", Unbounded) ∷ []) word
 
--- a neighbor: an object, or `none` beyond an end
+-- a neighbor: an object, or `none` beyond an end of the list
 abbrev pub neighbor_in : List ℕ → Option (Option Place)
 neighbor_in word = if bytes_eq word (codes "none") then Some None else option_map Some (place_in word)
 
--- A CALL OF ONE ARGUMENT, OF TWO, OF THREE: so many words, each of which says its argument
+-- A CALL WITH ONE, TWO OR THREE ARGUMENTS: as many words, each of which means its argument
 abbrev pub one : {A : Type 0} → (List ℕ → Option A) → (A → Command ℕ ℕ) → List (List ℕ) → Option (Command ℕ ℕ)
 one a call (u ∷ []) = option_map call (a u)
 one a call _ = None
@@ -73,7 +73,7 @@ abbrev pub three : {A B C : Type 0} → (List ℕ → Option A) → (List ℕ �
 three a b c call (u ∷ v ∷ w ∷ []) = option_and_then (λ x. option_and_then (λ y. option_map (call x y) (c w)) (b v)) (a u)
 three a b c call _ = None
 
--- A CALL OF ONE COLLECTION: after the collection's number come no arguments, one, or two
+-- A CALL OF ONE COLLECTION: the collection's number, followed by no, one or two arguments
 abbrev pub on : OneCall ℕ → ℕ → Command ℕ ℕ
 on made c = call.On c made
 
@@ -83,7 +83,7 @@ on_with made c x = call.On c (made x)
 abbrev pub on_with_two : {A B : Type 0} → (A → B → OneCall ℕ) → ℕ → A → B → Command ℕ ℕ
 on_with_two made c x y = call.On c (made x y)
 
--- THE CALLS: the name of each, and what its arguments are
+-- THE CALLS: the name of each, and its arguments
 unfoldable pub calls : List (List ℕ × (List (List ℕ) → Option (Command ℕ ℕ)))
 calls =
     (codes "place", one number_in call.Place)
@@ -130,7 +130,7 @@ calls =
     ∷ (codes "force_unlink", two number_in place_in call.ForceUnlink)
     ∷ []
 
--- THE COMMAND THAT SOME WORDS ARE: the name of a call, and then its arguments
+-- THE COMMAND THAT WORDS STAND FOR: they are the name of a call, and then its arguments
 abbrev pub command_among : List (List ℕ × (List (List ℕ) → Option (Command ℕ ℕ))) → List (List ℕ) → Option (Command ℕ ℕ)
 command_among entries [] = None
 command_among entries (name ∷ words) = option_and_then (λ read. read words) (named entries name)
@@ -138,7 +138,7 @@ command_among entries (name ∷ words) = option_and_then (λ read. read words) (
 unfoldable pub command_in : List (List ℕ) → Option (Command ℕ ℕ)
 command_in words = command_among calls words
 
--- WHAT A LINE SAYS: nothing if it has no words, else a command or none
+-- WHAT A LINE MEANS: nothing if it has no words, or else a command, or no command
 abbrev pub said_by : List (List ℕ) → Option (Command ℕ ℕ) → Line
 said_by [] command = Empty
 said_by (name ∷ words) None = NoCommand
@@ -147,7 +147,7 @@ said_by (name ∷ words) (Some command) = Call command
 abbrev pub said_in : List ℕ → Line
 said_in line = said_by (words_of line) (command_in (words_of line))
 
--- the commands of several lines, in order: none, if one of them is no command
+-- the commands of several lines, in order, or none if a line is not a command
 abbrev pub before_others : Line → Option (List (Command ℕ ℕ)) → Option (List (Command ℕ ℕ))
 before_others Empty commands = commands
 before_others (Call command) commands = option_map (λ others. command ∷ others) commands

@@ -1,4 +1,4 @@
--- HOW FAR LINES WERE ANSWERED, by the functions under a run: so many of them, and what a fault leaves.
+-- HOW MANY LINES WERE ANSWERED, by the functions of which a run consists, and what remains after a fault.
 use Rattle.std.specs.Prelude.{◌≡◌, ℕ, ◌+◌, ◌++◌, Bool, true, false, cond, List, [], ◌∷◌, length, Option, Some, option_map, Result, Ok, Err, IsTrue, IfSome, MatchResult, ⊤}
 use Rattle.std.specs.Ordering.{nat_cmp}
 use Rattle.std.specs.Str.{IsUtf8}
@@ -20,14 +20,14 @@ use Rattle.ic_program.specs.Grammar.{said_in, commands_in}
 use Rattle.ic_program.specs.Printed.{line_of, lines_of, no_command_at}
 use Rattle.ic_program.specs.Played.{own_key, CutTo, IsRun, IsRunSoFar, NoneLeft, NoCommandLeft}
 
--- ONE CALL WAS ANSWERED: it was lawful, and the bytes grew by the line of its reply
+-- ONE CALL WAS ANSWERED: it was lawful, and the line of its reply was appended to the bytes
 pub record AnswersCall (command : Command ℕ ℕ) (old new : Family OwnKey ℕ) (output now : List ℕ) : Type 0 where
   pub reply : Reply
   pub lawful : IsLawful nat_cmp own_key old command reply new
   pub line : now ≡ output ++ line_of reply
 
--- LINES WERE ANSWERED: the commands that they say, each of them lawful, led from one family to another, and the known bytes grew by the lines of
--- their replies
+-- LINES WERE ANSWERED: their commands, each of them lawful, led from one family to another, and the lines of their replies were appended to the known
+-- bytes
 pub record Answered (answered : List (List ℕ)) (old new : Family OwnKey ℕ) (output now : Option (List ℕ)) : Type 0 where
   pub commands : List (Command ℕ ℕ)
   pub said : commands_in answered ≡ Some commands
@@ -35,14 +35,14 @@ pub record Answered (answered : List (List ℕ)) (old new : Family OwnKey ℕ) (
   pub lawful : AreLawful nat_cmp own_key old commands replies new
   pub printed : Appends output now (lines_of replies)
 
--- THE FIRST OF SOME LINES WERE ANSWERED, so many, and what is left of them is so. Of lines that are not known nothing is said
+-- THE FIRST OF SOME LINES WERE ANSWERED, and `IsLeft` holds of their number and of the other lines. If the lines are not known, nothing is stated
 pub record AnsweredFirst (all : Option (List (List ℕ))) (IsLeft : ℕ → List (List ℕ) → Type 0)
     (old new : Family OwnKey ℕ) (output now : Option (List ℕ)) : Type 0 where
   pub answered : List (List ℕ)
   pub is : Answered answered old new output now
   pub left : IfSome all (λ ls. (others : List (List ℕ)) × (ls ≡ answered ++ others) × IsLeft (length answered) others)
 
--- THE FIRST OF SOME LINES WERE ANSWERED, BUT what is known of the answers is cut short
+-- THE FIRST OF SOME LINES WERE ANSWERED, BUT only the beginning of the answers is known
 pub record AnsweredShort (all : Option (List (List ℕ))) (old : Family OwnKey ℕ) (output now : Option (List ℕ)) : Type 0 where
   pub answered : List (List ℕ)
   pub new : Family OwnKey ℕ
@@ -51,7 +51,7 @@ pub record AnsweredShort (all : Option (List (List ℕ))) (old : Family OwnKey �
   pub cut : CutTo whole now
   pub left : IfSome all (λ ls. (others : List (List ℕ)) × (ls ≡ answered ++ others))
 
--- the next line has that number, counted from 1, and is not UTF-8
+-- the next line has this number, counted from 1, and is not UTF-8
 abbrev pub NotTextLeft : ℕ → ℕ → List (List ℕ) → Type 0
 NotTextLeft number count [] = ⊥
 NotTextLeft number count (line ∷ others) = (number ≡ count + 1) × (said_in line ≡ NoLine) × ¬ (IsUtf8 line)
@@ -63,39 +63,39 @@ is_loss (Reading lines) = false
 is_loss Writing = true
 is_loss Memory = true
 
--- where a fault leaves them: before a line that is not UTF-8, or after so many that were read
+-- the line at which a fault stopped: a line that is not UTF-8, or the one after the lines that were read
 abbrev pub FaultLeft : Fault → ℕ → List (List ℕ) → Type 0
 FaultLeft (NotText line) count others = NotTextLeft line count others
 FaultLeft (Reading read) count others = read ≡ count
 FaultLeft Writing count others = ⊤
 FaultLeft Memory count others = ⊤
 
--- where a stop leaves them, if so many lines were read
+-- the line at which a run stopped, if this many lines were read
 abbrev pub StopLeft : Stop → ℕ → ℕ → List (List ℕ) → Type 0
 StopLeft NoCommand read count others = NoCommandLeft read count others
 StopLeft (AFault fault) read count others = FaultLeft fault count others
 
--- the lines that begin with what is cut off, and go on with what is known to follow
+-- the lines that begin with the bytes of an incomplete line, and go on with the bytes that are known to follow
 abbrev pub lines_of_both : List ℕ → Option (List ℕ) → Option (List (List ℕ))
 lines_of_both cut more = option_map (λ bytes. lines (cut ++ bytes)) more
 
--- where a reader leaves them: these of both are left, or none if there was nothing more to read
+-- what remains after a read: these bytes of both, or nothing if there was nothing more to read
 abbrev pub IsLeftToRead : List ℕ → Option (List ℕ) → Bool → List (List ℕ) → Type 0
 IsLeftToRead cut more true others = lines_of_both cut more ≡ Some others
 IsLeftToRead cut more false others = others ≡ []
 
--- such a fault stopped it
+-- a fault of this kind stopped the run
 abbrev pub IsLost : Stop → Type 0
 IsLost NoCommand = ⊥
 IsLost (AFault fault) = IsTrue (is_loss fault)
 
--- what holds after such a stop, and after any other
+-- what holds after a stop of this kind, and after any other stop
 abbrev pub UnlessLoss : Stop → Type 0 → Type 0 → Type 0
 UnlessLoss NoCommand Loss P = P
 UnlessLoss (AFault fault) Loss P = cond (is_loss fault) Loss P
 
--- HOW FAR LINES WERE ANSWERED, of which so many were read before, and so many after: what is left of them is as the result says, and after a loss
--- the answers are cut short
+-- HOW MANY LINES WERE ANSWERED, given the numbers of lines that were read before and after: the remaining lines are as the result says, and after a
+-- loss only the beginning of the answers was written
 abbrev pub HowFar : {T : Type 0} → Result T Stop → ℕ → ℕ → (T → List (List ℕ) → Type 0) → Option (List (List ℕ))
     → Family OwnKey ℕ → Family OwnKey ℕ → Option (List ℕ) → Option (List ℕ) → Type 0
 HowFar (Ok x) before after IsLeft all old new output now =
@@ -104,14 +104,14 @@ HowFar (Err stop) before after IsLeft all old new output now =
     UnlessLoss stop (AnsweredShort all old output now)
     (AnsweredFirst all (λ count others. StopLeft stop after (before + count) others) old new output now)
 
--- HOW A STOP ENDS A RUN: the notice of a line that is no command is written, as far as the writer takes it; of a fault nothing is written
+-- HOW A STOP ENDS A RUN: for a line that is not a command, a notice is written, as far as the writer takes it. For a fault nothing is written
 abbrev pub EndsStopped : Stop → ℕ → Result Ending Fault → Option (List ℕ) → Option (List ℕ) → Type 0
 EndsStopped NoCommand line result output now =
     MatchResult result (λ ending. (ending ≡ NotUnderstood) × Appends output now (no_command_at line))
     (λ fault. IsTrue (is_loss fault) × CutTo (append_known output (no_command_at line)) now)
 EndsStopped (AFault fault) line result output now = (result ≡ Err fault) × Keeps output now
 
--- HOW A RUN ENDS: without a loss all answers were written, and after them the notice of the line that is no command, if there was one
+-- HOW A RUN ENDS: without a loss all answers were written, followed by the notice of the line that is not a command, if there was one
 abbrev pub Ends : Result Ending Fault → Option (List ℕ) → Option (List ℕ) → Option (List ℕ) → Type 0
 Ends (Ok Finished) input output now = IsRun input output now NoneLeft []
 Ends (Ok NotUnderstood) input output now = (line : ℕ) × IsRun input output now (NoCommandLeft line) (no_command_at line)

@@ -1,5 +1,5 @@
--- WHAT A RUN DID: which lines it read, which calls they are, and what it printed. `input` is what the reader had, `output` what the writer had before
--- the run, and `now` what it has after it, each in bytes, and `None` if no contract can name them.
+-- WHAT A RUN DID: which lines it read, which calls they are, and what it printed. `input` has the bytes that the reader can give, `output` those that
+-- the writer had before the run, and `now` those that it has after it. Each is `None` if no contract can name the bytes.
 use Rattle.std.specs.Prelude.{◌≡◌, ◌⊎◌, ℕ, ◌+◌, ◌++◌, List, [], ◌∷◌, length, Option, Some, None, IfSome, ⊤}
 use Rattle.std.specs.FinMap as map
 use Rattle.std.specs.Ordering.{nat_cmp}
@@ -23,8 +23,8 @@ own_key adapter value = value
 abbrev pub IsNew : Family OwnKey ℕ → Type 0
 IsNew w = (w.objects ≡ map.empty) × (w.fields ≡ []) × (w.collections ≡ [])
 
--- A RUN: the first lines of the input are commands, these are lawful calls of a new world, and the writer has the lines of their replies, and then
--- the last line. `IsLeft` says of the number of those lines and of the other lines where the run ended
+-- A RUN: the first lines of the input are commands, which are lawful calls of a new world, and the writer has the lines of their replies, and then
+-- the last line. `IsLeft` states where the run ended, by the number of the answered lines and the other lines
 pub record IsRun (input output now : Option (List ℕ)) (IsLeft : ℕ → List (List ℕ) → Type 0) (last : List ℕ) : Type 0 where
   pub first : Family OwnKey ℕ
   pub is_new : IsNew first
@@ -41,22 +41,22 @@ pub record IsRun (input output now : Option (List ℕ)) (IsLeft : ℕ → List (
 abbrev pub NoneLeft : ℕ → List (List ℕ) → Type 0
 NoneLeft count others = others ≡ []
 
--- at the line of that number, counted from 1, which is UTF-8 and no command
+-- at the line with this number, counted from 1, which is UTF-8 but not a command
 abbrev pub NoCommandLeft : ℕ → ℕ → List (List ℕ) → Type 0
 NoCommandLeft number count [] = ⊥
 NoCommandLeft number count (line ∷ others) = (number ≡ count + 1) × (said_in line ≡ NoCommand) × IsUtf8 line
 
--- somewhere
+-- the run may have ended at any line
 abbrev pub AnyLeft : ℕ → List (List ℕ) → Type 0
 AnyLeft count others = ⊤
 
--- the first bytes go on where the second end, if both are known
+-- the first bytes begin with the second, if both are known
 abbrev pub CutTo : Option (List ℕ) → Option (List ℕ) → Type 0
 CutTo None now = ⊤
 CutTo (Some whole) None = ⊥
 CutTo (Some whole) (Some now) = (rest : List ℕ) × (whole ≡ now ++ rest)
 
--- A RUN SO FAR, HOWEVER IT ENDED: the writer has the beginning of what it has after a run that ended somewhere, or at a line that is no command
+-- A RUN, HOWEVER IT ENDED: the writer has the beginning of what it would have after a run that ended at some line, or at a line that is not a command
 abbrev pub IsRunSoFar : Option (List ℕ) → Option (List ℕ) → Option (List ℕ) → Type 0
 IsRunSoFar input output now =
     (whole : Option (List ℕ)) × CutTo whole now

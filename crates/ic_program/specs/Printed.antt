@@ -25,7 +25,7 @@ name_of StillLinked = codes "StillLinked"
 name_of TooManyObjects = codes "TooManyObjects"
 name_of OutOfMemory = codes "OutOfMemory"
 
--- the number of an object; those of several, each after a space
+-- the number of an object; the numbers of several objects, each after a space
 abbrev pub number_at : Place → List ℕ
 number_at place = decimal (index_of place)
 
@@ -54,19 +54,19 @@ line_of (refused refusal) = codes "refused " ++ decimal (number_of refusal) ++ c
 abbrev pub lines_of : List Reply → List ℕ
 lines_of replies = flat_map line_of replies
 
--- the notice of a line that is no command
+-- the notice of a line that is not a command
 abbrev pub no_command_at : ℕ → List ℕ
 no_command_at line = codes "line " ++ decimal line ++ codes ": no command\n"
 
--- THE LINE OF A WORKER: which places it got. Workers are counted from 1
+-- THE LINE OF A WORKER: the places that it got. Workers are numbered from 1
 abbrev pub worker_line : ℕ → List Place → List ℕ
 worker_line number places = codes "worker " ++ decimal number ++ codes " " ++ items_of places ++ codes "\n"
 
--- the lines of several workers, whose numbers rise from this one
+-- the lines of several workers, numbered from this one on
 abbrev pub worker_lines : ℕ → List (List Place) → List ℕ
 worker_lines number [] = []
 worker_lines number (places ∷ lists) = worker_line number places ++ worker_lines (number + 1) lists
 
--- their lines, and then how many of the first places stand in more than one list
+-- the lines of all workers, and then how many of the first places are in more than one list
 abbrev pub workers_text : ℕ → List (List Place) → List ℕ
 workers_text places lists = worker_lines 1 lists ++ (codes "doubles " ++ decimal (doubles_below places lists) ++ codes "\n")

@@ -1,4 +1,4 @@
--- WHICH CALLS HAVE A SLOT: where a reader looks for a call by its first letters.
+-- WHICH CALLS HAVE WHICH SLOT: the parser chooses a slot by the first letters of a line, and looks for the call there.
 use Rattle.std.specs.Prelude.{◌≡◌, ℕ, List, [], ◌∷◌, None, Bool, nat_eq, if◌then◌else◌}
 use Rattle.std.specs.List.{list_any}
 use Rattle.ic_program.specs.Grammar.{calls, command_among}
@@ -9,7 +9,7 @@ slots =
     34 ∷ 56 ∷ 46 ∷ 29 ∷ 54 ∷ 15 ∷ 0 ∷ 36 ∷ 24 ∷ 44 ∷ 28 ∷ 13 ∷ 47 ∷ 6 ∷ 11 ∷ 39 ∷ 53 ∷ 49 ∷ 20 ∷ 9 ∷ 27
     ∷ 27 ∷ 45 ∷ 41 ∷ 48 ∷ 61 ∷ 38 ∷ 38 ∷ 26 ∷ 22 ∷ 63 ∷ 50 ∷ 62 ∷ 35 ∷ 43 ∷ 58 ∷ 52 ∷ 42 ∷ 7 ∷ 3 ∷ 32 ∷ 40 ∷ []
 
--- those of the calls that most lines make
+-- the slots of the most frequent calls
 abbrev pub fast_slots : List ℕ
 fast_slots = 13 ∷ 47 ∷ 6 ∷ 11 ∷ 39 ∷ 53 ∷ 49 ∷ 20 ∷ 45 ∷ 41 ∷ 48 ∷ 61 ∷ 38 ∷ []
 
@@ -22,6 +22,6 @@ with_slot slot [] entries = []
 with_slot slot (s ∷ ss) [] = []
 with_slot slot (s ∷ ss) (entry ∷ entries) = if nat_eq slot s then entry ∷ with_slot slot ss entries else with_slot slot ss entries
 
--- the words are no call that has that slot
+-- the words are not a call with this slot
 unfoldable pub IsNoCallAt : ℕ → List (List ℕ) → Type 0
 IsNoCallAt slot words = command_among (with_slot slot slots calls) words ≡ None

@@ -1,4 +1,4 @@
--- A TEXT OF SEVERAL LINES: its first line, and the words of that.
+-- A TEXT OF SEVERAL LINES: its first line, and the words of that line.
 use Rattle.std.specs.Prelude.{◌≡◌, ◌<◌, ◌≤◌, ◌⊎◌, ℕ, Bool, true, false, ◌&&◌, ◌||◌, List, [], ◌∷◌, ◌++◌, length, slice_index, Option, Some, None, MatchOption, option_map, IsTrue, nat_lt, ◌==◌, if◌then◌else◌, ⊤}
 use Rattle.std.specs.Io.BufRead.{drop_through}
 use denote.Ref.{Bor}
@@ -12,7 +12,7 @@ abbrev pub begins_with : ℕ → List ℕ → Bool
 begins_with byte [] = false
 begins_with byte (x ∷ xs) = x == byte
 
--- the text begins with the end of a line: `\n`, `\r\n`, or the end of all
+-- the text begins with the end of a line: `\n`, `\r\n`, or the end of the text
 abbrev pub ends_line : List ℕ → Bool
 ends_line [] = true
 ends_line (x ∷ xs) = (x == 10) || ((x == 13) && begins_with 10 xs)
@@ -22,11 +22,11 @@ abbrev pub line_in : List ℕ → List ℕ
 line_in [] = []
 line_in (x ∷ xs) = if ends_line (x ∷ xs) then [] else x ∷ line_in xs
 
--- its words
+-- the words of the first line
 abbrev pub words_in : List ℕ → List (List ℕ)
 words_in text = words_of (line_in text)
 
--- the text after it
+-- the text after the first line
 abbrev pub after_line : List ℕ → List ℕ
 after_line text = drop_through 10 text
 
@@ -38,7 +38,7 @@ IsOneLine text = after_line text ≡ []
 abbrev pub ends_word : List ℕ → Bool
 ends_word text = ends_line text || begins_with 32 text
 
--- the bytes up to there
+-- the bytes up to the end of the first word
 abbrev pub word_in : List ℕ → List ℕ
 word_in [] = []
 word_in (x ∷ xs) = if ends_word (x ∷ xs) then [] else x ∷ word_in xs
@@ -48,7 +48,7 @@ abbrev pub after_spaces : List ℕ → List ℕ
 after_spaces [] = []
 after_spaces (byte ∷ bytes) = if byte == 32 then after_spaces bytes else byte ∷ bytes
 
--- the text was read up to there, within its first line: the words are these, and then those that are left
+-- the text was read up to this point within its first line: its words are these, followed by the words that are left
 abbrev pub before_words : List ℕ → List (List ℕ) → List (List ℕ)
 before_words [] words = words
 before_words (x ∷ xs) words = (x ∷ xs) ∷ words
@@ -56,27 +56,27 @@ before_words (x ∷ xs) words = (x ∷ xs) ∷ words
 pub record ReadsWord (text word rest : List ℕ) : Type 0 where
   pub words : words_in text ≡ before_words word (words_in rest)
   pub none : word ≡ [] → words_in text ≡ []
-  pub behind : after_line rest ≡ after_line text
+  pub after : after_line rest ≡ after_line text
 
--- the first word, if it says that, and the other words
+-- the meaning of the first word, if it has one, and the other words
 abbrev pub first_says : {A : Type 0} → (List ℕ → Option A) → List (List ℕ) → Option (A × List (List ℕ))
 first_says says [] = None
 first_says says (word ∷ words) = option_map (λ x. (x, words)) (says word)
 
--- WHAT THE FIRST WORD SAYS WAS READ, or it does not say that
+-- THE MEANING OF THE FIRST WORD WAS READ, or the word has no such meaning
 pub record Reads {A : Type 0} (says : List ℕ → Option A) (text : List ℕ) (x : A) (rest : List ℕ) : Type 0 where
   pub first : first_says says (words_in text) ≡ Some (x, words_in rest)
-  pub behind : after_line rest ≡ after_line text
+  pub after : after_line rest ≡ after_line text
 
 abbrev pub ReadsFirst : {A : Type 0} → (List ℕ → Option A) → List ℕ → Option (A × Bor (List ℕ)) → Type 0
 ReadsFirst says text result = MatchOption result (first_says says (words_in text) ≡ None) (λ read. Reads says text read.0 read.1.now)
 
--- the first word is that number, or it is none
+-- the first word is this number, or it is not a number
 abbrev pub BeginsWithNumber : List ℕ → Option ℕ → Type 0
 BeginsWithNumber text result =
     MatchOption result (first_says number_in (words_in text) ≡ None) (λ number. (words : List (List ℕ)) × (first_says number_in (words_in text) ≡ Some (number, words)))
 
--- the name of a call, with the space after it: letters, and then the space
+-- the name of a call followed by a space: letters, and then the space
 abbrev pub is_name : List ℕ → Bool
 is_name [] = false
 is_name (x ∷ []) = x == 32
@@ -90,34 +90,34 @@ without_last [] = []
 without_last (x ∷ []) = []
 without_last (x ∷ y ∷ ys) = x ∷ without_last (y ∷ ys)
 
--- the text begins with that name, and the rest is after it; or the name is no word of the line that others follow
+-- the text begins with this name, and `rest` is the text after it; or the line does not begin with the name and a space
 pub record ReadsName (name text rest : List ℕ) : Type 0 where
   pub words : words_in text ≡ without_last name ∷ words_in rest
-  pub behind : after_line rest ≡ after_line text
+  pub after : after_line rest ≡ after_line text
 
 abbrev pub IsNoName : List ℕ → List ℕ → Type 0
 IsNoName name text = begins_with 32 text ≡ false → (words : List (List ℕ)) → words_in text ≡ without_last name ∷ words → words ≡ []
 
--- THE LINE IS SUCH A CALL: its name, and then words that are read as the command; the text goes on after the line
+-- THE LINE IS SUCH A CALL: the name, and then words that are read as the command. The rest of the text comes after the line
 pub record IsCall (name : List ℕ) (read : List (List ℕ) → Option (Command ℕ ℕ)) (text : List ℕ) (command : Command ℕ ℕ) (rest : List ℕ) : Type 0 where
   pub words : List (List ℕ)
   pub are : words_in text ≡ without_last name ∷ words
   pub said : read words ≡ Some command
-  pub behind : rest ≡ after_line text
+  pub after : rest ≡ after_line text
 
--- a text that begins with a word is no such call
+-- a text that begins with another word is no such call
 abbrev pub IsNoCall : List ℕ → (List (List ℕ) → Option (Command ℕ ℕ)) → List ℕ → Type 0
 IsNoCall name read text = begins_with 32 text ≡ false → (words : List (List ℕ)) → words_in text ≡ without_last name ∷ words → read words ≡ None
 
--- the text after the line, unless the line is no command
+-- the text after the line, unless the line is not a command
 abbrev pub Passes : Line → List ℕ → List ℕ → Type 0
 Passes NoCommand text rest = ⊤
 Passes _ text rest = rest ≡ after_line text
 
--- there is a line feed
+-- the text contains a line feed
 abbrev pub HasFeed : List ℕ → Type 0
 HasFeed text = (k : ℕ) × (k < length text) × (slice_index text k ≡ 10)
 
--- all lines of the text have ended
+-- every line of the text has its line feed
 abbrev pub HaveEnded : List ℕ → Type 0
 HaveEnded text = (text ≡ []) ⊎ ((front : List ℕ) × (text ≡ front ++ 10 ∷ []))

@@ -16,9 +16,9 @@ use ic_world::Answer;
 use itoa::Buffer;
 use std::alloc::{AllocError, Allocator};
 
-/// Puts the line of an answer after the others: its text, and a line feed. Nothing else prints an answer.
+/// Appends the line of an answer: its text, and a line feed. No other function prints an answer.
 ///
-/// It is put there without a formatter, which would take as long as the call. Refused for memory, the lines are as they were. O(bytes).
+/// It uses no formatter, which would take as long as the call itself. If it is refused for memory, the lines are as they were. O(bytes).
 #[inline]
 pub fn push_answer<M: Allocator, N: Allocator>(
     lines: &mut Vec<u8, M>,
@@ -35,7 +35,7 @@ pub fn push_answer<M: Allocator, N: Allocator>(
     pushed
 }
 
-// The same, which may leave a part of the line.
+// The same, but after a refusal a part of the line may have been appended.
 #[inline]
 fn push_line<M: Allocator, N: Allocator>(
     lines: &mut Vec<u8, M>,
@@ -70,7 +70,7 @@ fn push_line<M: Allocator, N: Allocator>(
     }
 }
 
-/// The line of an object.
+/// Appends the line of an object.
 #[inline(always)]
 pub(crate) fn push_place<M: Allocator>(
     lines: &mut Vec<u8, M>,
@@ -85,22 +85,22 @@ pub(crate) fn push_place<M: Allocator>(
     push_numbered(lines, b"object ", object.index() as u64, b"\n")
 }
 
-/// Some words, a number, and what is after it.
+/// Appends some words, a number, and some bytes after it.
 pub(crate) fn push_numbered<M: Allocator>(
     lines: &mut Vec<u8, M>,
     words: &[u8],
     number: u64,
-    behind: &[u8],
+    after: &[u8],
 ) -> Result<(), AllocError>
-    ensures put { OnOk result (lines.new.items ≡ lines.old.items ++ (words.now ++ decimal number ++ behind.now)) }
+    ensures put { OnOk result (lines.new.items ≡ lines.old.items ++ (words.now ++ decimal number ++ after.now)) }
     ensures begun { StartsWith lines.new.items lines.old.items }
 {
     lines.extend_from_slice(words)?;
     lines.extend_from_slice(Buffer::new().format(number).as_bytes())?;
-    lines.extend_from_slice(behind)
+    lines.extend_from_slice(after)
 }
 
-// The line of some words, an object, and the looks.
+// Appends the line of some words, an object, and the number of compared keys.
 fn push_object<M: Allocator>(
     lines: &mut Vec<u8, M>,
     words: &[u8],
@@ -115,23 +115,23 @@ fn push_object<M: Allocator>(
     push_numbered(lines, b"", looks, b"\n")
 }
 
-/// The places of some objects, and what is after them.
+/// Appends the places of some objects, and some bytes after them.
 pub(crate) fn push_items<M: Allocator>(
     lines: &mut Vec<u8, M>,
     places: &[Place],
-    behind: &[u8],
+    after: &[u8],
 ) -> Result<(), AllocError>
-    ensures put { OnOk result (lines.new.items ≡ lines.old.items ++ (items_of places.now ++ behind.now)) }
+    ensures put { OnOk result (lines.new.items ≡ lines.old.items ++ (items_of places.now ++ after.now)) }
     ensures begun { StartsWith lines.new.items lines.old.items }
 {
     lines.extend_from_slice(b"items")?;
     for place in places {
         push_numbered(lines, b" ", place.index() as u64, b"")?;
     }
-    lines.extend_from_slice(behind)
+    lines.extend_from_slice(after)
 }
 
-// The line of a range, with the looks of its two searches.
+// Appends the line of a range, with the numbers of keys that its two searches compared.
 fn push_range<M: Allocator>(
     lines: &mut Vec<u8, M>,
     places: &[Place],
@@ -147,7 +147,8 @@ fn push_range<M: Allocator>(
     push_numbered(lines, b"", second, b"\n")
 }
 
-// The line of an object whose number has three digits at most, as most have. It is copied whole, and what is not of it is cut off.
+// Appends the line of an object whose number has at most three digits, as most have. It copies a fixed number of bytes and cuts off those that do not
+// belong to the line.
 #[inline(always)]
 fn push_short<M: Allocator>(lines: &mut Vec<u8, M>, number: u64) -> Result<(), AllocError>
     requires { number < 1000 }
@@ -158,7 +159,7 @@ fn push_short<M: Allocator>(lines: &mut Vec<u8, M>, number: u64) -> Result<(), A
     push_start(lines, &line, length)
 }
 
-/// The first so many of these bytes. They are copied whole, and what is not of the line is cut off.
+/// Appends the first `length` of these bytes. It copies all of them and cuts off those that do not belong to the line.
 #[inline(always)]
 pub(crate) fn push_start<const N: usize, M: Allocator>(
     lines: &mut Vec<u8, M>,
@@ -175,7 +176,7 @@ pub(crate) fn push_start<const N: usize, M: Allocator>(
     Ok(())
 }
 
-// That line, with bytes after it, and how long it is.
+// Returns that line followed by other bytes, and the length of the line.
 #[inline(always)]
 #[tactic(auto, using(crate::proofs::Decimals::one_digit, crate::proofs::Decimals::two_digits, crate::proofs::Decimals::three_digits))]
 fn short_line(number: u64) -> ([u8; 11], usize)
@@ -191,7 +192,7 @@ fn short_line(number: u64) -> ([u8; 11], usize)
     }
 }
 
-// `object ` and four bytes.
+// Returns `object ` followed by four bytes.
 #[inline(always)]
 fn object_line(first: u8, second: u8, third: u8, fourth: u8) -> [u8; 11]
     ensures { result ≡ codes "object " ++ (first ∷ second ∷ third ∷ fourth ∷ []) }
@@ -201,7 +202,7 @@ fn object_line(first: u8, second: u8, third: u8, fourth: u8) -> [u8; 11]
     ]
 }
 
-// The last digit of a number.
+// Returns the last digit of a number.
 #[inline(always)]
 fn digit(number: u64) -> u8
     ensures { result ≡ 48 + number % 10 }

@@ -1,4 +1,4 @@
-//! The arguments of calls: what the first word of a text says, and the text after that word.
+//! The arguments of calls: they read the first word of a text, and return its meaning with the text after it.
 //!
 //! ```text
 //! u64::read(b"12 3\n")      // Some((12, ` 3\n`))
@@ -16,17 +16,18 @@ use ic_any_collection::Kind;
 use ic_rbtree::Bound;
 use ic_unsafe_ref::Place;
 
-/// What a word may say as an argument of a call.
+/// A type of arguments of calls, which a word can stand for.
 pub(crate) trait Argument: Copy {
-    // What a word says, if it says that.
+    // The meaning of a word, if it is an argument of this type.
     ghost says: { List ℕ → Option Self };
 
-    /// What the first word of the line says, and the text after it. `None` if it does not say that, or the line has no word.
+    /// Returns the meaning of the first word of the line, and the text after it. The result is `None` if the word is not an argument of this type, or
+    /// the line has no word.
     fn read<'l>(text: &'l [u8]) -> Option<(Self, &'l [u8])>
         ensures { ReadsFirst says text.now result };
 }
 
-/// A value, or a key. Most numbers have a few digits and one space or the line feed after them.
+/// A value or a key. Most numbers have a few digits, followed by one space or the line feed.
 impl Argument for u64 {
     ghost says = { number_in };
 
@@ -40,7 +41,8 @@ impl Argument for u64 {
     }
 }
 
-// The number that the first word of the line is, with any count of digits. It returns no text beside it, since both would go through memory.
+// Returns the number that the first word of the line stands for, with any count of digits. It does not return the text after it as well, since both
+// would then be passed through memory.
 #[cold]
 #[inline(never)]
 fn any_number(text: &[u8]) -> Option<u64>
@@ -92,7 +94,7 @@ impl Argument for Bound<u64> {
     }
 }
 
-/// A neighbor: an object, or none beyond an end.
+/// A neighbor: an object, or none beyond an end of the list.
 impl Argument for Option<Place> {
     ghost says = { neighbor_in };
 

@@ -1,4 +1,4 @@
-//! The calls that most lines make. Each is made where its name is found.
+//! The most frequent calls. The parser makes each of them as soon as it has found its name.
 //!
 //! ```text
 //! answer_fast(&mut world, b"push_back 0 3\n..") // the answer, and the text after the line
@@ -21,8 +21,8 @@ use crate::short_answer::{ShortAnswer, done, found, replaced};
 use ic_world::{Call, Command, Direction, Gap, Seek, World};
 use std::alloc::Allocator;
 
-// A row of the table, if the text begins with that name: `read` gives the command and the text after its line, and `make` makes the call,
-// and gives its answer and that text.
+// A row of the table, for a text that begins with this name. `read` returns the command and the text after its line. `make` makes the call, and
+// returns its answer and the same text.
 macro_rules! row {
     ((read $text:ident) $method:ident($first:ident) = $name:literal, $answer:ident, $command:expr) => {{
         let ($first, rest) = one($text, $name)?;
@@ -40,7 +40,7 @@ macro_rules! row {
         let ($first, $second, rest) = two($text, $name)?;
         Some(($answer($world.$method($first, $second)), rest))
     }};
-    // Two names begin alike. The text is tried against the second one if it does not begin with the first.
+    // Two names that begin alike. If the text does not begin with the first, it is compared with the second.
     ((read $text:ident) $method:ident($first:ident, $second:ident) = $name:literal, $answer:ident, $command:expr; $($other:tt)*) => {
         match two($text, $name) {
             Some(($first, $second, rest)) => Some(($command, rest)),
@@ -55,7 +55,7 @@ macro_rules! row {
     };
 }
 
-// The slot by which a row is found, to be read or to be made.
+// The slot of a row, for reading or for making its call.
 macro_rules! slot {
     ((read $text:ident) $slot:pat, $fast:pat) => {
         $slot
@@ -72,8 +72,8 @@ macro_rules! on {
     };
 }
 
-// THE TABLE: the slot of each call by `slot_of` and by `fast_slot_of`, what it is as a method of a world, its arguments, its name, the kind
-// of its answer, and what it is as a command.
+// THE TABLE. For each call it has the slot by `slot_of` and by `fast_slot_of`, the method of a world, the arguments, the name, the kind of answer,
+// and the command.
 macro_rules! fast_calls {
     ($slot:expr, $way:tt) => {
         match $slot {
@@ -99,8 +99,8 @@ macro_rules! fast_calls {
 // The slot of a text that is shorter than any call.
 const NO_SLOT: u64 = 12;
 
-// Which of 16 slots the first eight bytes of a text have. Two names that begin alike share one, and `remove`, after which the eighth byte is a
-// digit, has two. Nothing rests on that: a call in another slot would be found all the same, but later.
+// Returns which of 16 slots the first eight bytes of a text have. Two names that begin alike share a slot, and `remove`, whose eighth byte is a
+// digit, has two. No proof depends on this: a call in another slot would still be found, only later.
 #[inline(always)]
 fn fast_slot_of(text: &[u8]) -> u64 {
     let Some(bytes) = text.first_chunk::<8>() else {
@@ -109,8 +109,8 @@ fn fast_slot_of(text: &[u8]) -> u64 {
     u64::from_le_bytes(*bytes).wrapping_mul(0x4696_eecd_d99b_1280) >> 60
 }
 
-/// Makes the call that the first line of a text is, if it is in the table, and returns its answer with the text after the line. If it
-/// returns `None` it has made no call, and the line may be any. The first letters choose the one call that the line may be. O(1) beside the
+/// Makes the call in the first line of a text, if it is in the table, and returns its answer with the text after the line. If it returns `None`, it
+/// has made no call, and the line may still be any call. By the first letters it compares the line with one call only. O(1), plus the cost of the
 /// call.
 #[inline(always)]
 pub(crate) fn answer_fast<'l, M: Allocator + Copy>(
@@ -125,7 +125,7 @@ pub(crate) fn answer_fast<'l, M: Allocator + Copy>(
     fast_calls!(fast_slot_of(text), (make world text))
 }
 
-/// Reads the call that the first line of a text is, if it is in the table and has that slot, and returns it with the text after the line.
+/// Reads the call in the first line of a text, if it is in the table and has this slot, and returns it with the text after the line.
 pub(crate) fn fast_call_at<'l>(slot: u64, text: &'l [u8]) -> Option<(Command<u64, u64>, &'l [u8])>
     ensures said { IfSome result (λ read. (command_in (words_in text.now) ≡ Some read.0) × (read.1.now ≡ after_line text.now)) }
     ensures none { IfNone result (begins_with 32 text.now ≡ false → IsTrue (is_fast slot) → IsNoCallAt slot (words_in text.now)) }

@@ -1,4 +1,4 @@
-//! Why a run is cut short.
+//! Why a run ends before its input does.
 //!
 //! ```text
 //! Fault::NotText(7) // printed as `input is not UTF-8, line 7`
@@ -15,16 +15,16 @@ use std::io::{self, ErrorKind};
 pub enum Fault {
     /// The line of this number, counted from 1, is not UTF-8.
     NotText(u64),
-    /// No more could be read after so many lines.
+    /// After this many lines, reading failed.
     Reading(u64),
     /// An answer could not be written.
     Writing,
-    /// There was no memory outside the world.
+    /// There was not enough memory outside the world.
     Memory,
 }
 
 impl Fault {
-    /// What a fault of writing is: one of memory, if that is what the writer lacks.
+    /// Returns the fault for an error of the writer: a fault of memory if the writer lacks memory, or else one of writing.
     pub(crate) fn of_writer(error: &io::Error) -> Fault
         ensures { IsTrue (is_loss result) }
     {
@@ -39,7 +39,7 @@ impl fmt::Display for Fault {
     fn fmt<W: fmt::Write>(&self, f: &mut fmt::Formatter<W>) -> fmt::Result {
         match self {
             Fault::NotText(line) => write!(f, "input is not UTF-8, line {line}"),
-            Fault::Reading(lines) => write!(f, "cannot read behind line {lines}"),
+            Fault::Reading(lines) => write!(f, "cannot read after line {lines}"),
             Fault::Writing => f.write_str("cannot write"),
             Fault::Memory => f.write_str("out of memory"),
         }

@@ -1,4 +1,4 @@
-//! The program over a world: words are commands, and each command has an answer in one line.
+//! The program over a world: each line is a command, and each command is answered by one line.
 //!
 //! ```text
 //! let mut world = World::new(alloc, OwnKey);

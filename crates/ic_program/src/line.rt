@@ -1,4 +1,4 @@
-//! What a line says: a call of a world, by its name and its arguments in order.
+//! What a line stands for: a call of a world, by its name and its arguments in order.
 //!
 //! ```text
 //! Line::of(b"push_back 0 3") // Line::Call(Command::On(0, Call::Put(Gap::Back, place 3)))
@@ -17,23 +17,23 @@ use crate::names::after_name;
 use crate::text::{after_line, after_space, without_spaces};
 use ic_world::{Call, Command, Direction, Insertion, Search, Seek, Whole};
 
-/// What a line says.
+/// What a line stands for.
 #[derive(Clone, Copy)]
 pub enum Line {
-    /// It has no words.
+    /// The line has no words.
     Empty,
-    /// It is a call.
+    /// The line is a call.
     Call(Command<u64, u64>),
-    /// It is no call.
+    /// The line is not a call.
     NoCommand,
 }
 
 impl Line {
-    /// What these bytes say, which are one line. Words stand between spaces: the name of the call, and its arguments in order.
+    /// Parses these bytes as one line. Its words are separated by spaces: the name of the call, and its arguments in order.
     ///
-    /// It requires nothing, and takes no memory. A number is 1 to 20 decimal digits with a value below 2^64, and an object's
-    /// number is below 2^32. A kind is `singly`, `doubly`, `xor` or `tree`; a bound is `included:K`, `excluded:K` or
-    /// `unbounded`; a neighbor is an object's number, or `none`. The `\n` or `\r\n` at its end says nothing. O(bytes).
+    /// It requires nothing, and takes no memory. A number is 1 to 20 decimal digits with a value below 2^64, and an object's number is below 2^32. A
+    /// kind is `singly`, `doubly`, `xor` or `tree`; a bound is `included:K`, `excluded:K` or `unbounded`; a neighbor is an object's number, or
+    /// `none`. A `\n` or `\r\n` at the end is ignored. O(bytes).
     pub fn of(line: &[u8]) -> Line
         ensures { IsOneLine line.now → result ≡ said_in (line_in line.now) }
     {
@@ -44,14 +44,15 @@ impl Line {
         }
     }
 
-    /// What the first line of a text says, and the text after it. If the line is no call, the text is where it was.
+    /// Parses the first line of a text, and returns what it stands for and the text after it. If the line is not a call, the returned text is the
+    /// whole one.
     ///
-    /// [`answer_fast`](crate::fast_path::answer_fast) has tried the line before, and finds nearly all calls.
+    /// [`answer_fast`](crate::fast_path::answer_fast) is tried before, and finds nearly all calls.
     #[cold]
     #[inline(never)]
     pub(crate) fn first_of<'l>(text: &'l [u8]) -> (Line, &'l [u8])
         ensures said { result.0 ≡ said_in (line_in text.now) }
-        ensures behind { Passes result.0 text.now result.1.now }
+        ensures after { Passes result.0 text.now result.1.now }
     {
         if let Some(rest) = after_line(text) {
             return (Line::Empty, rest);
@@ -69,25 +70,25 @@ impl Line {
     }
 }
 
-// How many slots there are.
+// The number of slots.
 const SLOTS: u64 = 64;
 
-/// The slot of the first eight letters of a text, or of its first word and a space if that is shorter. Names that begin alike share a slot, and
-/// all others have slots of their own. Nothing rests on that: if it were wrong, `first_of` would find the call all the same.
+/// Returns the slot of the first eight letters of a text, or of its first word and a space if that is shorter. Names that begin alike share a slot,
+/// and every other name has a slot of its own. No proof depends on this: if it were wrong, `first_of` would still find the call.
 #[inline(always)]
 pub(crate) fn slot_of(text: &[u8]) -> u64 {
     let Some(bytes) = text.first_chunk::<8>() else {
         return SLOTS;
     };
     let bytes = u64::from_le_bytes(*bytes);
-    // The top bits of the bytes that are no letters: the lowest of them is right, and above it others may be set.
+    // Returns the top bits of the bytes that are not letters. The lowest set bit is right, but bits above it may be set wrongly.
     let ends = bytes.wrapping_sub(0x2121_2121_2121_2121) & !bytes & 0x8080_8080_8080_8080;
     let letters = bytes & ends.wrapping_sub(1);
     letters.wrapping_mul(0x39e9_f5d9_8f2d_bcef) >> 58
 }
 
-// A row of the table: the command of that name with these arguments, and the text after the line, if the text begins with it. After `on`
-// stands a call of the collection that the first argument names.
+// A row of the table: if the text begins with this name, the command with these arguments, and the text after the line. After `on` comes a call of
+// the collection that the first argument names.
 macro_rules! call {
     ($text:ident, $name:literal($first:ident) => $($command:tt)*) => {{
         let ($first, rest) = one($text, $name)?;
@@ -106,7 +107,7 @@ macro_rules! call {
     };
 }
 
-// The call that the first line of a text is, and the text after the line, if it is one that has that slot.
+// Returns the call in the first line of a text, and the text after the line, if the call has this slot.
 #[cold]
 #[inline(never)]
 fn call_at<'l>(slot: u64, text: &'l [u8]) -> Option<(Command<u64, u64>, &'l [u8])>
@@ -156,7 +157,7 @@ fn call_at<'l>(slot: u64, text: &'l [u8]) -> Option<(Command<u64, u64>, &'l [u8]
     }
 }
 
-/// The argument after that name, and the text after the line.
+/// Returns the argument after this name, and the text after the line.
 #[inline(always)]
 pub(crate) fn one<'l, const N: usize, A: Argument>(
     text: &'l [u8],
@@ -170,7 +171,7 @@ pub(crate) fn one<'l, const N: usize, A: Argument>(
     Some((first, after_line(rest)?))
 }
 
-/// The two arguments after that name, and the text after the line.
+/// Returns the two arguments after this name, and the text after the line.
 #[inline(always)]
 pub(crate) fn two<'l, const N: usize, A: Argument, B: Argument>(
     text: &'l [u8],
@@ -186,7 +187,7 @@ pub(crate) fn two<'l, const N: usize, A: Argument, B: Argument>(
     Some((first, second, after_line(rest)?))
 }
 
-// The three arguments after that name, and the text after the line.
+// Returns the three arguments after this name, and the text after the line.
 #[inline(always)]
 fn three<'l, const N: usize, A: Argument, B: Argument, C: Argument>(
     text: &'l [u8],

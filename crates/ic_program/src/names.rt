@@ -1,4 +1,4 @@
-//! Whether a text begins with a name.
+//! Comparisons of the beginning of a text with a name.
 //!
 //! ```text
 //! after_name(b"push_back 0 3\n", b"push_back ") // Some(`0 3\n`), by two comparisons of eight bytes
@@ -8,9 +8,9 @@ ghost use Rattle.std.specs.Prelude.{◌≡◌, ◌↔◌, ◌+◌, ◌≤◌, Ma
 ghost use Rattle.std.specs.Int.{w32, w64, from_le_bytes};
 ghost use Rattle.ic_program.specs.Text.{IsName, IsNoName, ReadsName};
 
-/// The text after that name. The name has 4 to 24 bytes, and the last one is the space after it.
+/// Returns the text after this name, if it begins with the name. The name has 4 to 24 bytes, of which the last is a space.
 ///
-/// Eight bytes are compared at once, or four of a short name. Some may be compared twice.
+/// It compares eight bytes at once, or four for a short name, and may compare some bytes twice.
 #[inline(always)]
 pub(crate) fn after_name<'l, const N: usize>(text: &'l [u8], name: &[u8; N]) -> Option<&'l [u8]>
     requires { IsName N name.now }
@@ -22,7 +22,7 @@ pub(crate) fn after_name<'l, const N: usize>(text: &'l [u8], name: &[u8; N]) -> 
     None
 }
 
-// Whether the text begins with the name.
+// Returns whether the text begins with the name.
 #[inline(always)]
 fn begins_with<const N: usize>(text: &[u8], name: &[u8; N]) -> bool
     requires { (4 ≤ N) × (N ≤ 24) }
@@ -40,7 +40,7 @@ fn begins_with<const N: usize>(text: &[u8], name: &[u8; N]) -> bool
     eight_alike(text, name, 0) && eight_alike(text, name, N - 8)
 }
 
-// Whether the four bytes from there on are the same.
+// Returns whether the four bytes from this position on are the same.
 #[inline(always)]
 fn four_alike(text: &[u8], name: &[u8], at: usize) -> bool
     requires { (at + 4 ≤ length text.now) × (at + 4 ≤ length name.now) }
@@ -49,7 +49,7 @@ fn four_alike(text: &[u8], name: &[u8], at: usize) -> bool
     four(text, at) == four(name, at)
 }
 
-// Whether the eight bytes from there on are the same.
+// Returns whether the eight bytes from this position on are the same.
 #[inline(always)]
 fn eight_alike(text: &[u8], name: &[u8], at: usize) -> bool
     requires { (at + 8 ≤ length text.now) × (at + 8 ≤ length name.now) }
@@ -58,7 +58,7 @@ fn eight_alike(text: &[u8], name: &[u8], at: usize) -> bool
     eight(text, at) == eight(name, at)
 }
 
-// Four bytes as a number.
+// Returns four bytes as a number.
 #[inline(always)]
 fn four(text: &[u8], at: usize) -> u32
     requires { at + 4 ≤ length text.now }
@@ -70,7 +70,7 @@ fn four(text: &[u8], at: usize) -> u32
     }
 }
 
-// Eight bytes as a number.
+// Returns eight bytes as a number.
 #[inline(always)]
 fn eight(text: &[u8], at: usize) -> u64
     requires { at + 8 ≤ length text.now }

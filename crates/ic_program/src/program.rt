@@ -18,26 +18,26 @@ use std::io::{self, BufRead, ErrorKind, Write};
 use std::sync::Wait;
 use std::thread::Threads;
 
-/// The status after a fault of reading or writing, input that is not UTF-8, or want of memory.
+/// The status after a fault of reading or writing, after input that is not UTF-8, or if memory runs out.
 pub const FAULT: u8 = 3;
 
-/// How a run ends that meets no fault, by its status.
+/// How a run without a fault ends, with its status.
 #[derive(Clone, Copy)]
 pub enum Ending {
     /// At the end of the input.
     Finished = 0,
-    /// At a line that is no command, or at arguments.
+    /// At a line that is not a command, or at arguments that the program does not know.
     NotUnderstood = 2,
 }
 
-/// Runs the program. `words` are its arguments, and `rt` is what main is handed.
+/// Runs the program. `words` are its arguments, and `rt` is the argument of `main`.
 ///
-/// Without arguments it runs the calls that `reader` gives, as [`run_lines`]. With `workers W N`, W from 1 to 64 and N at most
-/// 1,000,000, so many threads share the first N places out: for each it writes which places it got, and then how many places two of
-/// them got. Any other arguments are answered by `bad arguments`.
+/// Without arguments it runs the calls that it reads from `reader`, as [`run_lines`] does. With the arguments `workers W N`, for W from 1 to 64 and N
+/// at most 1,000,000, it lets W threads share out the first N places. For each thread it writes which places it got, and then how many places more
+/// than one of them got. For any other arguments it writes `bad arguments`.
 ///
-/// The answer is the program's status: 0 at the end, 2 at a line that is no command and at bad arguments, 3 at a fault of reading or
-/// writing, input that is not UTF-8, or want of memory outside the world. What fault it was is a line on standard error.
+/// It returns the program's status: 0 at the end of the input, 2 at a line that is not a command and for bad arguments, and 3 after a fault of
+/// reading or writing, after input that is not UTF-8, or if memory outside the world runs out. A line on standard error says which fault it was.
 pub fn run_program<
     S: Threads + Wait + Eprint + Sync,
     M: Allocator + Copy + Send + Sync,
@@ -73,7 +73,7 @@ pub fn run_program<
     status_of(rt, ended(ending, flushed))
 }
 
-/// Runs the calls that `reader` gives, one a line, on a new world, and writes the answer to each on a line of its own.
+/// Runs the calls that it reads from `reader`, one for each line, on a new world, and writes the answer to each on a line of its own.
 ///
 /// It ends:
 ///
@@ -83,8 +83,8 @@ pub fn run_program<
 /// - By a fault of reading or writing, input that is not UTF-8, or want of memory outside the world. What was answered
 ///   before is written, as far as the writer takes it.
 ///
-/// What is answered is written and flushed before the reader waits for more. O(1) beside each call of the world, and the bytes read
-/// and written.
+/// It writes and flushes all answers before the reader waits for more. It costs O(1) for each call, plus the cost of the call itself and of the bytes
+/// read and written.
 pub fn run_lines<M: Allocator + Copy, R: BufRead, W: Write>(
     alloc: M,
     reader: &mut R,
@@ -98,7 +98,7 @@ pub fn run_lines<M: Allocator + Copy, R: BufRead, W: Write>(
     ended(ending, flushed)
 }
 
-// How a run ended whose writer was flushed then.
+// Returns how a run ended, after the writer was flushed.
 fn ended(ending: Result<Ending, Fault>, flushed: io::Result<()>) -> Result<Ending, Fault>
     ensures ending { IfOk result (λ end. ending ≡ Ok end) }
     ensures fault { (fault : Fault) → result ≡ Err fault → (ending ≡ Err fault) ⊎ IsTrue (is_loss fault) }
@@ -109,7 +109,7 @@ fn ended(ending: Result<Ending, Fault>, flushed: io::Result<()>) -> Result<Endin
     }
 }
 
-// The status of a run that ended so. A fault says what it is on standard error.
+// Returns the status of a run that ended like this. For a fault it writes a line to standard error.
 fn status_of<S: Eprint>(rt: &S, ending: Result<Ending, Fault>) -> u8
     ensures { (result ≡ FAULT) ⊎ ((ending ≡ Ok Ending.Finished) × (result ≡ 0)) ⊎ ((ending ≡ Ok Ending.NotUnderstood) × (result ≡ 2)) }
 {
@@ -122,7 +122,7 @@ fn status_of<S: Eprint>(rt: &S, ending: Result<Ending, Fault>) -> u8
     }
 }
 
-// There are arguments, and none are known.
+// The program has arguments that it does not know.
 fn refuse_arguments<W: Write>(writer: &mut W) -> Result<Ending, Fault>
     ensures status { IfOk result (λ ending. ending ≡ Ending.NotUnderstood) }
     ensures text { OnOk result (Appends (W.contents writer.old) (W.contents writer.new) (codes "bad arguments\n")) }
@@ -134,8 +134,8 @@ fn refuse_arguments<W: Write>(writer: &mut W) -> Result<Ending, Fault>
     }
 }
 
-// Answers each line in turn, until the input ends or a line is no command. After a fault the lines before it are answered. What is
-// answered is written before the reader waits for more.
+// Answers each line in turn, until the input ends or a line is no command. If a fault occurs, it has answered the lines before it. It writes the
+// answers before the reader waits for more.
 fn answer_input<M: Allocator + Copy, R: BufRead, W: Write>(
     alloc: M,
     reader: &mut R,
@@ -157,11 +157,11 @@ fn answer_input<M: Allocator + Copy, R: BufRead, W: Write>(
             Err(stop) => return stopped(stop, session.lines, writer),
         }
     }
-    // There are more lines than a number counts.
+    // There are more lines than the counter can count.
     Err(Fault::Reading(session.lines))
 }
 
-// Lets nothing that is written wait.
+// Flushes the writer.
 fn flush<W: Write>(writer: &mut W) -> Result<(), Fault>
     ensures kept { Keeps (W.contents writer.old) (W.contents writer.new) }
     ensures lost { IfErr result (λ fault. IsTrue (is_loss fault)) }
@@ -172,8 +172,8 @@ fn flush<W: Write>(writer: &mut W) -> Result<(), Fault>
     }
 }
 
-// Answers the lines that end in what the reader has next, and returns whether there was anything. At the end of the input what is cut off
-// is a line.
+// Answers the lines that end in the bytes that the reader has next, and returns whether there were any. At the end of the input, the bytes of an
+// incomplete line count as a line.
 fn answer_next<M: Allocator + Copy, R: BufRead, W: Write>(
     session: &mut Session<M>,
     cut: &mut Vec<u8, M>,
@@ -198,13 +198,13 @@ fn answer_next<M: Allocator + Copy, R: BufRead, W: Write>(
             reader.consume(taken);
             Ok(true)
         }
-        // Who reads next tries again.
+        // The next read tries again.
         Err(error) if error.kind() == ErrorKind::Interrupted => Ok(true),
         Err(_) => Err(Stop::Fault(Fault::Reading(session.lines))),
     }
 }
 
-// How a run ends that was stopped at the line of that number.
+// Returns how a run ends that stopped at the line with this number.
 fn stopped<W: Write>(stop: Stop, line: u64, writer: &mut W) -> Result<Ending, Fault>
     ensures { EndsStopped stop line result (W.contents writer.old) (W.contents writer.new) }
 {
@@ -217,7 +217,7 @@ fn stopped<W: Write>(stop: Stop, line: u64, writer: &mut W) -> Result<Ending, Fa
     }
 }
 
-// Writes that the line of that number is no command.
+// Writes the notice that the line with this number is not a command.
 fn write_notice<W: Write>(writer: &mut W, line: u64) -> Result<(), Fault>
     ensures written { OnOk result (Appends (W.contents writer.old) (W.contents writer.new) (no_command_at line)) }
     ensures cut { OnErr result (CutTo (append_known (W.contents writer.old) (no_command_at line)) (W.contents writer.new)) }

@@ -1,4 +1,4 @@
-//! A world that is called by lines, and the lines that answer them.
+//! A world whose calls are lines of text, and the lines of its answers.
 //!
 //! ```text
 //! let mut session = Session::new(alloc)?;
@@ -31,34 +31,34 @@ use std::alloc::{AllocError, Allocator};
 use std::io::Write;
 use std::str;
 
-// How many bytes of answers may wait. There is room for so many at first.
+// The number of bytes of answers that may wait to be written. The buffer has room for as many from the beginning.
 const ROOM: usize = 65536;
 
-/// Why no more lines are answered.
+/// Why a session stops answering lines.
 #[derive(Clone, Copy)]
 pub(crate) enum Stop {
-    /// The line is no command.
+    /// The line is not a command.
     NoCommand,
     /// The line could not be read or answered.
     Fault(Fault),
 }
 
-/// A world, and the lines of its answers that are not written yet.
+/// A world, and the lines of answers that are not written yet.
 #[derive(Drop)]
 pub(crate) struct Session<M: Allocator + Copy> {
     pub(crate) world: World<OwnKey, M>,
     /// The answers, each with its line feed.
     pub(crate) answers: Vec<u8, M>,
-    /// How many lines were read.
+    /// The number of lines that were read.
     pub(crate) lines: u64,
 }
 
 impl<M: Allocator + Copy> Session<M> {
-    /// A new world, with nothing answered.
+    /// Makes a new world, with no answers yet.
     pub(crate) fn new(alloc: M) -> Result<Session<M>, AllocError>
         ensures { IfOk result (λ session. IsNew session.world × (session.answers.items ≡ []) × (session.lines ≡ 0)) }
     {
-        // The world comes last, so that no way out has one to drop.
+        // The world is made last, so that an early return has no world to drop.
         let answers = Vec::with_capacity(alloc, ROOM)?;
         Ok(Session {
             world: World::new(alloc, OwnKey),
@@ -67,7 +67,7 @@ impl<M: Allocator + Copy> Session<M> {
         })
     }
 
-    /// Writes the answers, and keeps none.
+    /// Writes the answers, and clears the buffer.
     pub(crate) fn write<W: Write>(&mut self, writer: &mut W) -> Result<(), Fault>
         ensures written { OnOk result (Keeps (append_known (W.contents writer.old) self.old.answers.items) (W.contents writer.new)) }
         ensures cut { OnErr result (CutTo (append_known (W.contents writer.old) self.old.answers.items) (W.contents writer.new)) }
@@ -81,9 +81,9 @@ impl<M: Allocator + Copy> Session<M> {
         written
     }
 
-    /// Answers the lines of a text, of which empty ones have no answer. Where it stops, the answers are those of the lines before.
+    /// Answers the lines of a text. Empty lines have no answer. If it stops at a line, it has answered the lines before it.
     ///
-    /// As soon as more than 64 KB of answers wait they are written.
+    /// As soon as more than 64 KB of answers wait, it writes them.
     pub(crate) fn answer_lines<W: Write>(&mut self, text: &[u8], writer: &mut W) -> Result<(), Stop>
         ensures { HowFar result self.old.lines self.new.lines (λ _ others. others ≡ []) (Some (lines text.now)) self.old.world self.new.world
             (append_known (W.contents writer.old) self.old.answers.items) (append_known (W.contents writer.new) self.new.answers.items) }
@@ -114,7 +114,7 @@ impl<M: Allocator + Copy> Session<M> {
         self.write_some(writer)
     }
 
-    // Writes the answers, of which too many wait.
+    // Writes the answers, since too many wait.
     #[cold]
     #[inline(never)]
     fn write_some<W: Write>(&mut self, writer: &mut W) -> Result<(), Stop>
@@ -132,9 +132,9 @@ impl<M: Allocator + Copy> Session<M> {
         }
     }
 
-    // Answers the first line of a text, and gives how many bytes are before the next one.
+    // Answers the first line of a text, and returns how many bytes are before the next line.
     //
-    // Nothing that it calls for a call of the fast path returns its result through memory, so no slot of that is cleared for each line.
+    // No function that it calls on the fast path returns its result through memory, so that it need not clear memory for each line.
     #[inline(always)]
     fn answer_first(&mut self, text: &[u8]) -> Result<usize, Stop>
         requires { 0 < length text.now }
@@ -145,7 +145,7 @@ impl<M: Allocator + Copy> Session<M> {
         ensures some { IfOk result (λ taken. 0 < taken) }
     {
         let Some(number) = self.lines.checked_add(1) else {
-            // There are more lines than a number counts.
+            // There are more lines than the counter can count.
             return Err(Stop::Fault(Fault::Reading(self.lines)));
         };
         self.lines = number;
@@ -159,7 +159,7 @@ impl<M: Allocator + Copy> Session<M> {
         }
     }
 
-    // The same of a line of that number whose call is not of the fast path.
+    // The same for a line with this number whose call is not on the fast path.
     #[cold]
     #[inline(never)]
     fn answer_other(&mut self, text: &[u8]) -> Result<usize, Stop>
@@ -182,7 +182,7 @@ impl<M: Allocator + Copy> Session<M> {
         }
     }
 
-    // Makes the call, and puts its answer after the others.
+    // Makes the call, and appends its answer.
     #[cold]
     #[inline(never)]
     fn call(&mut self, command: Command<u64, u64>) -> Result<(), Stop>
@@ -197,7 +197,7 @@ impl<M: Allocator + Copy> Session<M> {
         )
     }
 
-    // Answers the line that is cut off, if it ends in these bytes, and gives those after it.
+    // Answers the incomplete line, if it ends in these bytes, and returns the bytes after it.
     fn answer_cut<'b, W: Write>(
         &mut self,
         cut: &mut Vec<u8, M>,
@@ -223,8 +223,7 @@ impl<M: Allocator + Copy> Session<M> {
         Ok(&bytes[feed + 1..])
     }
 
-    /// Answers the lines that end in these bytes, as [`answer_lines`](Session::answer_lines), and keeps in `cut` what is read of the line
-    /// that does not.
+    /// Answers the lines that end in these bytes, as [`answer_lines`](Session::answer_lines), and keeps the bytes of an incomplete line in `cut`.
     pub(crate) fn answer_all<W: Write>(
         &mut self,
         cut: &mut Vec<u8, M>,
@@ -242,7 +241,7 @@ impl<M: Allocator + Copy> Session<M> {
     }
 }
 
-// How many of the first bytes are lines that have ended.
+// Returns how many of the first bytes are complete lines.
 fn ended_bytes(bytes: &[u8]) -> usize
     ensures ended { HaveEnded (take result bytes.now) }
     ensures within { result ≤ length bytes.now }
@@ -254,7 +253,7 @@ fn ended_bytes(bytes: &[u8]) -> usize
     }
 }
 
-// Puts bytes after those that are cut off.
+// Appends bytes to those of the incomplete line.
 #[inline]
 fn keep<M: Allocator>(cut: &mut Vec<u8, M>, bytes: &[u8]) -> Result<(), Stop>
     ensures kept { OnOk result (cut.new.items ≡ cut.old.items ++ bytes.now) }
@@ -266,7 +265,7 @@ fn keep<M: Allocator>(cut: &mut Vec<u8, M>, bytes: &[u8]) -> Result<(), Stop>
     }
 }
 
-// Puts the answer after the others.
+// Appends the answer to the others.
 #[inline]
 fn push<M: Allocator>(answers: &mut Vec<u8, M>, answer: &Answer<M>) -> Result<(), Stop>
     ensures put { OnOk result (answers.new.items ≡ answers.old.items ++ line_of (reply_in answer.now)) }
@@ -279,7 +278,7 @@ fn push<M: Allocator>(answers: &mut Vec<u8, M>, answer: &Answer<M>) -> Result<()
     }
 }
 
-// Puts the line after the others.
+// Appends the line to the others.
 #[inline(always)]
 fn push_short<M: Allocator>(answers: &mut Vec<u8, M>, answer: ShortAnswer) -> Result<(), Stop>
     ensures put { OnOk result (answers.new.items ≡ answers.old.items ++ line_of (reply_of_short answer)) }
@@ -292,8 +291,8 @@ fn push_short<M: Allocator>(answers: &mut Vec<u8, M>, answer: ShortAnswer) -> Re
     }
 }
 
-// Why the first line of a text, the line of that number, is no command. A command is ASCII alone, so that only here the line may be other
-// than UTF-8.
+// Returns why the first line of a text, which has this number, is not a command. A command has only ASCII characters, so that this is the only place
+// where the line may not be UTF-8.
 fn stop_at(text: &[u8], number: u64) -> Stop
     ensures { ((result ≡ Stop.NoCommand) × IsUtf8 (line_in text.now))
         ⊎ ((result ≡ Stop.Fault (Fault.NotText number)) × ¬ (IsUtf8 (line_in text.now))) }

@@ -1,4 +1,4 @@
-//! What most calls answer, and its line: words that are known before the call, or an object.
+//! The answers of most calls, and their lines: fixed words, or an object.
 //!
 //! ```text
 //! done(world.push_back(0, place)).push(&mut lines)? // puts `ok` and a line feed after the others
@@ -16,28 +16,28 @@ use ic_unsafe_ref::Place;
 use ic_world::Refusal;
 use std::alloc::{AllocError, Allocator};
 
-/// An answer in words alone.
+/// An answer that consists of fixed words.
 #[derive(Clone, Copy)]
 pub(crate) enum InWords {
-    /// It is done.
+    /// The call is done.
     Done,
-    /// There is none.
+    /// There is no such object.
     Nothing,
-    /// Refused.
+    /// The call was refused.
     Refused(Refusal),
 }
 
-/// The answer of a call that most lines make.
+/// The answer of a frequent call.
 #[derive(Clone, Copy)]
 pub(crate) enum ShortAnswer {
-    /// Words alone.
+    /// Fixed words.
     InWords(InWords),
     /// An object.
     Object(Place),
 }
 
 impl ShortAnswer {
-    /// Puts the line of the answer after the others. Refused for memory, they are as they were. O(1).
+    /// Appends the line of the answer. If it is refused for memory, the lines are as they were. O(1).
     #[inline(always)]
     pub(crate) fn push<M: Allocator>(self, lines: &mut Vec<u8, M>) -> Result<(), AllocError>
         ensures put { OnOk result (lines.new.items ≡ lines.old.items ++ line_of (reply_of_short self)) }
@@ -51,7 +51,7 @@ impl ShortAnswer {
         pushed
     }
 
-    // The same, which may leave a part of the line.
+    // The same, but after a refusal a part of the line may have been appended.
     #[inline(always)]
     fn push_line<M: Allocator>(self, lines: &mut Vec<u8, M>) -> Result<(), AllocError>
         ensures put { OnOk result (lines.new.items ≡ lines.old.items ++ line_of (reply_of_short self)) }
@@ -67,7 +67,7 @@ impl ShortAnswer {
     }
 }
 
-/// What a call answers that answers nothing.
+/// Returns the answer of a call that returns nothing.
 #[inline(always)]
 pub(crate) fn done(answer: Result<(), Refusal>) -> ShortAnswer
     ensures { reply_of_short result ≡ reply_of (λ _. reply.done) answer }
@@ -78,7 +78,7 @@ pub(crate) fn done(answer: Result<(), Refusal>) -> ShortAnswer
     }
 }
 
-/// What a call answers that answers an object, or none.
+/// Returns the answer of a call that returns an object, or none.
 #[inline(always)]
 pub(crate) fn found(answer: Result<Option<Place>, Refusal>) -> ShortAnswer
     ensures { reply_of_short result ≡ reply_of reply.object_or_nothing answer }
@@ -90,7 +90,7 @@ pub(crate) fn found(answer: Result<Option<Place>, Refusal>) -> ShortAnswer
     }
 }
 
-/// What a call answers that answers an object.
+/// Returns the answer of a call that returns an object.
 #[inline(always)]
 pub(crate) fn replaced(answer: Result<Place, Refusal>) -> ShortAnswer
     ensures { reply_of_short result ≡ reply_of (λ object. reply.object object) answer }
@@ -101,7 +101,7 @@ pub(crate) fn replaced(answer: Result<Place, Refusal>) -> ShortAnswer
     }
 }
 
-// The line of words alone, with bytes after it, and how long it is.
+// Returns the line of fixed words followed by other bytes, and the length of the line.
 #[inline(always)]
 fn line_in_words(words: InWords) -> (&'static [u8; 32], usize)
     ensures line { take result.1 result.0.now ≡ line_of (reply_in_words words) }
@@ -114,7 +114,7 @@ fn line_in_words(words: InWords) -> (&'static [u8; 32], usize)
     }
 }
 
-/// The line of a refusal, with bytes after it, and how long it is.
+/// Returns the line of a refusal followed by other bytes, and the length of the line.
 #[inline(always)]
 pub(crate) fn refused(refusal: Refusal) -> (&'static [u8; 32], usize)
     ensures line { take result.1 result.0.now ≡ line_of (reply.refused refusal) }

@@ -1,4 +1,4 @@
-//! A text of lines: where its first line and the words of that end.
+//! A text of lines: the ends of its first line, and of the words of that line.
 //!
 //! ```text
 //! first_word(b"  push_back 0 3\n")   // `push_back`, and the text from the space after it on
@@ -9,7 +9,7 @@ ghost use Rattle.std.specs.Prelude.{◌≡◌, ◌≢◌, ◌≤◌, ℕ, true, 
 ghost use Rattle.std.specs.Bool.{OnTrue};
 ghost use Rattle.ic_program.specs.Text.{after_line as after_first_line, after_spaces, ends_word, ends_line as is_line_end, line_in, word_in, words_in, ReadsWord};
 
-/// The text after the spaces that come first. Mostly there are none.
+/// Returns the text after its leading spaces. Mostly there are none.
 #[inline(always)]
 pub(crate) fn without_spaces<'l>(text: &'l [u8]) -> &'l [u8]
     ensures { result.now ≡ after_spaces text.now }
@@ -20,7 +20,7 @@ pub(crate) fn without_spaces<'l>(text: &'l [u8]) -> &'l [u8]
     }
 }
 
-// The same of a text that begins with a space.
+// The same for a text that begins with a space.
 #[cold]
 #[inline(never)]
 fn without_more_spaces<'l>(text: &'l [u8]) -> &'l [u8]
@@ -33,11 +33,11 @@ fn without_more_spaces<'l>(text: &'l [u8]) -> &'l [u8]
     rest
 }
 
-/// The text after the space that it begins with, if it begins with one.
+/// Returns the text after its first byte, if that is a space.
 #[inline(always)]
 pub(crate) fn after_space<'l>(text: &'l [u8]) -> &'l [u8]
     ensures words { words_in result.now ≡ words_in text.now }
-    ensures behind { after_first_line result.now ≡ after_first_line text.now }
+    ensures after { after_first_line result.now ≡ after_first_line text.now }
 {
     match text {
         [b' ', rest @ ..] => rest,
@@ -45,8 +45,8 @@ pub(crate) fn after_space<'l>(text: &'l [u8]) -> &'l [u8]
     }
 }
 
-// The same of a text that does not begin with a space. It is a call, so that the processor foresees that there is a space, and waits for no
-// choice.
+// The same for a text that does not begin with a space. It is a function of its own, so that the processor predicts that there is a space, and does
+// not wait for the test.
 #[cold]
 #[inline(never)]
 fn without_space<'l>(text: &'l [u8]) -> &'l [u8]
@@ -55,7 +55,7 @@ fn without_space<'l>(text: &'l [u8]) -> &'l [u8]
     text
 }
 
-/// The text after the line, if the line has no more words. It ends by `\n`, by `\r\n` or at the end of the text.
+/// Returns the text after the line, if the line has no more words. A line ends with `\n`, with `\r\n` or at the end of the text.
 #[inline(always)]
 pub(crate) fn after_line<'l>(text: &'l [u8]) -> Option<&'l [u8]>
     ensures { MatchOption result (words_in text.now ≢ []) (λ rest. (words_in text.now ≡ []) × (rest.now ≡ after_first_line text.now)) }
@@ -69,7 +69,8 @@ pub(crate) fn after_line<'l>(text: &'l [u8]) -> Option<&'l [u8]>
     }
 }
 
-// How many bytes such a line has that does not begin with `\n`. It returns a number and no text, since a number stays in a register.
+// Returns how many bytes are left of such a line if it does not begin with `\n`. It returns a number instead of a text, since a number stays in a
+// register.
 #[cold]
 #[inline(never)]
 fn other_line(text: &[u8]) -> Option<usize>
@@ -82,7 +83,7 @@ fn other_line(text: &[u8]) -> Option<usize>
     }
 }
 
-// The text after the end of a line, if it begins with one.
+// Returns the text after the end of a line, if it begins with one.
 fn after_end<'l>(text: &'l [u8]) -> Option<&'l [u8]>
     ensures { MatchOption result (is_line_end text.now ≡ false) (λ rest. (is_line_end text.now ≡ true) × (rest.now ≡ after_first_line text.now)) }
 {
@@ -94,7 +95,7 @@ fn after_end<'l>(text: &'l [u8]) -> Option<&'l [u8]>
     }
 }
 
-/// Whether a word ends here by a space or by `\n`. If not, it may end by `\r\n` or at the end of the text.
+/// Returns whether a word ends here with a space or `\n`. If not, it may still end with `\r\n` or at the end of the text.
 #[inline(always)]
 pub(crate) fn word_ends(text: &[u8]) -> bool
     ensures { OnTrue result (ends_word text.now ≡ true) }
@@ -106,7 +107,7 @@ pub(crate) fn word_ends(text: &[u8]) -> bool
     }
 }
 
-/// The first word of the line, empty if there is none, and the text after that word. O(bytes).
+/// Returns the first word of the line, which is empty if there is none, and the text after that word. O(bytes).
 #[cold]
 #[inline(never)]
 pub(crate) fn first_word<'l>(text: &'l [u8]) -> (&'l [u8], &'l [u8])
@@ -117,7 +118,7 @@ pub(crate) fn first_word<'l>(text: &'l [u8]) -> (&'l [u8], &'l [u8])
     (&start[..length], &start[length..])
 }
 
-/// The text after the first word of the line. O(bytes).
+/// Returns the text after the first word of the line. O(bytes).
 #[cold]
 #[inline(never)]
 pub(crate) fn after_word<'l>(text: &'l [u8]) -> &'l [u8]
@@ -127,7 +128,7 @@ pub(crate) fn after_word<'l>(text: &'l [u8]) -> &'l [u8]
     rest
 }
 
-// How many of the first bytes are a word: those before a space and of the line's end.
+// Returns how many of the first bytes are a word: those before the next space and before the end of the line.
 fn word_length(text: &[u8]) -> usize
     ensures length { result ≡ length (word_in text.now) }
     ensures within { result ≤ length text.now }
@@ -140,7 +141,7 @@ fn word_length(text: &[u8]) -> usize
     text.len()
 }
 
-/// The first line, without the `\n` or `\r\n` at its end. O(bytes).
+/// Returns the first line, without the `\n` or `\r\n` at its end. O(bytes).
 #[cold]
 #[inline(never)]
 pub(crate) fn first_line<'l>(text: &'l [u8]) -> &'l [u8]
@@ -149,7 +150,7 @@ pub(crate) fn first_line<'l>(text: &'l [u8]) -> &'l [u8]
     &text[..line_length(text)]
 }
 
-// How many of the first bytes are a line: those before its end.
+// Returns how many of the first bytes are a line: those before its end.
 fn line_length(text: &[u8]) -> usize
     ensures length { result ≡ length (line_in text.now) }
     ensures within { result ≤ length text.now }

@@ -1,4 +1,4 @@
-//! What a single word of a line says: a number, the place of an object, a kind, a bound of keys, a neighbor.
+//! What a single word of a line stands for: a number, the place of an object, a kind, a bound of keys, or a neighbor.
 //!
 //! ```text
 //! number(b"0042")      // Some(42)
@@ -20,10 +20,10 @@ use ic_any_collection::Kind;
 use ic_rbtree::Bound;
 use ic_unsafe_ref::Place;
 
-// The most digits of a number, leading zeros included.
+// The most digits of a number, including leading zeros.
 const MOST_DIGITS: usize = 20;
 
-/// The kind of that name: `singly`, `doubly`, `xor` or `tree`. `None` of any other word.
+/// Returns the kind with this name: `singly`, `doubly`, `xor` or `tree`. For any other word it returns `None`.
 pub(crate) fn kind(word: &[u8]) -> Option<Kind>
     ensures { result ≡ kind_in word.now }
 {
@@ -36,7 +36,8 @@ pub(crate) fn kind(word: &[u8]) -> Option<Kind>
     }
 }
 
-/// The bound of keys that a word says: `included:K`, `excluded:K` or `unbounded`, K a number. `None` of any other word. O(bytes).
+/// Returns the bound of keys that a word stands for: `included:K` or `excluded:K` with a number K, or `unbounded`. For any other word it returns
+/// `None`. O(bytes).
 pub(crate) fn bound(word: &[u8]) -> Option<Bound<u64>>
     ensures { result ≡ bound_in word.now }
 {
@@ -52,8 +53,8 @@ pub(crate) fn bound(word: &[u8]) -> Option<Bound<u64>>
     }
 }
 
-/// The neighbor that a word says: an object, by its number, or none beyond an end, which is `none`. The outer `None` is the answer of any
-/// other word. O(bytes).
+/// Returns the neighbor that a word stands for: the number of an object, or `none` beyond an end of the list. For any other word the outer result is
+/// `None`. O(bytes).
 pub(crate) fn neighbor(word: &[u8]) -> Option<Option<Place>>
     ensures { result ≡ neighbor_in word.now }
 {
@@ -63,14 +64,14 @@ pub(crate) fn neighbor(word: &[u8]) -> Option<Option<Place>>
     }
 }
 
-// The place of an object, which need not exist: its number is below 4,294,967,296. `None` of any other word.
+// Returns the place of an object, which need not exist, for a number below 4,294,967,296. For any other word it returns `None`.
 fn place(word: &[u8]) -> Option<Place>
     ensures { result ≡ place_in word.now }
 {
     place_of(number(word)? as usize)
 }
 
-/// The place of that number, if there is one: it is below 4,294,967,296.
+/// Returns the place with this number, if the number is below 4,294,967,296.
 #[inline(always)]
 pub(crate) fn place_of(number: usize) -> Option<Place>
     ensures { result ≡ nth_place number }
@@ -78,7 +79,7 @@ pub(crate) fn place_of(number: usize) -> Option<Place>
     Place::new(number)
 }
 
-/// The value of 1 to 20 decimal digits, where it is below 2^64. `None` of any other word, one with a sign too. O(digits).
+/// Returns the value of 1 to 20 decimal digits, if it is below 2^64. For any other word, also one with a sign, it returns `None`. O(digits).
 pub(crate) fn number(word: &[u8]) -> Option<u64>
     ensures { result ≡ number_in word.now }
 {
@@ -88,8 +89,8 @@ pub(crate) fn number(word: &[u8]) -> Option<u64>
     }
 }
 
-/// The number that the leading digits of a text write, and how many these are. `None` where they are no number: there are none, more than 20,
-/// or their value is 2^64 or more. O(digits).
+/// Returns the value of the leading digits of a text, and their count. The result is `None` if there are no digits or more than 20, or if their value
+/// is 2^64 or more. O(digits).
 #[inline]
 pub(crate) fn leading_number(text: &[u8]) -> Option<(u64, usize)>
     ensures valid { IsSome result ↔ IsNumber (leading_digits text.now) }
@@ -112,7 +113,7 @@ pub(crate) fn leading_number(text: &[u8]) -> Option<(u64, usize)>
     Some((number, digits))
 }
 
-// A number with one more digit, where it stays below 2^64.
+// Returns a number with one more digit, if it stays below 2^64.
 #[inline]
 fn with_digit(number: u64, digit: u8) -> Option<u64>
     ensures { MoreDigits number digit result }
@@ -123,8 +124,8 @@ fn with_digit(number: u64, digit: u8) -> Option<u64>
     number.checked_mul(10)?.checked_add((digit - b'0') as u64)
 }
 
-/// The number that the first word of a line is, and the text after that, if it has 1 to 4 digits and is not at the end of the text. `None`
-/// says nothing of the word.
+/// Returns the number in the first word of a line, and the text after it, if it has 1 to 4 digits and is not at the end of the text. `None` does not
+/// mean that the word is not a number.
 #[inline(always)]
 pub(crate) fn small_number<'l>(text: &'l [u8]) -> Option<(u64, &'l [u8])>
     ensures { IfSome result (λ read. Reads number_in text.now read.0 read.1.now) }
@@ -137,7 +138,7 @@ pub(crate) fn small_number<'l>(text: &'l [u8]) -> Option<(u64, &'l [u8])>
     Some((number, rest))
 }
 
-// The number that the leading digits of a text write, and how many these are, where there are 1 to 4. No loop.
+// Returns the value of the leading digits of a text, and their count, if there are 1 to 4. It has no loop.
 #[inline(always)]
 fn few_digits(text: &[u8]) -> Option<(u64, usize)>
     ensures read { IfSome result (λ read. IsLeading text.now read.0 read.1) }
@@ -164,7 +165,7 @@ fn few_digits(text: &[u8]) -> Option<(u64, usize)>
     Some((((first * 10 + second) * 10 + third) * 10 + fourth, 4))
 }
 
-// The value of a digit. `None` of any other byte.
+// Returns the value of a digit, or `None` for any other byte.
 #[inline(always)]
 fn digit(byte: u8) -> Option<u64>
     ensures some { IfSome result (λ digit. (digit ≡ digit_value byte) × (digit < 10)) }

@@ -1,4 +1,4 @@
-//! Workers that share the first places out: which words ask for them, and what is printed.
+//! Workers that share out the first places: the arguments that start them, and what the program prints.
 //!
 //! ```text
 //! workers_of(&words) // Some of 4 workers and 1000 places, for the words `workers 4 1000`
@@ -22,21 +22,21 @@ use std::io::Write;
 use std::sync::Wait;
 use std::thread::Threads;
 
-// The most workers, and the most places, that the program takes.
+// The most workers and the most places that the program accepts.
 const MOST_WORKERS: u64 = 64;
 
 const MOST_PLACES: u64 = 1_000_000;
 
-/// How many workers share out how many places.
+/// The number of workers, and the number of places that they share out.
 #[derive(Clone, Copy, PartialEq, Eq, Debug)]
 pub struct Workers {
-    /// From 1 to 64.
+    /// The number of workers, from 1 to 64.
     pub workers: usize,
-    /// At most 1,000,000.
+    /// The number of places, at most 1,000,000.
     pub places: usize,
 }
 
-/// What the words `workers W N` ask for. `None`: the words are others, or a number is none or not within its bounds.
+/// Returns the numbers in the words `workers W N`. It returns `None` for other words, and if one of the two is not a number or out of its bounds.
 pub fn workers_of(words: &[String]) -> Option<Workers>
     ensures asked { IfSome result (AskFor words.now) }
     ensures none { IfNone result ((asked : Workers) → AskFor words.now asked → ⊥) }
@@ -58,7 +58,7 @@ pub fn workers_of(words: &[String]) -> Option<Workers>
     })
 }
 
-// Lets every worker pass.
+// A gate that lets every worker pass.
 struct Open;
 
 impl Gate for Open {
@@ -69,8 +69,8 @@ impl Gate for Open {
     }
 }
 
-/// Lets the workers share the places out, each in a thread of its own, and writes which places each got, and how many places stand
-/// in two of their lists: none, by the contract of `fan_out`. If there is no memory it writes nothing.
+/// Lets the workers share out the places, each in a thread of its own. It writes which places each worker got, and how many places are in more than
+/// one list, which is 0 by the contract of `fan_out`. If memory runs out, it writes nothing.
 pub(crate) fn run_workers<S: Threads + Wait + Sync, M: Allocator + Copy + Send + Sync, W: Write>(
     rt: &S,
     alloc: M,
@@ -89,7 +89,7 @@ pub(crate) fn run_workers<S: Threads + Wait + Sync, M: Allocator + Copy + Send +
     write_whole(writer, &text)
 }
 
-// A line of each list, and then how many of the first places stand in two of them.
+// Writes a line for each list, and then how many of the first places are in more than one of them.
 fn workers_text_of<M: Allocator + Copy>(
     alloc: M,
     places: usize,
@@ -106,7 +106,7 @@ fn workers_text_of<M: Allocator + Copy>(
     Ok(text)
 }
 
-// Puts the line of the worker of that number after the others.
+// Appends the line of the worker with this number.
 fn push_worker<M: Allocator>(
     text: &mut Vec<u8, M>,
     number: usize,

@@ -20,12 +20,12 @@ use Rattle.ic_raw.proofs.LinkViews.{splits_back}
 
 -- a gap beside none is the outermost one of all
 pub outermost_is : (side : Side) (cut : Cut) → IsBeside side cut None → gap_of (outermost side (join cut)) ≡ gap_of cut
-outermost_is After cut e = λ k. record { before = e k; behind = first_of_back cut.front cut.back e k }
-outermost_is Before cut e = λ k. record { before = last_of_front cut.front cut.back e k; behind = e k }
+outermost_is After cut e = λ k. record { before = e k; after = first_of_back cut.front cut.back e k }
+outermost_is Before cut e = λ k. record { before = last_of_front cut.front cut.back e k; after = e k }
 
 -- the gap after a member
-abbrev pub behind : Place → (front back : List Place) → Cut
-behind p front back = record { front = front ++ p ∷ []; back = back }
+abbrev pub after : Place → (front back : List Place) → Cut
+after p front back = record { front = front ++ p ∷ []; back = back }
 
 -- a sequence that has a member has the same first one with more after, and the same last one with one more before or between
 pub first_kept : (s t : List Place) {q : Place} → Some q ≡ last s → first (s ++ t) ≡ first s
@@ -99,7 +99,7 @@ module _ {W : Type 0} (words : LinkWords W) where
       → TellsGap words Before t list at
   told_before t list at prev e stands back = (rw e stands, rw e back)
 
-  pub represented_after : {t : Table W} {list : Ends} (front : List Place) (p : Place) (back : List Place) → Represents words t list (front ++ p ∷ back) → Represents words t list (join (behind p front back))
+  pub represented_after : {t : Table W} {list : Ends} (front : List Place) (p : Place) (back : List Place) → Represents words t list (front ++ p ∷ back) → Represents words t list (join (after p front back))
   represented_after front p back shown = rw append_assoc shown
 
   -- `at` stands between the two sides of a cut, which lead to it: a member between its neighbors, and none between the last member and the first
@@ -108,7 +108,7 @@ module _ {W : Type 0} (words : LinkWords W) where
     pub prev : prev_from words t list at ≡ last cut.front
     pub next : next_from words t list at ≡ first cut.back
     pub led_to : (before : Option Place) → before ≡ last cut.front → IsNoneOrLinked words.is_linked t before × (at ≡ next_from words t list before)
-    pub followed : (behind : Option Place) → behind ≡ first cut.back → IsNoneOrLinked words.is_linked t behind × (at ≡ prev_from words t list behind)
+    pub followed : (after : Option Place) → after ≡ first cut.back → IsNoneOrLinked words.is_linked t after × (at ≡ prev_from words t list after)
 
   pub around_member : {t : Table W} {list : Ends} (front : List Place) (p : Place) (back : List Place) → Represents words t list (front ++ p ∷ back) → {at : Option Place} → at ≡ Some p
       → IsAround t list at (record { front = front; back = back })

@@ -52,26 +52,26 @@ module _ {W : Type 0} (words : LinkWords W) where
       (follows : (neighbors words (t.entry at)).prev ≡ prev) where
     -- what is walked, with `at` itself, before what stands after
     chain_on : (next : Option Place) → (neighbors words (t.entry at)).next ≡ next → IsChain (IsBetween (neighbors words)) t.entry None (leads.walked ++ at ∷ []) next
-    chain_on next behind =
+    chain_on next after =
         chain_glue (IsBetween (neighbors words)) t.entry None leads.walked (at ∷ []) next leads.chain
-        (record { linked = linked; prev = follows ∙ leads.ends; next = behind }, tt)
+        (record { linked = linked; prev = follows ∙ leads.ends; next = after }, tt)
 
     starts_on : (next : Option Place) → list.head ≡ first_or (leads.walked ++ at ∷ []) next
     starts_on next = leads.starts ∙ sym (first_or-append leads.walked (at ∷ []) next)
 
     -- they lead on to what stands after it,
     pub leads_on : {next : Place} → (neighbors words (t.entry at)).next ≡ Some next → LeadsTo t list (Some at) next
-    leads_on {next} behind = record {
+    leads_on {next} after = record {
       walked = leads.walked ++ at ∷ [];
-      chain = chain_on (Some next) behind;
+      chain = chain_on (Some next) after;
       starts = starts_on (Some next);
       ends = sym (last_of_push leads.walked at);
     }
 
     -- and where nothing does, and it is the last member of the list, they are all of it
     pub ends_there : (neighbors words (t.entry at)).next ≡ None → list.tail ≡ Some at → (s : List Place) × Represents words t list s
-    ends_there behind tail =
-        let chain = chain_on None behind in (
+    ends_there after tail =
+        let chain = chain_on None after in (
           leads.walked ++ at ∷ [],
           record {
             distinct = ended_distinct t.entry None (leads.walked ++ at ∷ []) chain;

@@ -36,7 +36,7 @@ module _ {W : Type 0} (words : LinkWords W) (t : Table W) (given : Ends) where
 -- ALL OF A LIST with these ends, of which none is without the other, goes into a gap
 module _ {gap : Gap} {old new : Ends} where
   ends_put_in : (head tail : Option Place) → (head ≡ None → tail ≡ None) → (tail ≡ None → head ≡ None) → TakenOut gap old old → (head ≡ None → new ≡ old)
-      → ((first : Place) → head ≡ Some first → TurnsEnds (λ last. last) old new gap.before gap.behind (Some first) tail)
+      → ((first : Place) → head ≡ Some first → TurnsEnds (λ last. last) old new gap.before gap.after (Some first) tail)
       → AllPutIn gap (record { head = head; tail = tail }) old new
   ends_put_in None None tailless headless stays kept turns = rw (kept refl) stays
   ends_put_in None (Some q) tailless headless stays kept turns = absurd (none_not q (sym (tailless refl)))
@@ -45,13 +45,13 @@ module _ {gap : Gap} {old new : Ends} where
 
 pub all_put_in : {W : Type 0} (words : LinkWords W) (side : Side) (t : Table W) {list given new : Ends} (at : Option Place) {end : Option Place} {found : Gap} → found ≡ gap_from words side t list at → end ≡ given.tail
     → TellsGap words side t list at → TellsGap words After t given None → TellsGap words Before t given None → (given.head ≡ None → new ≡ list)
-    → ((first : Place) → given.head ≡ Some first → TurnsEnds (λ last. last) list new found.before found.behind (Some first) end)
+    → ((first : Place) → given.head ≡ Some first → TurnsEnds (λ last. last) list new found.before found.after (Some first) end)
     → AllPutIn (gap_from words side t list at) given list new
 all_put_in words side t {list} {given} at same is links_back front back kept turns =
     ends_put_in given.head given.tail (no_tail words t given front) (no_head words t given back) (stays_cut words t list side at links_back) kept (rw (← same, ← is) turns)
 
 -- a list is cut at a gap
-pub cut_at : {gap : Gap} {old new rest : Ends} → SplitsEnds (λ last. last) old new rest gap.before gap.behind → IsCutAt gap old new rest
+pub cut_at : {gap : Gap} {old new rest : Ends} → SplitsEnds (λ last. last) old new rest gap.before gap.after → IsCutAt gap old new rest
 cut_at split = record { front_head = split.head; front_tail = split.tail; back_head = split.rest_head; back_tail = split.rest_tail _ refl }
 
 -- and what is said of a gap and of ends is said of the same ones, named otherwise

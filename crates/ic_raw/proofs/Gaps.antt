@@ -6,9 +6,9 @@ use Rattle.ic_raw.specs.declared.status.TheConstants.{OK}
 use Rattle.ic_raw.specs.Gaps.{BeginApart, gap_of}
 
 -- the gap of a cut, by its two sides
-pub gap_is : (cut : Cut) {before behind : Option Place} → before ≡ last cut.front → behind ≡ first cut.back
-    → ◌≡◌ {A = Option Gap} (Some (record { before = before; behind = behind })) (Some (gap_of cut))
-gap_is cut b e = λ k. Some (record { before = b k; behind = e k })
+pub gap_is : (cut : Cut) {before after : Option Place} → before ≡ last cut.front → after ≡ first cut.back
+    → ◌≡◌ {A = Option Gap} (Some (record { before = before; after = after })) (Some (gap_of cut))
+gap_is cut b e = λ k. Some (record { before = b k; after = e k })
 
 -- a test that fails where it has to succeed
 pub never : {b : Bool} → b ≡ false → b ≡ true → ⊥

@@ -36,9 +36,9 @@ module _ {Own : Place → Type 0} {t : Table RawOne} where
 
   pub own_more : {front next : Option Place} {p : Place} {count more : ℕ} → WalksOwn Own t front (Some p) count → is_linked_one (t.entry p) ≡ true → Own p
       → (successor_at successor t p).next ≡ next → more ≡ count + 1 → WalksOwn Own t front next more
-  own_more {next = next} {p} k linked own behind counts = record {
+  own_more {next = next} {p} k linked own after counts = record {
     walked = k.walked ++ p ∷ [];
-    chain = chain_glue (IsFollowed successor) t.entry None k.walked (p ∷ []) next k.chain (record { linked = linked; next = behind }, tt);
+    chain = chain_glue (IsFollowed successor) t.entry None k.walked (p ∷ []) next k.chain (record { linked = linked; next = after }, tt);
     starts = k.starts ∙ sym (first_or-append k.walked (p ∷ []) next);
     own = all_both Own k.walked (p ∷ []) k.own (own, tt);
     many = omega (arith, length-append k.walked (p ∷ []), k.many, counts);

@@ -56,8 +56,8 @@ module _ {is : Place → Bool} {t : Table RawOne} {s : List Place} where
 
     -- ONE MEMBER ON, which fails
     pub comes_on : {next : Option Place} → IsDistinct s → is p ≡ false → next ≡ (successor_at successor t p).next → Comes is t s (Some p) next (left - 1)
-    comes_on d fails behind =
-        let more = passed_more d k.passed fails (behind ∙ (next_between k.passed.walk).next) in
+    comes_on d fails after =
+        let more = passed_more d k.passed fails (after ∙ (next_between k.passed.walk).next) in
         record { passed = more.0; few = omega (arith, k.few, ap length {y = p ∷ more.0.walk.rest} more.1) }
 
     -- THE FIRST MEMBER THAT PASSES

@@ -12,7 +12,9 @@ use Rattle.ic_link_ops.specs.Frames.{child_on}
 use Rattle.ic_link_ops.specs.PlainTables.{entry_at}
 use Rattle.ic_link_ops.specs.RedBlackTree as trees
 use Rattle.ic_link_ops.specs.Trees.{Tree}
-use Rattle.ic_rbtree.specs.Closed.{AreIn}
+use Rattle.ic_rbtree.specs.Closed.{AreIn, IsClosed}
+use Rattle.ic_rbtree.proofs.Closed.{in_there}
+use Rattle.ic_rbtree.proofs.Closed as sets
 use Rattle.ic_rbtree.specs.Borders.{IsBorder, Finds, less_at, at_most_at, if_passes, equal_at}
 use Rattle.ic_rbtree.specs.Descents as descents
 use Rattle.ic_rbtree.specs.Comparing.{goes_left}
@@ -25,14 +27,14 @@ use Rattle.ic_raw.specs.declared.search.Way.{Way}
 use Rattle.ic_raw.specs.declared.search.Target.{Target}
 use Rattle.ic_raw.specs.declared.search.Target.TheVariants.{Equal, AtLeast, AtMost}
 use Rattle.ic_raw.specs.Gaps.{IsNoneOrLinked}
-use Rattle.ic_raw.specs.Keys.{keys_fault, at_root, past, EndsIn, HasTurned, IsTarget, LeadsDown, NamesTarget, SearchEnds}
+use Rattle.ic_raw.specs.Keys.{keys_fault, at_root, past, EndsBelow, EndsIn, HasTurned, IsTarget, LeadsDown, NamesTarget, SearchEnds}
 use Rattle.ic_raw.specs.declared.nodes.Seen.{Seen}
 use Rattle.ic_raw.specs.Seen.{seen, seen_node, has_place}
 use Rattle.ic_raw.specs.declared.table.RawTable.{RawTable}
 use Rattle.ic_raw.specs.Tables.{raw_entries}
 use Rattle.ic_raw.specs.Tree.{Represents, IsInsertPos, lent_table, table_of}
 use Rattle.ic_raw.specs.Words.{is_linked_three, no_tree_words}
-use Rattle.ic_raw.proofs.Trees.{beside_stands, hole_told, seen_represents}
+use Rattle.ic_raw.proofs.Trees.{beside_stands, child_in, hole_told, seen_represents}
 
 -- each place of the table has a key
 pub keyed : (t : Table RawThree) (keys : List ℕ) → t.extent.places ≤ length keys → (p : Place) → has_place t p ≡ true → is_placed (at_indexes keys) p ≡ true
@@ -129,6 +131,49 @@ turned_nowhere left is = record {
 pub turned_on : (left : Place → Bool) (way : Way) (p : Place) (to_left : Bool) → to_left ≡ left p → HasTurned left way → HasTurned left (past way p to_left)
 turned_on left way p true same was = record { front = was.front; back = λ q e. subst (λ r. left r ≡ true) (some_same e) (sym same) }
 turned_on left way p false same was = record { front = λ q e. subst (λ r. left r ≡ false) (some_same e) (sym same); back = was.back }
+
+-- A SEARCH IS AT A PLACE of the table, past so many members, on the way down from the root
+pub record IsAt (t : Table RawThree) (root : Option Place) (at : Place → Ordering) (equals : Side) (way : Way) (p : Place) (looks : ℕ) : Type 0 where
+  pub each : (s : List Place) (h : trees.Represents seen_node (seen t) root s) → Comes t root at equals h.tree (Some p) way looks
+  pub down : (w : List Place) × LeadsDown (seen t) (λ q. goes_left equals (at q)) root w (Some p)
+  pub turned : HasTurned (λ q. goes_left equals (at q)) way
+  pub here : has_place t p ≡ true
+  pub inside : (S : Place → Bool) → IsClosed seen_node (seen t) root S → (S p ≡ true) × AreIn S (way.parent ∷ way.front ∷ way.back ∷ [])
+
+-- THE WAY IS AT ITS END, with all that a search tells of it
+pub record IsDown (t : Table RawThree) (root : Option Place) (at : Place → Ordering) (equals : Side) (way : Way) : Type 0 where
+  pub ends : (s : List Place) (h : trees.Represents seen_node (seen t) root s) → EndsIn t (gap_in (λ q. goes_left equals (at q)) h.tree) way
+  pub down : EndsBelow (seen t) (λ q. goes_left equals (at q)) root
+  pub turned : HasTurned (λ q. goes_left equals (at q)) way
+  pub within : (S : Place → Bool) → IsClosed seen_node (seen t) root S → AreIn S (way.parent ∷ way.front ∷ way.back ∷ [])
+
+module _ {t : Table RawThree} {root : Option Place} {at : Place → Ordering} {equals : Side} {way way' : Way} {p : Place} {looks : ℕ} (x : IsAt t root at equals way p looks)
+    (is : way' ≡ past way p (goes_left equals (at p))) where
+  -- what the search keeps on the way, past one more place
+  turns : HasTurned (λ q. goes_left equals (at q)) way'
+  turns = rw is (turned_on (λ q. goes_left equals (at q)) way p (goes_left equals (at p)) refl x.turned)
+
+  keeps : (S : Place → Bool) → IsClosed seen_node (seen t) root S → AreIn S (way'.parent ∷ way'.front ∷ way'.back ∷ [])
+  keeps S h = let was = x.inside S h in rw is (past_within S way p (goes_left equals (at p)) was.0 was.1)
+
+  -- it looks at the place, and goes on
+  pub at_next : {next : Place} → child_on (side_of (goes_left equals (at p))) (seen_node ((seen t).entry p)) ≡ Some next → IsAt t root at equals way' next (looks + 1)
+  at_next {next} below = record {
+    each = λ s h. comes_on t (x.each s h) (goes_left equals (at p)) is refl refl (sym below) refl;
+    down = down_past (seen t) at equals x.down refl refl (sym below);
+    turned = turns;
+    here = in_there (has_place t) (child_in t (side_of (goes_left equals (at p))) p) below;
+    inside = λ S h. (in_there S (sets.child_in seen_node h (side_of (goes_left equals (at p))) p (x.inside S h).0 (none_not p)) below, keeps S h);
+  }
+
+  -- or comes to the end
+  pub at_end : child_on (side_of (goes_left equals (at p))) (seen_node ((seen t).entry p)) ≡ None → IsDown t root at equals way'
+  at_end below = record {
+    ends = λ s h. comes_to_end t (comes_on t (x.each s h) (goes_left equals (at p)) is refl refl (sym below) refl) refl;
+    down = down_past (seen t) at equals x.down refl refl (sym below);
+    turned = turns;
+    within = keeps;
+  }
 
 -- a key that is not less is at least as great
 pub at_least : (order : Ordering) → is_lt order ≡ false → is_ge order ≡ true

@@ -22,11 +22,11 @@ module _ {E W : Type 0} {between : E → Option Place → Option Place → Type 
 
   -- `Names`: entries of the kind say what stands before their places
   -- REMOVE: the neighbors of p are turned to each other, and then p is released
-  pub removed : {Names : Type 0} {old mid new : Table E} {list list' : ListHead W} (front : List Place) (p : Place) (back : List Place) {before behind : Option Place}
-      → before ≡ last front → behind ≡ first back → RepresentsChain between keep old list (front ++ p ∷ back)
-      → ((front back : List Place) → RepresentsChain between keep old list (front ++ p ∷ back) → before ≡ last front → behind ≡ first back
+  pub removed : {Names : Type 0} {old mid new : Table E} {list list' : ListHead W} (front : List Place) (p : Place) (back : List Place) {before following : Option Place}
+      → before ≡ last front → following ≡ first back → RepresentsChain between keep old list (front ++ p ∷ back)
+      → ((front back : List Place) → RepresentsChain between keep old list (front ++ p ∷ back) → before ≡ last front → following ≡ first back
       → RepresentsChain between keep mid list' (front ++ back))
-      → mid.extent ≡ old.extent → ((q : Place) → before ≢ Some q → (Names → behind ≢ Some q) → mid.entry q ≡ old.entry q)
+      → mid.extent ≡ old.extent → ((q : Place) → before ≢ Some q → (Names → following ≢ Some q) → mid.entry q ≡ old.entry q)
       → ChangesOnly mid new p → Removes (RepresentsChain between keep) old new list' (gaps.before p front back)
   removed {new} front p back is_before is_after shown off extent others released = record {
     shows = represents_beside {new = new} (off front back shown is_before is_after) (distinct_middle front back p shown.distinct) released.others;
@@ -38,13 +38,13 @@ module _ {E W : Type 0} {between : E → Option Place → Option Place → Type 
   }
 
   -- MOVE: the neighbors of p are turned to each other, and then p is put where the others are cut
-  pub moved : {Names : Type 0} {old mid new : Table E} {list off_list list' : ListHead W} (front : List Place) (p : Place) (back : List Place) (cut : Cut) {b a before behind : Option Place}
-      → b ≡ last front → a ≡ first back → IsAfter cut before → IsBefore cut behind → join cut ≡ front ++ back → RepresentsChain between keep old list (front ++ p ∷ back)
+  pub moved : {Names : Type 0} {old mid new : Table E} {list off_list list' : ListHead W} (front : List Place) (p : Place) (back : List Place) (cut : Cut) {b a before following : Option Place}
+      → b ≡ last front → a ≡ first back → IsAfter cut before → IsBefore cut following → join cut ≡ front ++ back → RepresentsChain between keep old list (front ++ p ∷ back)
       → ((front back : List Place) → RepresentsChain between keep old list (front ++ p ∷ back) → b ≡ last front → a ≡ first back → RepresentsChain between keep mid off_list (front ++ back))
       → mid.extent ≡ old.extent → ((q : Place) → b ≢ Some q → (Names → a ≢ Some q) → mid.entry q ≡ old.entry q)
-      → ((front back : List Place) → RepresentsChain between keep mid off_list (front ++ back) → before ≡ last front → behind ≡ first back → IsAbsent p (front ++ back)
+      → ((front back : List Place) → RepresentsChain between keep mid off_list (front ++ back) → before ≡ last front → following ≡ first back → IsAbsent p (front ++ back)
       → RepresentsChain between keep new list' (front ++ p ∷ back))
-      → new.extent ≡ mid.extent → ((q : Place) → before ≢ Some q → q ≢ p → (Names → behind ≢ Some q) → new.entry q ≡ mid.entry q)
+      → new.extent ≡ mid.extent → ((q : Place) → before ≢ Some q → q ≢ p → (Names → following ≢ Some q) → new.entry q ≡ mid.entry q)
       → Inserts (RepresentsChain between keep) old new list' cut p
   moved front p back cut is_b is_a after ahead same shown off extent others put extent' others' = record {
     shows = put cut.front cut.back (rw same (off front back shown is_b is_a)) after ahead (rw same (distinct_middle front back p shown.distinct));
@@ -68,11 +68,11 @@ module _ {E W : Type 0} {between : E → Option Place → Option Place → Type 
       after_stands e q k = gap_after_linked law front back shown (sym k ∙ e)
 
     -- INSERT: p, which is free, is acquired, and then put into the gap
-    pub inserted : {Names : Type 0} {old mid new : Table E} {list list' : ListHead W} (cut : Cut) {p : Place} {before behind : Option Place}
-        → IsAfter cut before → IsBefore cut behind → RepresentsChain between keep old list (join cut) → IsFree linked old p → ChangesOnly old mid p
-        → ((front back : List Place) → RepresentsChain between keep mid list (front ++ back) → before ≡ last front → behind ≡ first back → IsAbsent p (front ++ back)
+    pub inserted : {Names : Type 0} {old mid new : Table E} {list list' : ListHead W} (cut : Cut) {p : Place} {before following : Option Place}
+        → IsAfter cut before → IsBefore cut following → RepresentsChain between keep old list (join cut) → IsFree linked old p → ChangesOnly old mid p
+        → ((front back : List Place) → RepresentsChain between keep mid list (front ++ back) → before ≡ last front → following ≡ first back → IsAbsent p (front ++ back)
         → RepresentsChain between keep new list' (front ++ p ∷ back))
-        → new.extent ≡ mid.extent → ((q : Place) → before ≢ Some q → q ≢ p → (Names → behind ≢ Some q) → new.entry q ≡ mid.entry q)
+        → new.extent ≡ mid.extent → ((q : Place) → before ≢ Some q → q ≢ p → (Names → following ≢ Some q) → new.entry q ≡ mid.entry q)
         → Inserts (RepresentsChain between keep) old new list' cut p
     inserted {mid} cut after ahead shown free acquired put extent others =
         let out = free_absent law shown free.unlinked in record {
@@ -85,11 +85,11 @@ module _ {E W : Type 0} {between : E → Option Place → Option Place → Type 
         }
 
     -- REPLACE: p, which is free, is acquired, and put where the member `out` is, which is then released
-    pub replaced : {Names : Type 0} {old mid late new : Table E} {list list' : ListHead W} (front : List Place) (out : Place) (back : List Place) {p : Place} {before behind : Option Place}
-        → before ≡ last front → behind ≡ first back → RepresentsChain between keep old list (front ++ out ∷ back) → IsFree linked old p → ChangesOnly old mid p
-        → ((front back : List Place) → RepresentsChain between keep mid list (front ++ out ∷ back) → before ≡ last front → behind ≡ first back → IsAbsent p (front ++ out ∷ back)
+    pub replaced : {Names : Type 0} {old mid late new : Table E} {list list' : ListHead W} (front : List Place) (out : Place) (back : List Place) {p : Place} {before following : Option Place}
+        → before ≡ last front → following ≡ first back → RepresentsChain between keep old list (front ++ out ∷ back) → IsFree linked old p → ChangesOnly old mid p
+        → ((front back : List Place) → RepresentsChain between keep mid list (front ++ out ∷ back) → before ≡ last front → following ≡ first back → IsAbsent p (front ++ out ∷ back)
         → RepresentsChain between keep late list' (front ++ p ∷ back))
-        → late.extent ≡ mid.extent → ((q : Place) → before ≢ Some q → q ≢ p → (Names → behind ≢ Some q) → late.entry q ≡ mid.entry q)
+        → late.extent ≡ mid.extent → ((q : Place) → before ≢ Some q → q ≢ p → (Names → following ≢ Some q) → late.entry q ≡ mid.entry q)
         → ChangesOnly late new out → Replaces (RepresentsChain between keep) old new list' (gaps.before out front back) p
     replaced {mid} {new} front out back {p} is_before is_after shown free acquired put extent others released =
         let absent = free_absent law shown free.unlinked in

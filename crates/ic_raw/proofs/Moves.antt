@@ -30,19 +30,19 @@ two_cuts (x ∷ a) b (y ∷ c) d e =
     ]
 
 -- a gap with a place on both sides has one toward either
-pub toward_either : (side : Side) (gap : Gap) → (q : Place) × (gap.before ≡ Some q) → (q : Place) × (gap.behind ≡ Some q) → (q : Place) × (toward side gap ≡ Some q)
-toward_either After gap before behind = before
-toward_either Before gap before behind = behind
+pub toward_either : (side : Side) (gap : Gap) → (q : Place) × (gap.before ≡ Some q) → (q : Place) × (gap.after ≡ Some q) → (q : Place) × (toward side gap ≡ Some q)
+toward_either After gap before after = before
+toward_either Before gap before after = after
 
 -- where a member has one toward an end, that end is the same without it
 pub end_left : (side : Side) (front : List Place) (p : Place) (back : List Place) {q : Place} → Some q ≡ toward side (gap_of (record { front = front; back = back }))
     → gap_of (outermost side (front ++ p ∷ back)) ≡ gap_of (outermost side (front ++ back))
 end_left After front p back e =
     let starts : first (front ++ p ∷ back) ≡ first (front ++ back) = first_kept front (p ∷ back) e ∙ sym (first_kept front back e) in
-    (λ k. record { before = None; behind = starts k })
+    (λ k. record { before = None; after = starts k })
 end_left Before front p back f =
     let ends : last (front ++ p ∷ back) ≡ last (front ++ back) = last_kept front p back f in
-    (λ k. record { before = ends k; behind = None })
+    (λ k. record { before = ends k; after = None })
 
 -- the outermost gap is beside none, and so is that in which the member at that end stands
 pub outermost_beside : (side : Side) (s : List Place) {at : Option Place} → at ≡ None → IsBeside side (outermost side s) at
@@ -125,7 +125,7 @@ module _ (side : Side) {at : Option Place} (p : Place) (front back : List Place)
   goes_after x m e f =
       let whole : Cut = record { front = front ++ p ∷ x ∷ m; back = cut.back } in
       let ends : last whole.front ≡ last cut.front = last_or-append None front (p ∷ x ∷ m) ∙ sym (last_or-append None front (x ∷ m)) ∙ ap last (sym e) in
-      let same : gap_of whole ≡ gap_of cut = (λ k. record { before = ends k; behind = first cut.back }) in (
+      let same : gap_of whole ≡ gap_of cut = (λ k. record { before = ends k; after = first cut.back }) in (
         whole,
         record { same = append_assoc front (p ∷ x ∷ m) cut.back ∙ ap (λ (s : List Place). front ++ p ∷ s) (sym f); beside = after_kept side _ cut whole.front beside ends },
         inr (apart_of p cut whole out same, same),
@@ -135,17 +135,17 @@ module _ (side : Side) {at : Option Place} (p : Place) (front back : List Place)
   goes_ahead x m e f =
       let whole : Cut = record { front = cut.front; back = x ∷ m ++ p ∷ back } in
       let starts : first whole.back ≡ first cut.back = ap first (sym f) in
-      let same : gap_of whole ≡ gap_of cut = (λ k. record { before = last cut.front; behind = starts k }) in (
+      let same : gap_of whole ≡ gap_of cut = (λ k. record { before = last cut.front; after = starts k }) in (
         whole,
         record { same = sym (append_assoc cut.front (x ∷ m) (p ∷ back)) ∙ ap (λ (s : List Place). s ++ p ∷ back) (sym e); beside = ahead_kept side _ cut whole.back beside starts },
         inr (apart_of p cut whole out same, same),
       )
 
   pub goes : join cut ≡ front ++ back → Goes side at p front back cut
-  goes same = elim (two_cuts cut.front cut.back front back same) [ inl r ↦ behind r.0 r.1 r.2 | inr r ↦ ahead r.0 r.1 r.2 ] where
-    behind : (m : List Place) → cut.front ≡ front ++ m → back ≡ m ++ cut.back → Goes side at p front back cut
-    behind [] e f = goes_there (e ∙ append-nil front) (sym f)
-    behind (x ∷ m) e f = goes_after x m e f
+  goes same = elim (two_cuts cut.front cut.back front back same) [ inl r ↦ after r.0 r.1 r.2 | inr r ↦ ahead r.0 r.1 r.2 ] where
+    after : (m : List Place) → cut.front ≡ front ++ m → back ≡ m ++ cut.back → Goes side at p front back cut
+    after [] e f = goes_there (e ∙ append-nil front) (sym f)
+    after (x ∷ m) e f = goes_after x m e f
 
     ahead : (m : List Place) → front ≡ cut.front ++ m → cut.back ≡ m ++ back → Goes side at p front back cut
     ahead [] e f = goes_there (sym (e ∙ append-nil cut.front)) f

@@ -14,7 +14,7 @@ use Rattle.ic_raw.specs.Tables.{raw_entries}
 
 -- a gap by its two sides
 pub sides_are : {a b c d : Option Place} → a ≡ c → b ≡ d → gap_between a b ≡ gap_between c d
-sides_are e f = λ k. record { before = e k; behind = f k }
+sides_are e f = λ k. record { before = e k; after = f k }
 
 -- an end on the side of a member stays
 pub end_stays : {at end : Option Place} (fresh : Option Place) {q : Place} → at ≡ Some q → end_of at fresh end ≡ end
@@ -22,10 +22,10 @@ end_stays {end} fresh is = ap (λ a. end_of a fresh end) is
 
 -- of a list that keeps both ends, at a gap that was found
 module _ {old new : Ends} {found gap : Gap} (same : found ≡ gap) where
-  pub put_in : {place : Option Place} {p : Place} → place ≡ Some p → TurnsEnds (λ last. last) old new found.before found.behind (Some p) (Some p) → PutIn gap place old new
+  pub put_in : {place : Option Place} {p : Place} → place ≡ Some p → TurnsEnds (λ last. last) old new found.before found.after (Some p) (Some p) → PutIn gap place old new
   put_in is turns = rw (← same, is) (record { head = turns.head; tail = turns.tail _ refl })
 
-  pub taken_out : TurnsEnds (λ last. last) old new found.before found.behind found.behind found.before → TakenOut gap old new
+  pub taken_out : TurnsEnds (λ last. last) old new found.before found.after found.after found.before → TakenOut gap old new
   taken_out turns = rw (← same) (record { head = turns.head; tail = turns.tail _ refl })
 
 -- nothing stands before the first member of a chain alone: so a walk along it knows whether it has left the front
@@ -63,13 +63,13 @@ module _ (t : RawTable RawOne) (list list' : RawFront) {es : List RawOne} {edite
   front_left {member} named there own =
       let seen : next_from (lent_table t) edited (Some member) ≡ next_from (table_of es) (list_of list) (Some member) =
       ap (λ es. next_from (table_of es) (list_of list) (Some member)) view in
-      let behind = seen ∙ ap (λ at. next_from (table_of es) (list_of list) at) (sym there) in
-      written ∙ own ∙ (λ k. end_of (named k) (behind k) (read k).head)
+      let after = seen ∙ ap (λ at. next_from (table_of es) (list_of list) at) (sym there) in
+      written ∙ own ∙ (λ k. end_of (named k) (after k) (read k).head)
 
   -- or is the place that was put in
   pub front_put : {before at place named : Option Place} → before ≡ at → named ≡ place → new.head ≡ end_of before named edited.head
       → front_of list' ≡ end_of at place (front_of list)
-  front_put behind is own = written ∙ own ∙ (λ k. end_of (behind k) (is k) (read k).head)
+  front_put after is own = written ∙ own ∙ (λ k. end_of (after k) (is k) (read k).head)
 
   -- or what stood after the member that left, if that was the first
   pub front_lost : {member : Place} {first : Option Place} (before : Option Place) → first ≡ edited.head → (before ≡ None) ↔ (first ≡ Some member)

@@ -244,13 +244,13 @@ module _ {W : Type 0} (words : LinkWords W) where
   -- TWO NEIGHBORS stay so where another place leaves its ring: they are none of the two that are turned to each other for it
   pub stays_told : (side : Side) {t : Table W} {p at : Place} (from to : Place × Place) → AreLinked words t from.0 p → AreLinked words t p from.1 → AreLinked words t to.0 to.1
       → own_on side to ≡ at → at ≢ p → (neighbor_on side to ≢ p) → (to.0 ≢ from.0) × (to.1 ≢ from.1)
-  stays_told After from to before behind links_back own other beside = (
+  stays_told After from to before after links_back own other beside = (
     (λ e. beside (one_next links_back (rw e before))),
-    (λ e. other (sym own ∙ one_before links_back (rw e behind))),
+    (λ e. other (sym own ∙ one_before links_back (rw e after))),
   )
-  stays_told Before from to before behind links_back own other beside = (
+  stays_told Before from to before after links_back own other beside = (
     (λ e. other (sym own ∙ one_next links_back (rw e before))),
-    (λ e. beside (one_before links_back (rw e behind))),
+    (λ e. beside (one_before links_back (rw e after))),
   )
 
   -- A HEAD WHOSE LAST MEMBER IS THE HEAD has none
@@ -294,7 +294,7 @@ module _ {W : Type 0} (words : LinkWords W) where
 
   -- and one that is neither of both neighbors of a place
   pub apart_around : {t : Table W} {p q x y : Place} → AreLinked words t x p → AreLinked words t p y → (beside words Before t p ≢ Some q) → (beside words After t p ≢ Some q) → (q ≢ x) × (q ≢ y)
-  apart_around comes goes before behind = ((λ e. before (comes.prev ∙ ap Some (sym e))), (λ e. behind (goes.next ∙ ap Some (sym e))))
+  apart_around comes goes before after = ((λ e. before (comes.prev ∙ ap Some (sym e))), (λ e. after (goes.next ∙ ap Some (sym e))))
 
   -- A GAP THAT IS NOT BESIDE A HEAD, as its two tests tell, is not beside the head's own place
   pub splices_elsewhere : (side : Side) {t : Table W} {at given b : Place} (to : Place × Place) → AreLinked words t to.0 to.1 → own_on side to ≡ at → AreLinked words t b given
@@ -318,4 +318,4 @@ module _ {W : Type 0} (words : LinkWords W) where
   -- and one whose neighbors are told
   pub amid_back : (t : RawTable W) {es : List W} {p : Place} → raw_entries t ≡ es → (q : Place) × AreLinked words (lent_table words t) q p → (q : Place) × AreLinked words (lent_table words t) p q
       → IsAmid words es p
-  amid_back t e from to = record { before = from.0; behind = to.0; comes = told_back t e from.1; goes = told_back t e to.1 }
+  amid_back t e from to = record { before = from.0; after = to.0; comes = told_back t e from.1; goes = told_back t e to.1 }

@@ -262,7 +262,7 @@ head_on [] p at was after is turns = turns ∙ (λ k. end_of (after k) (Some p) 
 head_on (x ∷ s) p at was {head = head} after is turns = turns ∙ ap (λ b. end_of b (Some p) head) after ∙ end_after x s (Some p) head ∙ is
 
 -- and ends with the last where nothing stands after
-tail_on : (done : List Place) (p : Place) (behind end : Option Place) → end_of behind (Some p) (end_of behind (last_or end done) end) ≡ end_of behind (last_or end (done ++ p ∷ [])) end
+tail_on : (done : List Place) (p : Place) (after end : Option Place) → end_of after (Some p) (end_of after (last_or end done) end) ≡ end_of after (last_or end (done ++ p ∷ [])) end
 tail_on done p None end = sym (last_or-append end done (p ∷ []))
 tail_on done p (Some x) end = refl
 
@@ -274,9 +274,9 @@ module _ {E W : Type 0} (linked : E → Bool) (keep : Option Place → W) (Names
     pub parts : run ≡ done ++ rest
     pub after : before ≡ last_or gap.before done
     pub steps : TraceIs linked old now (map acquires done)
-    pub others : (q : Place) → IsAbsent q done → gap.before ≢ Some q → (Names → gap.behind ≢ Some q) → now.entry q ≡ old.entry q
+    pub others : (q : Place) → IsAbsent q done → gap.before ≢ Some q → (Names → gap.after ≢ Some q) → now.entry q ≡ old.entry q
     pub head : list'.head ≡ end_of gap.before (first_or done list.head) list.head
-    pub tail : (end : Option Place) → list.tail ≡ keep end → list'.tail ≡ keep (end_of gap.behind (last_or end done) end)
+    pub tail : (end : Option Place) → list.tail ≡ keep end → list'.tail ≡ keep (end_of gap.after (last_or end done) end)
 
   -- at first none is
   pub links_none : {t : Table E} {list : ListHead W} (gap : Gap) {run : List Place} → LinksRun t t list list gap gap.before run run
@@ -287,14 +287,14 @@ module _ {E W : Type 0} (linked : E → Bool) (keep : Option Place → W) (Names
     steps = λ q. refl;
     others = λ q out away beyond. refl;
     head = sym (end_again gap.before list.head);
-    tail = λ end is. is ∙ ap keep (sym (end_again gap.behind end));
+    tail = λ end is. is ∙ ap keep (sym (end_again gap.after end));
   }
 
   -- one more
   pub links_more : {old now new : Table E} {list was list' : ListHead W} {gap : Gap} {before : Option Place} {run : List Place} (p : Place) {rest : List Place}
       → LinksRun old now list was gap before run (p ∷ rest) → LinksAlso linked now new p
-      → ((q : Place) → before ≢ Some q → q ≢ p → (Names → gap.behind ≢ Some q) → new.entry q ≡ now.entry q)
-      → TurnsEnds keep was list' before gap.behind (Some p) (Some p) → LinksRun old new list list' gap (Some p) run rest
+      → ((q : Place) → before ≢ Some q → q ≢ p → (Names → gap.after ≢ Some q) → new.entry q ≡ now.entry q)
+      → TurnsEnds keep was list' before gap.after (Some p) (Some p) → LinksRun old new list list' gap (Some p) run rest
   links_more {old} {now} {new} {list = list} {gap = gap} p {rest} k also others turns = record {
     done = k.done ++ p ∷ [];
     parts = k.parts ∙ sym (append_assoc k.done (p ∷ []) rest);
@@ -305,7 +305,7 @@ module _ {E W : Type 0} (linked : E → Bool) (keep : Option Place → W) (Names
         let apart = absent_right q k.done (p ∷ []) out in
         others q (λ e. last_not gap.before k.done q away ahead (sym k.after ∙ e)) apart.0 beyond ∙ k.others q ahead away beyond;
     head = head_on k.done p gap.before list.head k.after k.head turns.head;
-    tail = λ end is. turns.tail _ (k.tail end is) ∙ ap keep (tail_on k.done p gap.behind end);
+    tail = λ end is. turns.tail _ (k.tail end is) ∙ ap keep (tail_on k.done p gap.after end);
   }
 
   -- and at last all are: nothing else is touched where entries after the gap stay, or there are none,
@@ -314,18 +314,18 @@ module _ {E W : Type 0} (linked : E → Bool) (keep : Option Place → W) (Names
     all_done : k.done ≡ run
     all_done = sym (k.parts ∙ ap (λ (s : List Place). k.done ++ s) none ∙ append-nil k.done)
 
-    pub touches_run : (Names → gap.behind ≡ None) → TouchesRun linked old now run gap.before
+    pub touches_run : (Names → gap.after ≡ None) → TouchesRun linked old now run gap.before
     touches_run outermost = record {
       steps_are = subst (λ s. TraceIs linked old now (map acquires s)) all_done k.steps;
       others = λ q out. k.others q (subst (IsAbsent q) (sym all_done) (absent_run q run out.1)) out.0 (λ names e. none_not q (sym (outermost names) ∙ e));
     }
 
     -- and the list's own words are turned to the first and the last of them
-    pub turns_run : (first count : ℕ) → IsRun first run → length run ≡ count → count ≢ 0 → TurnsEnds keep list list' gap.before gap.behind (place_of first) (last_of_run first count)
+    pub turns_run : (first count : ℕ) → IsRun first run → length run ≡ count → count ≢ 0 → TurnsEnds keep list list' gap.before gap.after (place_of first) (last_of_run first count)
     turns_run first count numbered counted some = record {
       head = k.head ∙ ap (λ o. end_of gap.before o list.head) (ap (λ (s : List Place). first_or s list.head) all_done ∙ run_begins run first count list.head numbered counted some);
       tail = λ end is.
-          k.tail end is ∙ ap (λ o. keep (end_of gap.behind o end)) (ap (λ (s : List Place). last_or end s) all_done ∙ run_ends run first count end numbered counted some);
+          k.tail end is ∙ ap (λ o. keep (end_of gap.after o end)) (ap (λ (s : List Place). last_or end s) all_done ∙ run_ends run first count end numbered counted some);
     }
 
 -- a run of no place is free, and where none goes in nothing is changed
@@ -347,7 +347,7 @@ touches_no_run {linked = linked} {t} {first} {count} none free = record {
 
 -- the ends of a list that keeps both, at a gap that was found, as its words say them
 pub turns_back : {was old new written : Ends} {found gap : Gap} {begins ends : Option Place} → found ≡ gap → was ≡ old → written ≡ new
-    → TurnsEnds (λ last. last) was new found.before found.behind begins ends → Turns gap begins ends old written
+    → TurnsEnds (λ last. last) was new found.before found.after begins ends → Turns gap begins ends old written
 turns_back same read write turns = rw (← same, ← read, write) (record { head = turns.head; tail = turns.tail _ refl })
 
 -- WHAT HOLDS OF A VIEW holds of the words that were lent, and the other way round
@@ -380,9 +380,9 @@ module _ {W : Type 0} (linked : W → Bool) (unlinked : W) where
 
   -- what a fill of a view touches is touched among the words, after the end of the gap that was found
   pub run_touched : {Names : Type 0} (a b : RawTable W) {es fs : List W} {found : Option Gap} {end : Option Place} {first count : ℕ} → raw_entries a ≡ es → fs ≡ raw_entries b
-      → ((g : Gap) → found ≡ Some g → (Names → g.behind ≡ None) → (free : IsFreeRun linked (raw_table unlinked a) first count)
+      → ((g : Gap) → found ≡ Some g → (Names → g.after ≡ None) → (free : IsFreeRun linked (raw_table unlinked a) first count)
       → TouchesRun linked (raw_table unlinked a) (raw_table unlinked b) free.run g.before)
-      → ((g : Gap) × (found ≡ Some g)) → ((g : Gap) → found ≡ Some g → (g.before ≡ end) × (Names → g.behind ≡ None))
+      → ((g : Gap) × (found ≡ Some g)) → ((g : Gap) → found ≡ Some g → (g.before ≡ end) × (Names → g.after ≡ None))
       → (free : IsFreeRun linked (table_of unlinked es) first count) → TouchesRun linked (table_of unlinked es) (table_of unlinked fs) free.run end
   unfolding run_viewed
   run_touched a b view words touched gap links_back free =

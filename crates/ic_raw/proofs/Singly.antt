@@ -43,10 +43,10 @@ gap_viewed t view same is finds cut shows after = finds cut (rw same (viewed no_
 
 -- what is found after a place by a view of the words stands there by the words themselves
 pub after_told : (t : RawTable RawOne) {words : List RawOne} (list : RawFront) {shown : Front} {at named : Option Place} {gap : Gap} {q : Place}
-    → raw_entries t ≡ words → shown ≡ list_of list → at ≡ named → gap ≡ record { before = at; behind = next_from (lent_table t) shown at } → gap.behind ≡ Some q
+    → raw_entries t ≡ words → shown ≡ list_of list → at ≡ named → gap ≡ record { before = at; after = next_from (lent_table t) shown at } → gap.after ≡ Some q
     → next_from (table_of words) (list_of list) named ≡ Some q
 after_told t list {shown} {at} {named} {gap} {q} view same is found stands =
-    let seen : next_from (lent_table t) shown at ≡ Some q = sym (ap (λ (g : Gap). g.behind) found) ∙ stands in
+    let seen : next_from (lent_table t) shown at ≡ Some q = sym (ap (λ (g : Gap). g.after) found) ∙ stands in
     let there = subst (λ l. next_from (lent_table t) l at ≡ Some q) same seen in
     let back : next_from (table_of (raw_entries t)) (list_of list) named ≡ Some q = subst (λ a. next_from (lent_table t) (list_of list) a ≡ Some q) is there in
     subst (λ es. next_from (table_of es) (list_of list) named ≡ Some q) view back
@@ -81,9 +81,9 @@ member_first t {p = p} is on = (
 )
 
 -- and of one after a place, where the gap that is found there has one
-pub member_told : (t : Table RawOne) (list : Front) {at : Option Place} {gap : Gap} {p : Place} → TellsGap t list at → gap ≡ record { before = at; behind = next_from t list at }
-    → gap.behind ≡ Some p → TellsMember t list at
-member_told t list {p = p} links_back found is = (links_back, (λ none. none_not p (sym none ∙ sym (ap (λ (g : Gap). g.behind) found) ∙ is)))
+pub member_told : (t : Table RawOne) (list : Front) {at : Option Place} {gap : Gap} {p : Place} → TellsGap t list at → gap ≡ record { before = at; after = next_from t list at }
+    → gap.after ≡ Some p → TellsMember t list at
+member_told t list {p = p} links_back found is = (links_back, (λ none. none_not p (sym none ∙ sym (ap (λ (g : Gap). g.after) found) ∙ is)))
 
 -- a list without a first member represents none
 pub represents_none : (t : Table RawOne) (list : Front) → list.head ≡ None → RepresentsSome t list
@@ -113,20 +113,20 @@ module _ (t : Place → RawOne) where
 module _ {t : Table RawOne} {front at : Place} (leads : LeadsTo t front at) (linked : is_linked_one (t.entry at) ≡ true) where
   -- what is walked, with `at` itself, before what stands after
   chain_on : (next : Option Place) → (successor_at successor t at).next ≡ next → IsChain (IsFollowed successor) t.entry None (leads.walked ++ at ∷ []) next
-  chain_on next behind =
-      chain_glue (IsFollowed successor) t.entry None leads.walked (at ∷ []) next leads.chain (record { linked = linked; next = behind }, tt)
+  chain_on next after =
+      chain_glue (IsFollowed successor) t.entry None leads.walked (at ∷ []) next leads.chain (record { linked = linked; next = after }, tt)
 
   starts_on : (next : Option Place) → Some front ≡ first_or (leads.walked ++ at ∷ []) next
   starts_on next = leads.starts ∙ sym (first_or-append leads.walked (at ∷ []) next)
 
   -- they lead on to what stands after it,
   pub leads_on : {next : Place} → (successor_at successor t at).next ≡ Some next → LeadsTo t front next
-  leads_on {next} behind = record { walked = leads.walked ++ at ∷ []; chain = chain_on (Some next) behind; starts = starts_on (Some next) }
+  leads_on {next} after = record { walked = leads.walked ++ at ∷ []; chain = chain_on (Some next) after; starts = starts_on (Some next) }
 
   -- and where nothing does, they are a list, which ends there
   pub ends_there : (successor_at successor t at).next ≡ None → (s : List Place) × Represents t (list_from (Some front)) s × (Some at ≡ last s)
-  ends_there behind =
-      let chain = chain_on None behind in (
+  ends_there after =
+      let chain = chain_on None after in (
         leads.walked ++ at ∷ [],
         record { distinct = ended_distinct t.entry None (leads.walked ++ at ∷ []) chain; chain = chain; head = starts_on None; tail = refl },
         sym (last_of_push leads.walked at),
@@ -142,23 +142,23 @@ pub touches_places : {old new : Table RawOne} {steps : List LinkStep} (places : 
 touches_places places k = record { steps_are = k.steps_are; others = λ q out. k.others q (apart_none places q out) }
 
 -- AN EDIT TOUCHES NOTHING BEHIND IT, because no entry says what stands before its place
-module _ {old mid new : Table RawOne} {before behind : Option Place} {p : Place} where
+module _ {old mid new : Table RawOne} {before after : Option Place} {p : Place} where
   pub touches_put : IsFree is_linked_one old p → IsLinked is_linked_one mid p → ChangesOnly old mid p → KeepsLinked is_linked_one mid new
-      → ((q : Place) → before ≢ Some q → q ≢ p → (⊥ → behind ≢ Some q) → new.entry q ≡ mid.entry q)
+      → ((q : Place) → before ≢ Some q → q ≢ p → (⊥ → after ≢ Some q) → new.entry q ≡ mid.entry q)
       → Touches is_linked_one old new (acquires p ∷ []) (Some p ∷ before ∷ [])
   touches_put free is only keeps others =
-      touches_places (Some p ∷ before ∷ []) (touches_insert {Names = ⊥} {behind = None} free is only keeps (λ q away other none. others q away other (λ no. absurd no)))
+      touches_places (Some p ∷ before ∷ []) (touches_insert {Names = ⊥} {following = None} free is only keeps (λ q away other none. others q away other (λ no. absurd no)))
 
-  pub touches_off : KeepsLinked is_linked_one old mid → ((q : Place) → before ≢ Some q → (⊥ → behind ≢ Some q) → mid.entry q ≡ old.entry q)
+  pub touches_off : KeepsLinked is_linked_one old mid → ((q : Place) → before ≢ Some q → (⊥ → after ≢ Some q) → mid.entry q ≡ old.entry q)
       → Unlinks is_linked_one mid new p → ChangesOnly mid new p → Touches is_linked_one old new (releases p ∷ []) (Some p ∷ before ∷ [])
   touches_off keeps others off only =
-      touches_places (Some p ∷ before ∷ []) (touches_remove {Names = ⊥} {behind = None} keeps (λ q away none. others q away (λ no. absurd no)) off only)
+      touches_places (Some p ∷ before ∷ []) (touches_remove {Names = ⊥} {following = None} keeps (λ q away none. others q away (λ no. absurd no)) off only)
 
-pub touches_exchanged : {old mid turned new : Table RawOne} {before behind : Option Place} {p gone : Place} → IsFree is_linked_one old p → IsLinked is_linked_one mid p
+pub touches_exchanged : {old mid turned new : Table RawOne} {before after : Option Place} {p gone : Place} → IsFree is_linked_one old p → IsLinked is_linked_one mid p
     → ChangesOnly old mid p → KeepsLinked is_linked_one mid turned
-    → ((q : Place) → before ≢ Some q → q ≢ p → (⊥ → behind ≢ Some q) → turned.entry q ≡ mid.entry q)
+    → ((q : Place) → before ≢ Some q → q ≢ p → (⊥ → after ≢ Some q) → turned.entry q ≡ mid.entry q)
     → Unlinks is_linked_one turned new gone → ChangesOnly turned new gone
     → Touches is_linked_one old new (acquires p ∷ releases gone ∷ []) (Some p ∷ Some gone ∷ before ∷ [])
 touches_exchanged {before} {p} {gone} free is only keeps others off gone_only =
     touches_places (Some p ∷ Some gone ∷ before ∷ [])
-    (touches_replace {Names = ⊥} {behind = None} free is only keeps (λ q away other none. others q away other (λ no. absurd no)) off gone_only)
+    (touches_replace {Names = ⊥} {following = None} free is only keeps (λ q away other none. others q away other (λ no. absurd no)) off gone_only)

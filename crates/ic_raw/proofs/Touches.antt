@@ -22,52 +22,52 @@ module _ {E : Type 0} {linked : E → Bool} where
   unlinks_last keeps off = record { was = sym (keeps _) ∙ off.was; is = off.is; others = λ q n. off.others q n ∙ keeps q }
 
   -- `Names`: entries of the kind say what stands before their places
-  module _ {Names : Type 0} {old mid new : Table E} {before behind : Option Place} where
+  module _ {Names : Type 0} {old mid new : Table E} {before following : Option Place} where
     -- INSERT: p is linked, and then put between its neighbors
     pub touches_insert : {p : Place} → IsFree linked old p → IsLinked linked mid p → ChangesOnly old mid p → KeepsLinked linked mid new
-        → ((q : Place) → before ≢ Some q → q ≢ p → (Names → behind ≢ Some q) → new.entry q ≡ mid.entry q)
-        → Touches linked old new (acquires p ∷ []) (Some p ∷ before ∷ behind ∷ [])
+        → ((q : Place) → before ≢ Some q → q ≢ p → (Names → following ≢ Some q) → new.entry q ≡ mid.entry q)
+        → Touches linked old new (acquires p ∷ []) (Some p ∷ before ∷ following ∷ [])
     touches_insert free is only keeps others = record {
       steps_are = links_first free is only keeps;
       others = λ q out. let away = other_place out.0 in others q out.1.0 away (λ _. out.1.1.0) ∙ only.others q away;
     }
 
     -- REMOVE: the neighbors of p are turned to each other, and then p is unlinked
-    pub touches_remove : {p : Place} → KeepsLinked linked old mid → ((q : Place) → before ≢ Some q → (Names → behind ≢ Some q) → mid.entry q ≡ old.entry q)
-        → Unlinks linked mid new p → ChangesOnly mid new p → Touches linked old new (releases p ∷ []) (Some p ∷ before ∷ behind ∷ [])
+    pub touches_remove : {p : Place} → KeepsLinked linked old mid → ((q : Place) → before ≢ Some q → (Names → following ≢ Some q) → mid.entry q ≡ old.entry q)
+        → Unlinks linked mid new p → ChangesOnly mid new p → Touches linked old new (releases p ∷ []) (Some p ∷ before ∷ following ∷ [])
     touches_remove keeps others off only = record {
       steps_are = unlinks_last keeps off;
       others = λ q out. only.others q (other_place out.0) ∙ others q out.1.0 (λ _. out.1.1.0);
     }
 
-  module _ {Names : Type 0} {old new : Table E} {before behind : Option Place} where
+  module _ {Names : Type 0} {old new : Table E} {before following : Option Place} where
     -- SPLIT: both sides of a gap are turned to none
-    pub touches_split : KeepsLinked linked old new → ((q : Place) → before ≢ Some q → (Names → behind ≢ Some q) → new.entry q ≡ old.entry q)
-        → Touches linked old new [] (before ∷ behind ∷ [])
+    pub touches_split : KeepsLinked linked old new → ((q : Place) → before ≢ Some q → (Names → following ≢ Some q) → new.entry q ≡ old.entry q)
+        → Touches linked old new [] (before ∷ following ∷ [])
     touches_split keeps others = record { steps_are = keeps; others = λ q out. others q out.0 (λ _. out.1.0) }
 
     -- SPLICE: both sides of a gap, and both ends of what goes in, are turned to each other
     pub touches_splice : {head end : Option Place} → KeepsLinked linked old new
-        → ((q : Place) → before ≢ Some q → (Names → behind ≢ Some q) → (Names → head ≢ Some q) → end ≢ Some q → new.entry q ≡ old.entry q)
-        → Touches linked old new [] (before ∷ behind ∷ head ∷ end ∷ [])
+        → ((q : Place) → before ≢ Some q → (Names → following ≢ Some q) → (Names → head ≢ Some q) → end ≢ Some q → new.entry q ≡ old.entry q)
+        → Touches linked old new [] (before ∷ following ∷ head ∷ end ∷ [])
     touches_splice keeps others = record { steps_are = keeps; others = λ q out. others q out.0 (λ _. out.1.0) (λ _. out.1.1.0) out.1.1.1.0 }
 
     -- MOVE: the neighbors of p are turned to each other, and then p is put between two others
     pub touches_move : (mid : Table E) {p : Place} {ahead after : Option Place} → KeepsLinked linked old mid → KeepsLinked linked mid new
-        → ((q : Place) → before ≢ Some q → (Names → behind ≢ Some q) → mid.entry q ≡ old.entry q)
+        → ((q : Place) → before ≢ Some q → (Names → following ≢ Some q) → mid.entry q ≡ old.entry q)
         → ((q : Place) → ahead ≢ Some q → q ≢ p → (Names → after ≢ Some q) → new.entry q ≡ mid.entry q)
-        → Touches linked old new [] (Some p ∷ before ∷ behind ∷ ahead ∷ after ∷ [])
+        → Touches linked old new [] (Some p ∷ before ∷ following ∷ ahead ∷ after ∷ [])
     touches_move mid off on others others' = record {
       steps_are = λ q. on q ∙ off q;
       others = λ q out. others' q out.1.1.1.0 (other_place out.0) (λ _. out.1.1.1.1.0) ∙ others q out.1.0 (λ _. out.1.1.0);
     }
 
   -- REPLACE: p is linked, put between the neighbors of `gone`, and that one is unlinked
-  pub touches_replace : {Names : Type 0} {old mid turned new : Table E} {before behind : Option Place} {p gone : Place} → IsFree linked old p → IsLinked linked mid p
+  pub touches_replace : {Names : Type 0} {old mid turned new : Table E} {before following : Option Place} {p gone : Place} → IsFree linked old p → IsLinked linked mid p
       → ChangesOnly old mid p → KeepsLinked linked mid turned
-      → ((q : Place) → before ≢ Some q → q ≢ p → (Names → behind ≢ Some q) → turned.entry q ≡ mid.entry q)
+      → ((q : Place) → before ≢ Some q → q ≢ p → (Names → following ≢ Some q) → turned.entry q ≡ mid.entry q)
       → Unlinks linked turned new gone → ChangesOnly turned new gone
-      → Touches linked old new (acquires p ∷ releases gone ∷ []) (Some p ∷ Some gone ∷ before ∷ behind ∷ [])
+      → Touches linked old new (acquires p ∷ releases gone ∷ []) (Some p ∷ Some gone ∷ before ∷ following ∷ [])
   touches_replace {turned} free is only keeps others off gone_only = record {
     steps_are = (turned, links_first free is only keeps, off);
     others = λ q out.

@@ -11,9 +11,6 @@ use Rattle.ic_rbtree.specs.Closed.{IsIn}
 use Rattle.ic_raw.specs.declared.words.RawThree.{RawThree}
 use Rattle.ic_raw.specs.Seen.{seen, seen_node, has_place}
 use Rattle.ic_raw.specs.WholeTree.{IsSeen, OnlyUnmarks, unmarked}
-use Rattle.ic_raw.specs.Tables.{raw_entries}
-use Rattle.ic_raw.specs.Tree.{table_of, lent_table}
-use Rattle.ic_raw.specs.declared.table.RawTable.{RawTable}
 use Rattle.ic_raw.specs.Words.{place_in, is_linked_three}
 
 module _ {t : Table RawThree} {root : Option Place} where
@@ -78,10 +75,6 @@ seen_unmarked t u p only is q = elim (same_or_not q p) [
   | inr n ↦ λ k. says (only.extent k) q (only.others q n k)
 ]
 
--- NO MARK IS TAKEN OFF, and one more
-pub unmarks_none : (t : Table RawThree) → OnlyUnmarks t t
-unmarks_none t = record { extent = refl; entries = λ q. inl refl }
-
 unmarked_off : (w : RawThree) → is_linked_three w ≡ false → unmarked w ≡ w
 unmarked_off w off =
     let even : w.left % 2 ≢ 1 = λ e. let on : is_linked_three w ≡ true = eq-eqb (w.left % 2) 1 e in cc in
@@ -99,6 +92,7 @@ mark_off w x y (inl k) off = pick (is_linked_three w) refl where
   pick false none = inl (off ∙ ap unmarked k ∙ unmarked_off w none)
 mark_off w x y (inr k) off = inr (k.0, off ∙ ap unmarked k.1 ∙ unmarked_twice w)
 
+-- ONE MORE MARK IS TAKEN OFF
 pub unmarks_more : {old now new : Table RawThree} {p : Place} → OnlyUnmarks old now → ChangesOnly now new p → new.entry p ≡ unmarked (now.entry p) → OnlyUnmarks old new
 unmarks_more {old} {now} {new} {p} was only off = record {
   extent = only.extent ∙ was.extent;
@@ -107,14 +101,6 @@ unmarks_more {old} {now} {new} {p} was only off = record {
     | inr n ↦ elim (was.entries q) [ inl k ↦ inl (only.others q n ∙ k) | inr k ↦ inr (k.0, only.others q n ∙ k.1) ]
   ];
 }
-
--- and what is so of a view is so of the words
-pub unmarks_back : (a b : RawTable RawThree) {es fs : List RawThree} → raw_entries a ≡ es → fs ≡ raw_entries b → OnlyUnmarks (lent_table a) (lent_table b)
-    → OnlyUnmarks (table_of es) (table_of fs)
-unmarks_back a b e f marks =
-    let back : OnlyUnmarks (table_of (raw_entries a)) (table_of (raw_entries b)) =
-    record { extent = ap (λ (x : Extent). record { places = x.places; identity = [] }) marks.extent; entries = marks.entries } in
-    rw (← e, f) back
 
 -- A WALK HAS COME TO `at`: the members `done` are before it, and the others fit into the steps that are left
 pub record HasComeTo (s : List Place) (at : Option Place) (left : ℕ) : Type 0 where

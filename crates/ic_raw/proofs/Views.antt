@@ -1,12 +1,12 @@
 -- What holds of a view holds of the words that were lent.
-use Rattle.std.proofs.Common.{◌≡◌, ◌↔◌, Bool, Option, List, [], refl, ap, subst}
+use Rattle.std.proofs.Common.{◌≡◌, ◌↔◌, Bool, Option, List, [], inl, refl, ap, subst}
 use Rattle.std.specs.declared.cmp.Ordering.{Ordering}
 use Rattle.ic_link_ops.specs.Prelude.{Place, Cut, Table, ChangesOnlyIn, IsUnlinked}
 use Rattle.ic_link_ops.specs.PlainTables.{entry_at, table_of}
 use Rattle.ic_link_ops.specs.Edits.{Inserts, Removes, Replaces, Splices, Splits}
 use Rattle.ic_rbtree.specs.Ordered.{InsertsInOrder}
 use Rattle.ic_raw.specs.declared.table.RawTable.{RawTable}
-use Rattle.ic_raw.specs.Calls.{Clears}
+use Rattle.ic_raw.specs.Calls.{Clears, OnlyUnlinks}
 use Rattle.ic_raw.specs.Gaps.{NamesFree}
 use Rattle.ic_raw.specs.Tables.{raw_entries, raw_table, IsFree}
 
@@ -92,12 +92,23 @@ module _ {W : Type 0} (unlinked : W) where
       let back : Clears is_linked (table_of unlinked (raw_entries a)) (table_of unlinked (raw_entries b)) s = record { unlinked = c.unlinked; frame = frame_back a b c.frame } in
       rw (← e, f) back
 
+  pub unlinks_back : {is_linked : W → Bool} {off : W → W} (a b : RawTable W) {es fs : List W} → raw_entries a ≡ es → fs ≡ raw_entries b
+      → OnlyUnlinks is_linked off (raw_table unlinked a) (raw_table unlinked b) → OnlyUnlinks is_linked off (table_of unlinked es) (table_of unlinked fs)
+  unlinks_back {is_linked} {off} a b e f c =
+      let back : OnlyUnlinks is_linked off (table_of unlinked (raw_entries a)) (table_of unlinked (raw_entries b)) =
+      record { extent = ap (λ x. record { places = x.places; identity = [] }) c.extent; entries = c.entries } in
+      rw (← e, f) back
+
   -- what is unlinked in the view is unlinked among the words
   pub unlinked_back : (is_linked : W → Bool) (b : RawTable W) {fs : List W} (p : Place) → fs ≡ raw_entries b → IsUnlinked is_linked (raw_table unlinked b) p
       → IsUnlinked is_linked (table_of unlinked fs) p
   unlinked_back is_linked b {fs} p f off =
       let back : IsUnlinked is_linked (table_of unlinked (raw_entries b)) p = off in
       rw f back
+
+-- no place is unlinked
+pub unlinks_none : {W : Type 0} {is_linked : W → Bool} {off : W → W} (t : Table W) → OnlyUnlinks is_linked off t t
+unlinks_none t = record { extent = refl; entries = λ q. inl refl }
 
 -- what a call does stays said where the words before it, and those after it, are named otherwise
 pub renamed : {W : Type 0} (Trace : List W → List W → Type 0) {old old' new new' : List W} → old' ≡ old → new ≡ new' → Trace old' new' → Trace old new

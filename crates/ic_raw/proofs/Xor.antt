@@ -1,7 +1,8 @@
 -- What calls of an XOR list read of what is represented.
-use Rattle.std.proofs.Common.{◌≡◌, ℕ, nat_eq, true, Option, Some, None, List, [], ◌∷◌, ◌++◌, drop, reverse, refl, sym, ap, subst, ◌∙◌, append_assoc, append-nil}
+use Rattle.std.proofs.Common.{◌≡◌, inl, inr, ℕ, nat_eq, true, Option, Some, None, List, [], ◌∷◌, ◌++◌, drop, reverse, refl, sym, ap, subst, ◌∙◌, append_assoc, append-nil}
 use Rattle.std.proofs.lemmas.Bool.{eq-eqb}
-use Rattle.ic_link_ops.specs.Prelude.{Place, word_of, first, last, but_last, Table}
+use Rattle.ic_link_ops.specs.Prelude.{Place, word_of, first, last, but_last, Table, ChangesOnly, IsLinked}
+use Rattle.ic_unsafe_ref.proofs.PlaceLemmas.{same_or_not}
 use Rattle.ic_link_ops.specs.Chains.{Ends}
 use Rattle.ic_link_ops.specs.XorLaws.{joins_symmetric, joins_finds_other}
 use Rattle.ic_link_ops.proofs.SequenceLemmas.{first_of_back, last_of_front, last_of_push, split_last, first_is}
@@ -9,12 +10,12 @@ use Rattle.ic_link_ops.proofs.RepresentedLists.{represents_middle, represents_re
 use Rattle.ic_link_ops.proofs.XorLists.{joined_linked, joined_symmetric}
 use Rattle.ic_raw.specs.declared.words.RawOne.{RawOne}
 use Rattle.ic_raw.specs.declared.table.RawTable.{RawTable}
-use Rattle.ic_raw.specs.Words.{is_linked_one, next_of_one}
+use Rattle.ic_raw.specs.Words.{no_word, is_linked_one, next_of_one}
 use Rattle.ic_raw.specs.declared.gap.Gap.{Gap}
 use Rattle.ic_raw.specs.Gaps.{IsNoneOrLinked, Turns}
 use Rattle.ic_raw.specs.Tables.{raw_entries}
 use Rattle.ic_raw.specs.Singly.{table_of, lent_table}
-use Rattle.ic_raw.specs.Xor.{Represents, Joins, GoesOn, Faces, TellsGap, TellsMember, TellsEnds, LeadsThrough, other}
+use Rattle.ic_raw.specs.Xor.{Represents, HasNeighbors, GoesOn, Faces, TellsGap, TellsMember, TellsEnds, LeadsThrough, OnlyUnlinks, other}
 use Rattle.ic_raw.proofs.Entries.{same_word}
 use Rattle.ic_raw.proofs.Lists.{before_stands, after_stands}
 
@@ -23,10 +24,10 @@ pub words_tell : {a b : Option Place} {v w : ℕ} → v ≡ word_of a → w ≡ 
 words_tell {a} {b} {v} {w} e f = (same_word a b e f, λ same. eq-eqb v w (e ∙ ap word_of same ∙ sym f))
 
 -- either neighbor tells the other
-pub other_after : (e : RawOne) (a b : Option Place) → Joins e a b → other e a ≡ b
+pub other_after : (e : RawOne) (a b : Option Place) → HasNeighbors e a b → other e a ≡ b
 other_after e a b j = joins_finds_other (next_of_one e) a b j
 
-other_before : (e : RawOne) (a b : Option Place) → Joins e a b → other e b ≡ a
+other_before : (e : RawOne) (a b : Option Place) → HasNeighbors e a b → other e b ≡ a
 other_before e a b j = joins_finds_other (next_of_one e) b a (joins_symmetric (next_of_one e) a b j)
 
 -- a list goes on beyond a place, and the place faces its neighbor, by what stands there
@@ -69,12 +70,12 @@ module _ {t : Table RawOne} {list : Ends} (front back : List Place) (shown : Rep
       (cut_after (sym is ∙ e)).tail ∙ last_of_front (front ++ p ∷ []) (drop 1 back) (sym n ∙ beyond_after (sym is ∙ e) k) ∙ last_of_push front p)
 
   -- THE WORDS TELL OF EACH GAP of a list that is represented,
-  pub gap_told : {before behind : Option Place} → before ≡ last front → behind ≡ first back → TellsGap t list before behind
+  pub gap_told : {before after : Option Place} → before ≡ last front → after ≡ first back → TellsGap t list before after
   gap_told e k = (before_faces e k, after_faces k e)
 
 -- of each member, which is linked, and whose neighbors tell each other,
 module _ {t : Table RawOne} {list : Ends} (front : List Place) (p : Place) (back : List Place) (shown : Represents t list (front ++ p ∷ back)) where
-  pub member_told : {before behind : Option Place} → before ≡ last front → behind ≡ first back → TellsMember t list before p behind
+  pub member_told : {before after : Option Place} → before ≡ last front → after ≡ first back → TellsMember t list before p after
   member_told e k =
       let cut : Represents t list ((front ++ p ∷ []) ++ back) = rw append_assoc shown in
       (before_faces front (p ∷ back) shown e refl, after_faces (front ++ p ∷ []) back cut k (sym (last_of_push front p)))
@@ -85,7 +86,7 @@ module _ {t : Table RawOne} {list : Ends} (front : List Place) (p : Place) (back
   pub next_represented : {before : Option Place} → before ≡ last front → other (t.entry p) before ≡ first back
   next_represented e = ap (other (t.entry p)) e ∙ other_after (t.entry p) _ _ (represents_middle front back shown).joined
 
-  pub prev_represented : {behind : Option Place} → behind ≡ first back → other (t.entry p) behind ≡ last front
+  pub prev_represented : {after : Option Place} → after ≡ first back → other (t.entry p) after ≡ last front
   prev_represented e = ap (other (t.entry p)) e ∙ other_before (t.entry p) _ _ (represents_middle front back shown).joined
 
 -- and of the list by its ends
@@ -107,3 +108,16 @@ turned_back same e f turns = rw (same, ← e, f) turns
 pub leads_back : {es : List RawOne} (t : RawTable RawOne) (list : Ends) (s : List Place) → raw_entries t ≡ es → LeadsThrough (lent_table t) list s → LeadsThrough (table_of es) list s
 leads_back t list s e leads =
     let back : LeadsThrough (table_of (raw_entries t)) list s = leads in subst (λ es. LeadsThrough (table_of es) list s) e back
+
+-- ONE MORE PLACE IS UNLINKED: it was linked from the first
+was_linked : {old now : Table RawOne} → OnlyUnlinks old now → (q : Place) → IsLinked is_linked_one now q → IsLinked is_linked_one old q
+was_linked was q on = elim (was.entries q) [ inl k ↦ ap is_linked_one (sym k) ∙ on | inr k ↦ k.0 ]
+
+pub unlinks_more : {old now new : Table RawOne} {p : Place} → OnlyUnlinks old now → IsLinked is_linked_one now p → ChangesOnly now new p → new.entry p ≡ no_word → OnlyUnlinks old new
+unlinks_more {old} {now} {new} {p} was linked only word = record {
+  extent = only.extent ∙ was.extent;
+  entries = λ q. elim (same_or_not q p) [
+    | inl e ↦ inr (was_linked was q (subst (IsLinked is_linked_one now) (sym e) linked), subst (λ z. new.entry z ≡ no_word) (sym e) word)
+    | inr n ↦ elim (was.entries q) [ inl k ↦ inl (only.others q n ∙ k) | inr k ↦ inr (k.0, only.others q n ∙ k.1) ]
+  ];
+}

@@ -1,4 +1,4 @@
--- What a status says.
+-- What the status of a call means.
 use Rattle.std.specs.Prelude.{◌≡◌, ◌≤◌, ℕ, zero, suc, List, [], ◌∷◌, Option, Some, None}
 use Rattle.ic_unsafe_ref.specs.declared.place.Place.{Place}
 use Rattle.ic_raw.specs.declared.status.TheConstants.{OK, NULL, BROKEN}
@@ -14,16 +14,16 @@ refusal [] = BROKEN
 refusal (zero ∷ faults) = refusal faults
 refusal (suc fault ∷ faults) = suc fault
 
--- THE CALL IS ACCEPTED, and does this
+-- THE CALL IS ACCEPTED, and makes the edit `Trace`
 pub record IsAccepted (status : ℕ) (Trace : Type 0) : Type 0 where
   pub accepted : status ≡ OK
   pub done : Trace
 
--- A MEMBER IS FOUND, and its number handed out, or there is none
+-- THE ANSWER TO A SEARCH that found this member, or none: the number is that of the member, or the status is `NULL`
 abbrev pub IsFound : Option Place → (status number : ℕ) → Type 0
 IsFound None status number = status ≡ NULL
 IsFound (Some p) status number = IsAccepted status (HasNumber p number)
 
--- what is so is found
+-- the answer is some position, a member or none, that has the property `Is`
 abbrev pub HandsOut : (Option Place → Type 0) → (status number : ℕ) → Type 0
 HandsOut Is status number = (position : Option Place) × Is position × IsFound position status number

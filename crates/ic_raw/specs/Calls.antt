@@ -1,6 +1,7 @@
--- WHAT A CALL DOES to the words of a table and of its list, by the sequence that they represent: in the same words for every kind.
-use Rattle.std.specs.Prelude.{ℕ, Bool, ◌∷◌, ◌++◌, List, Option}
-use Rattle.ic_link_ops.specs.Prelude.{Place, Cut, join, IsDisjoint, IsMember, Table, IsUnlinked, ChangesOnlyIn}
+-- WHAT A CALL DOES to the words of a table and of its list, by the sequence that they represent. The definitions are the same for every kind of
+-- lists.
+use Rattle.std.specs.Prelude.{◌≡◌, ◌⊎◌, ℕ, Bool, ◌∷◌, ◌++◌, List, Option}
+use Rattle.ic_link_ops.specs.Prelude.{Place, Cut, join, IsDisjoint, IsMember, Table, IsLinked, IsUnlinked, ChangesOnlyIn}
 use Rattle.ic_link_ops.specs.PlainTables.{table_of}
 use Rattle.ic_link_ops.specs.Edits.{Inserts, Removes, Replaces, Splices, Splits}
 use Rattle.ic_raw.specs.Answers.{IsAccepted}
@@ -13,8 +14,13 @@ pub record Clears {E : Type 0} (linked : E → Bool) (old new : Table E) (s : Li
   pub unlinked : (p : Place) → IsMember p s → IsUnlinked linked new p
   pub frame : ChangesOnlyIn old new s
 
--- `Represents t head s`: the table represents s for the list with this head. `head_of`: what a list's words say. old and new, list and list': the
--- words before the call and after it
+-- LINKED PLACES ARE UNLINKED, AND NOTHING ELSE CHANGES: each entry is as it was, or was that of a linked place and is now what `off` makes of it
+pub record OnlyUnlinks {E : Type 0} (linked : E → Bool) (off : E → E) (old new : Table E) : Type 0 where
+  pub extent : new.extent ≡ old.extent
+  pub entries : (q : Place) → (new.entry q ≡ old.entry q) ⊎ (IsLinked linked old q × (new.entry q ≡ off (old.entry q)))
+
+-- `Represents t head s`: the table represents s for the list with this head. `head_of`: the ends that a list's words name. old and new, list and
+-- list': the words before the call and after it
 module _ {W R H : Type 0} (Represents : Table W → H → List Place → Type 0) (linked : W → Bool) (unlinked : W) (head_of : R → H) where
   -- the words of a table represent s for the words of a list
   abbrev pub RepresentsList : List W → R → List Place → Type 0
@@ -24,11 +30,11 @@ module _ {W R H : Type 0} (Represents : Table W → H → List Place → Type 0)
   abbrev pub FreeIn : List W → Place → Type 0
   FreeIn words = IsFree linked (table_of unlinked words)
 
-  -- an end is none or a linked place of it
+  -- the place is none, or a linked place of the table of these words
   abbrev pub IsNoneOrLinkedIn : List W → Option Place → Type 0
   IsNoneOrLinkedIn words at = IsNoneOrLinked linked (table_of unlinked words) at
 
-  -- the fault of a member that is named, and of a place that is to go in
+  -- the status by which a call refuses a member that the caller names, and a place to insert
   abbrev pub fault_at : List W → Option Place → ℕ
   fault_at words = member_fault linked (table_of unlinked words)
 
@@ -47,7 +53,7 @@ module _ {W R H : Type 0} (Represents : Table W → H → List Place → Type 0)
         RepresentsList old list (front ++ out ∷ back) → IsAccepted status
         (Removes Represents (table_of unlinked old) (table_of unlinked new) (head_of list') (before out front back) × IsUnlinked linked (table_of unlinked new) out)
 
-    -- and its number is handed out
+    -- the same, and the number of the removed member is stored
     abbrev pub Popped : ℕ → Place → (front back : List Place) → Type 0
     Popped number out front back =
         RepresentsList old list (front ++ out ∷ back) → IsAccepted status
@@ -60,20 +66,20 @@ module _ {W R H : Type 0} (Represents : Table W → H → List Place → Type 0)
         RepresentsList old list (front ++ out ∷ back) → FreeIn old p → IsAccepted status
         (Replaces Represents (table_of unlinked old) (table_of unlinked new) (head_of list') (before out front back) p × IsUnlinked linked (table_of unlinked new) out)
 
-    -- and its number is handed out
+    -- the same, and the number of the removed member is stored
     abbrev pub Exchanged : ℕ → Place → (front back : List Place) → Place → Type 0
     Exchanged number out front back p =
         RepresentsList old list (front ++ out ∷ back) → FreeIn old p → IsAccepted status
         (Replaces Represents (table_of unlinked old) (table_of unlinked new) (head_of list') (before out front back) p × IsUnlinked linked (table_of unlinked new) out
         × HasNumber out number)
 
-    -- all of t is spliced in
+    -- all members of t are spliced into the list
     abbrev pub Spliced : R → Cut → List Place → Type 0
     Spliced given cut t =
         RepresentsList old list (join cut) → RepresentsList old given t → IsDisjoint t (join cut)
         → IsAccepted status (Splices Represents (table_of unlinked old) (table_of unlinked new) (head_of list') cut t)
 
-    -- the list is cut: one part is kept, and the other handed out in the words `rest`
+    -- the list is cut: it keeps one part, and the words `rest` get the other
     abbrev pub Split : R → Cut → (kept handed : List Place) → Type 0
     Split rest cut kept handed =
         RepresentsList old list (join cut)

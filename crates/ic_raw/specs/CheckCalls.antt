@@ -13,7 +13,7 @@ use Rattle.ic_raw.specs.Singly.{RepresentsList}
 
 -- `old`, `new`: the words of the table before the call and after it
 module _ {W : Type 0} (old new : List W) (status : ℕ) where
-  -- THE MEMBERS ARE COUNTED, if the words represent any sequence, in words that said `was`. `Represented`: they represent this sequence
+  -- THE MEMBERS ARE COUNTED, if the words represent any sequence, and their number replaces `was`. `Represented`: they represent this sequence
   pub record CheckCall (Represented : List Place → Type 0) (was members : ℕ) : Type 0 where
     pub shown : status ≡ OK → IsRepresented Represented members
     pub not_represented : status ≢ OK → RepresentsNone Represented
@@ -22,30 +22,30 @@ module _ {W : Type 0} (old new : List W) (status : ℕ) where
     pub why : status ≢ OK → status ≡ BROKEN
     pub is_status : IsStatus status
 
--- `hashes`: those of the places. By its hash the place belongs in bucket i
+-- `hashes`: the hash of each place. The hash of the place leads to bucket i
 abbrev pub BelongsIn : (hashes : List ℕ) → List RawFront → ℕ → Place → Type 0
 BelongsIn hashes buckets i p = slot_of buckets (key_of hashes p) ≡ i
 
--- s is the chain in bucket i, and each member belongs there
+-- s is the chain in bucket i, and the hash of each member leads to that bucket
 pub record IsOwnChain (words : List RawOne) (hashes : List ℕ) (buckets : List RawFront) (i : ℕ) (s : List Place) : Type 0 where
   pub shown : RepresentsList words (bucket_at buckets i) s
   pub own : AllByRecursion (BelongsIn hashes buckets i) s
 
--- the members of the first chains, so many of them, those of one after those of the one before
+-- the members of the first `count` chains, one chain after the other
 abbrev pub members_of : (chains : ℕ → List Place) → ℕ → List Place
 members_of chains zero = []
 members_of chains (suc i) = members_of chains i ++ chains i
 
--- THE BUCKETS HOLD s BY THESE HASHES: chains of which each member belongs in its bucket, and s are the members of all of them
+-- THE BUCKETS HOLD s BY THESE HASHES: in each chain the hashes of all members lead to its bucket, and s has the members of all chains
 pub record HoldsByHash (words : List RawOne) (hashes : List ℕ) (buckets : List RawFront) (s : List Place) : Type 0 where
   pub chains : ℕ → List Place
   pub holds : HoldsChains words buckets chains
   pub own : (i : ℕ) → i < length buckets → AllByRecursion (BelongsIn hashes buckets i) (chains i)
   pub all : s ≡ members_of chains (length buckets)
 
--- `hashes`: those of the places. The members are counted, in words that said `was`
+-- `hashes`: the hash of each place. The number of members replaces `was`
 module _ (hashes : List ℕ) (old new : List RawOne) (status was members : ℕ) where
-  -- THE MEMBERS OF ALL CHAINS ARE COUNTED, if each chain ends, no two share a member, and each member is in the bucket where its hash leads
+  -- THE MEMBERS OF ALL CHAINS ARE COUNTED, if each chain ends, no two share a member, and each member is in the bucket to which its hash leads
   pub record HashCheckCall (buckets : List RawFront) : Type 0 where
     pub shown : status ≡ OK → IsRepresented (HoldsByHash old hashes buckets) members
     pub not_represented : status ≢ OK → length old ≤ length hashes → 1 ≤ length buckets → RepresentsNone (HoldsByHash old hashes buckets)

@@ -7,20 +7,20 @@ use Rattle.ic_raw.specs.Tables.{IsFree}
 use Rattle.ic_raw.specs.declared.gap.Side.{Side}
 use Rattle.ic_raw.specs.declared.gap.Side.TheVariants.{After, Before}
 
--- the gap is that after the place, the first one of all at none; or that before it, the last one of all at none
+-- the gap is after the place, or before all members if there is no place; or, for the other side, before the place, or after all members
 abbrev pub IsBeside : Side → Cut → Option Place → Type 0
 IsBeside After cut at = IsAfter cut at
 IsBeside Before cut at = IsBefore cut at
 
--- none, or a linked place
+-- the place is none, or it is linked
 abbrev pub IsNoneOrLinked : {E : Type 0} → (E → Bool) → Table E → Option Place → Type 0
 IsNoneOrLinked linked t at = (q : Place) → at ≡ Some q → IsLinked linked t q
 
--- both sides of a gap are
+-- each side of a gap is none or a linked place
 abbrev pub StandBeside : {E : Type 0} → (E → Bool) → Table E → Gap → Type 0
-StandBeside linked t gap = IsNoneOrLinked linked t gap.before × IsNoneOrLinked linked t gap.behind
+StandBeside linked t gap = IsNoneOrLinked linked t gap.before × IsNoneOrLinked linked t gap.after
 
--- the place that is to go in is named, and free
+-- the caller names a place to insert, and it belongs to the table and is not linked
 abbrev pub NamesFree : {E : Type 0} → (E → Bool) → Table E → Option Place → Type 0
 NamesFree linked t place = (p : Place) × (place ≡ Some p) × IsFree linked t p
 
@@ -29,33 +29,33 @@ abbrev pub BeginApart : (one other : Option Place) → Type 0
 BeginApart one other = (p : Place) → other ≡ Some p → one ≢ Some p
 
 -- the gap between two places, none beyond an end
-abbrev pub gap_between : (before behind : Option Place) → Gap
-gap_between before behind = record { before = before; behind = behind }
+abbrev pub gap_between : (before after : Option Place) → Gap
+gap_between before after = record { before = before; after = after }
 
--- A LIST'S OWN ENDS after an edit at a gap: on a side where a member stands, the end is as it was. Where none stands before the gap, the list
--- begins with the one of these now, and where none stands after it, it ends with the other
+-- A LIST'S OWN ENDS after an edit at a gap. If a member is before the gap, the first member stays, or else the list now begins with `begins`. If a
+-- member is after the gap, the last member stays, or else the list now ends with `ends`
 pub record Turns (gap : Gap) (begins ends : Option Place) (old new : Ends) : Type 0 where
   pub head : new.head ≡ end_of gap.before begins old.head
-  pub tail : new.tail ≡ end_of gap.behind ends old.tail
+  pub tail : new.tail ≡ end_of gap.after ends old.tail
 
--- the place stands in the gap
+-- the ends after this place was inserted into the gap
 abbrev pub PutIn : Gap → (place : Option Place) → (old new : Ends) → Type 0
 PutIn gap place = Turns gap place place
 
--- nothing stands in the gap any longer: its two sides are neighbors
+-- the ends after the member between the two sides of the gap was removed: these are neighbors now
 abbrev pub TakenOut : Gap → (old new : Ends) → Type 0
-TakenOut gap = Turns gap gap.behind gap.before
+TakenOut gap = Turns gap gap.after gap.before
 
--- this end, or another one where it is none
+-- this place, or the other one if it is none
 abbrev pub or_else : Option Place → Option Place → Option Place
 or_else None other = other
 or_else (Some p) other = Some p
 
--- all members of the given list stand in the gap. Where it has none, the two sides of the gap are neighbors as before
+-- the ends after all members of the given list were moved into the gap. If that list is empty, the two sides of the gap are neighbors as before
 abbrev pub AllPutIn : Gap → (given old new : Ends) → Type 0
-AllPutIn gap given = Turns gap (or_else given.head gap.behind) (or_else given.tail gap.before)
+AllPutIn gap given = Turns gap (or_else given.head gap.after) (or_else given.tail gap.before)
 
--- A MEMBER MOVES: it is taken out from between two places, and put into a gap
+-- A MEMBER MOVES: it is removed from between two places, and inserted into a gap
 abbrev pub IsMoved : (from : Gap) → (member : Option Place) → (to : Gap) → (old new : Ends) → Type 0
 IsMoved from member to old new = (without : Ends) × TakenOut from old without × PutIn to member without new
 
@@ -63,31 +63,31 @@ IsMoved from member to old new = (without : Ends) × TakenOut from old without �
 pub record IsCutAt (gap : Gap) (old front back : Ends) : Type 0 where
   pub front_head : front.head ≡ end_of gap.before None old.head
   pub front_tail : front.tail ≡ gap.before
-  pub back_head : back.head ≡ gap.behind
-  pub back_tail : back.tail ≡ end_of gap.behind None old.tail
+  pub back_head : back.head ≡ gap.after
+  pub back_tail : back.tail ≡ end_of gap.after None old.tail
 
--- what is handed out is the part on the side of the gap on which the call edits, and the list keeps the other one
+-- the list gives away the part on the side of the gap on which the call edits, and keeps the other part
 abbrev pub IsCutBeside : Side → Gap → (old kept handed : Ends) → Type 0
 IsCutBeside After gap old kept handed = IsCutAt gap old kept handed
 IsCutBeside Before gap old kept handed = IsCutAt gap old handed kept
 
 -- the place is on neither side of a gap
 abbrev pub IsApart : Gap → Place → Type 0
-IsApart gap p = (gap.before ≢ Some p) × (gap.behind ≢ Some p)
+IsApart gap p = (gap.before ≢ Some p) × (gap.after ≢ Some p)
 
--- where a sequence is cut, as a call finds it
+-- the gap of a cut: the last place before it, and the first place after it
 abbrev pub gap_of : Cut → Gap
-gap_of cut = record { before = last cut.front; behind = first cut.back }
+gap_of cut = record { before = last cut.front; after = first cut.back }
 
--- the outermost gap on this side of none: before all, or after all
+-- the cut that a side means if no member is named: before all members, or after all members
 abbrev pub outermost : Side → List Place → Cut
 outermost After s = at_front s
 outermost Before s = at_back s
 
--- the place of a gap that is toward this side of none
+-- the place of a gap that is nearer to the end that this side means
 abbrev pub toward : Side → Gap → Option Place
 toward After gap = gap.before
-toward Before gap = gap.behind
+toward Before gap = gap.after
 
 -- the gap before a member
 abbrev pub before : Place → (front back : List Place) → Cut

@@ -1,4 +1,4 @@
--- Hash tables over a caller's words: an array of buckets, each the singly linked list of those members whose hash leads there.
+-- Hash tables over a caller's words: an array of buckets. Each bucket is the singly linked list of the members whose hash leads to it.
 use Rattle.std.specs.Prelude.{◌≡◌, ◌≢◌, ◌<◌, ℕ, ◌%◌, Bool, true, nat_eq, cond, Option, None, List, length, slice_index_or}
 use Rattle.ic_link_ops.specs.Prelude.{Place, IsDisjoint, IsLinked}
 use Rattle.ic_raw.specs.declared.status.TheConstants.{OK, OUT_OF_RANGE}
@@ -8,11 +8,11 @@ use Rattle.ic_raw.specs.Keys.{key_of}
 use Rattle.ic_raw.specs.Singly.{LeadsFrom, RepresentsList, table_of, word_of_front}
 use Rattle.ic_raw.specs.Words.{is_linked_one, HasNumber}
 
--- the number of the bucket where a hash leads
+-- the number of the bucket to which a hash leads
 abbrev pub slot_of : List RawFront → ℕ → ℕ
 slot_of buckets hash = hash % length buckets
 
--- the words of a bucket, those of an empty list where there is no such bucket
+-- the words of a bucket, or those of an empty list if there is no such bucket
 abbrev pub bucket_at : List RawFront → ℕ → RawFront
 bucket_at buckets i = slice_index_or buckets i (word_of_front None)
 
@@ -20,20 +20,20 @@ bucket_at buckets i = slice_index_or buckets i (word_of_front None)
 abbrev pub chain_of : List RawFront → ℕ → RawFront
 chain_of buckets hash = bucket_at buckets (slot_of buckets hash)
 
--- THE FAULT OF BUCKETS: there is none
+-- THE FAULT OF BUCKETS: `OUT_OF_RANGE` if there are no buckets
 abbrev pub buckets_fault : List RawFront → ℕ
 buckets_fault buckets = cond (nat_eq (length buckets) 0) OUT_OF_RANGE OK
 
--- there are as many buckets as before, and none has changed but that of this hash
+-- there are as many buckets as before, and only the bucket of this hash may have changed
 pub record ChangesOnlyChain (old new : List RawFront) (hash : ℕ) : Type 0 where
   pub count : length new ≡ length old
   pub others : (i : ℕ) → i ≢ slot_of old hash → bucket_at new i ≡ bucket_at old i
 
--- whether the key of a place is this one
+-- whether a place has this key
 abbrev pub has_key : List ℕ → ℕ → Place → Bool
 has_key keys key p = nat_eq (key_of keys p) key
 
--- the number is that of a linked place with this key, to which the places from this front on lead
+-- the number is that of a linked place with this key, and the links that begin with this place lead to it
 abbrev pub NamesKey : List RawOne → (front : Option Place) → List ℕ → ℕ → ℕ → Type 0
 NamesKey words front keys key number =
     (q : Place) × IsLinked is_linked_one (table_of words) q × (has_key keys key q ≡ true) × HasNumber q number × LeadsFrom (table_of words) front q

@@ -15,9 +15,9 @@ use Rattle.ic_raw.specs.Singly.{RepresentsList, FreeIn, IsNoneOrLinkedIn, IsWrit
 use Rattle.ic_raw.specs.Singly.{Inserted, Removed, LeavesChain, Touched}
 use Rattle.ic_raw.specs.Words.{is_linked_one}
 
--- `old`, `new`: the words of the table before the call and after it. `buckets`, `buckets'`: those of the buckets
+-- `old`, `new`: the words of the table before the call and after it. `buckets`, `buckets'`: the words of the buckets before and after
 module _ (old new : List RawOne) (buckets buckets' : List RawFront) (status hash : ℕ) where
-  -- A PLACE GOES IN BEFORE THE CHAIN of its hash
+  -- A PLACE IS INSERTED AT THE FRONT OF THE CHAIN of its hash
   pub record InsertCall (place : Option Place) : Type 0 where
     pub inserted : (s : List Place) (p : Place) → 1 ≤ length buckets → place ≡ Some p
         → Inserted old new (chain_of buckets hash) (chain_of buckets' hash) status (at_front s) p
@@ -32,7 +32,7 @@ module _ (old new : List RawOne) (buckets buckets' : List RawFront) (status hash
     pub why : status ≢ OK → status ≡ refusal (buckets_fault buckets ∷ fault_of old place ∷ [])
     pub is_status : IsStatus status
 
-  -- A PLACE LEAVES THE CHAIN of its hash
+  -- A PLACE IS REMOVED FROM THE CHAIN of its hash
   pub record RemoveCall (place : Option Place) : Type 0 where
     pub removed : (front back : List Place) (p : Place) → 1 ≤ length buckets → place ≡ Some p
         → Removed old new (chain_of buckets hash) (chain_of buckets' hash) status p front back
@@ -51,9 +51,9 @@ module _ (old new : List RawOne) (buckets buckets' : List RawFront) (status hash
     pub why : status ≢ OK → status ≢ NULL → status ≡ refusal (buckets_fault buckets ∷ fault_at old place ∷ [])
     pub is_status : IsStatus status
 
--- `keys`: those of the places. The number of a member is handed out, in words that said `was`
+-- `keys`: the key of each place. The number of the member that is found replaces `was`
 module _ (keys : List ℕ) (old new : List RawOne) (status was number : ℕ) where
-  -- THE FIRST MEMBER OF A CHAIN WITH A KEY IS HANDED OUT
+  -- THE FIRST MEMBER OF A CHAIN WITH A KEY IS FOUND
   pub record FindCall (buckets : List RawFront) (hash key : ℕ) : Type 0 where
     pub found : (s : List Place) → length old ≤ length keys → 1 ≤ length buckets → RepresentsList old (chain_of buckets hash) s
         → HandsOut (Finds (has_key keys key) s) status number
@@ -65,7 +65,7 @@ module _ (keys : List ℕ) (old new : List RawOne) (status was number : ℕ) whe
     pub why : status ≢ OK → status ≢ NULL → status ≡ refusal (keys_fault keys (length old) ∷ buckets_fault buckets ∷ [])
     pub is_status : IsStatus status
 
-  -- THE NEXT MEMBER WITH THE KEY OF `at` IS HANDED OUT, after that one
+  -- THE NEXT MEMBER AFTER `at` WITH THE SAME KEY IS FOUND
   pub record NextEqualCall (at : Option Place) : Type 0 where
     pub found : (list : RawFront) (front back : List Place) (p : Place) → at ≡ Some p → length old ≤ length keys → RepresentsList old list (front ++ p ∷ back)
         → HandsOut (Finds (has_key keys (key_of keys p)) back) status number

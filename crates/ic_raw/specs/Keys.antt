@@ -1,4 +1,4 @@
--- Searches of a tree by keys that stand in an array, one for each place.
+-- Searches of a tree by keys in an array with one key for each place.
 use Rattle.std.specs.Prelude.{◌≡◌, ℕ, Bool, true, false, Option, Some, None, List, [], ◌∷◌, length, cond, nat_lt, slice_index}
 use Rattle.std.specs.Ordering.{nat_cmp, is_eq, is_le, is_ge}
 use Rattle.std.specs.declared.cmp.Ordering.{Ordering}
@@ -24,7 +24,7 @@ use Rattle.ic_raw.specs.Seen.{seen, seen_node}
 use Rattle.ic_raw.specs.Words.{HasNumber, is_linked_three}
 use Rattle.ic_raw.specs.Tree.{Represents, RepresentsTree, FreeIn, root_in, table_of}
 
--- how a key stands to that of each place: `Less` where it is less
+-- how a key compares with that of each place: `Less` if it is less
 abbrev pub against : ℕ → List ℕ → Place → Ordering
 against key keys = compared (nat_cmp key) (at_indexes keys)
 
@@ -36,7 +36,7 @@ keys_fault keys places = cond (nat_lt (length keys) places) OUT_OF_RANGE OK
 abbrev pub key_of : List ℕ → Place → ℕ
 key_of keys p = slice_index keys (index_of p)
 
--- ON THE WAY DOWN: at the root, and past one more member, to one side of it
+-- ON THE WAY DOWN: a search begins at the root, and goes past one more member to one side of it
 abbrev pub at_root : Way
 at_root = record { parent = None; side = Left; front = None; back = None }
 
@@ -44,18 +44,18 @@ abbrev pub past : Way → Place → Bool → Way
 past way p true = record { parent = Some p; side = Left; front = way.front; back = Some p }
 past way p false = record { parent = Some p; side = Right; front = Some p; back = way.back }
 
--- THE WAY ENDS in this gap, which is a hole as the table is seen
+-- THE WAY ENDS in this gap, at a place without a child on that side, as the words are read
 pub record EndsIn (t : Table RawThree) (gap : Cut) (way : Way) : Type 0 where
   pub hole : IsInsertPos seen_node (seen t) way.parent way.side gap
   pub front_is : way.front ≡ last gap.front
   pub back_is : way.back ≡ first gap.back
 
--- THE WAY HAS TURNED right at the member before, and left at the one after, as the test says
+-- THE WAY HAS TURNED right at the member before the gap, and left at the member after it, as the comparisons demand
 pub record HasTurned (left : Place → Bool) (way : Way) : Type 0 where
   pub front : (q : Place) → way.front ≡ Some q → left q ≡ false
   pub back : (q : Place) → way.back ≡ Some q → left q ≡ true
 
--- a way from the place `from` down to `to`, none at an end: past these places, at each on the side to which the search goes
+-- a way from the place `from` down to `to`, which is none at the end of the way. It passes these places, each on the side to which the search goes
 abbrev pub LeadsDown : Table Seen → (Place → Bool) → Option Place → List Place → Option Place → Type 0
 LeadsDown t left from [] to = from ≡ to
 LeadsDown t left from (x ∷ w) to = (from ≡ Some x) × LeadsDown t left (child_on (side_of (left x)) (seen_node (t.entry x))) w to
@@ -64,7 +64,7 @@ LeadsDown t left from (x ∷ w) to = (from ≡ Some x) × LeadsDown t left (chil
 abbrev pub EndsBelow : Table Seen → (Place → Bool) → Option Place → Type 0
 EndsBelow t left from = (w : List Place) × LeadsDown t left from w None
 
--- past equal keys a search goes to the left, but for the last member that it is to the right
+-- at equal keys a search goes to the left, except in a search for the last member, which goes to the right
 abbrev pub equals_of : Target → Side
 equals_of Equal = Left
 equals_of AtLeast = Left
@@ -74,13 +74,13 @@ equals_of AtMost = Right
 abbrev pub SearchEnds : Target → List ℕ → ℕ → Table RawThree → Option Place → Type 0
 SearchEnds target keys key t root = EndsBelow (seen t) (λ p. goes_left (equals_of target) (against key keys p)) root
 
--- THE MEMBER THAT IS SEARCHED: the first with this key; the first with a key of at least that; the last with a key of at most that
+-- THE MEMBER THAT IS SEARCHED, by the target: the first with this key; the first with at least this key; the last with at most this key
 abbrev pub IsTarget : Target → (Place → Ordering) → List Place → Option Place → Type 0
 IsTarget Equal at s position = Finds at s position
 IsTarget AtLeast at s position = IsLowerBorder (Included at) s position
 IsTarget AtMost at s position = IsUpperBorder (Included at) s position
 
--- A MEMBER TO WHICH THE KEY STANDS SO MEETS THE TARGET: its own key is this one, or is at least that, or is at most that
+-- A MEMBER MEETS THE TARGET, by the result of the comparison: its key is equal to the one that is searched, at least that one, or at most that one
 abbrev pub Meets : Target → Ordering → Type 0
 Meets Equal order = is_eq order ≡ true
 Meets AtLeast order = is_le order ≡ true
@@ -90,7 +90,7 @@ Meets AtMost order = is_ge order ≡ true
 abbrev pub NamesTarget : Target → List ℕ → ℕ → Table RawThree → ℕ → Type 0
 NamesTarget target keys key t number = (q : Place) × IsLinked is_linked_three t q × HasNumber q number × Meets target (against key keys q)
 
--- p, which is free, is inserted after all members with no greater key than its own
+-- p, which is free, is inserted by its key, after all members whose key is not greater
 abbrev pub InsertedInOrder : (keys : List ℕ) (old new : List RawThree) (tree tree' : RawRoot) (status : ℕ) → List Place → Place → Type 0
 InsertedInOrder keys old new tree tree' status s p =
     RepresentsTree old tree s → FreeIn old p

@@ -10,7 +10,7 @@ use Rattle.ic_raw.specs.declared.table.RawTable.{RawTable}
 use Rattle.ic_raw.specs.Tables.{nameable_table, neighbors_of, IsFree, member_fault, place_fault}
 use Rattle.ic_raw.specs.Words.{no_words, is_linked_two, next_of_two, prev_of_two, no_narrow_words, is_linked_narrow, next_of_narrow, prev_of_narrow}
 
--- WHAT THE WORDS OF A PLACE SAY: the members of their trait `PrevPlace`
+-- HOW THE WORDS OF A PLACE ARE READ: the ghost members of their trait `PrevPlace`
 abbrev pub LinkWords : Type 0 → Type 1
 LinkWords W = record {
   unlinked : W;
@@ -21,7 +21,7 @@ LinkWords W = record {
   prev : W → Option Place;
 }
 
--- two words of 8 bytes
+-- the reading of two words of 8 bytes
 abbrev pub wide_words : LinkWords RawTwo
 wide_words = record {
   unlinked = no_words;
@@ -32,7 +32,7 @@ wide_words = record {
   prev = prev_of_two;
 }
 
--- and two of 4 bytes
+-- the reading of two words of 4 bytes
 abbrev pub narrow_words : LinkWords RawNarrowTwo
 narrow_words = record {
   unlinked = no_narrow_words;
@@ -44,15 +44,15 @@ narrow_words = record {
 }
 
 module _ {W : Type 0} (words : LinkWords W) where
-  -- between which places an entry stands
+  -- the places before and after the place of an entry
   abbrev pub neighbors : W → Neighbors
   neighbors = neighbors_of words.next_word words.is_linked words.prev
 
-  -- A TABLE OF THE PLACES FOR WHICH THE WORDS HAVE ROOM: the first ones of a caller's words, as many as words of this width can name
+  -- A TABLE OF THE PLACES THAT THE WORDS CAN NAME: the first ones of a caller's words, as many as words of this width can name
   abbrev pub table_of : List W → Table W
   table_of es = plain.table_of words.unlinked (nameable words.width es)
 
-  -- and the same of those that are lent
+  -- the same table for words that are lent
   abbrev pub lent_table : RawTable W → Table W
   lent_table = nameable_table words.width words.unlinked
 
@@ -60,7 +60,7 @@ module _ {W : Type 0} (words : LinkWords W) where
   abbrev pub FreeIn : List W → Place → Type 0
   FreeIn es = IsFree words.is_linked (table_of es)
 
-  -- the fault of a member that is named, and of a place that is to go in
+  -- the status by which a call refuses a member that the caller names, and a place to insert
   abbrev pub fault_at : List W → Option Place → ℕ
   fault_at es = member_fault words.is_linked (table_of es)
 

@@ -1,6 +1,6 @@
--- WHAT THE CALLS OF DOUBLY LINKED LISTS DO: each record is the whole contract of a call. It says first what the call does to a list that the table
--- represents, and then what holds whatever the words say: what an accepted call has found before it edits, which entries it changes and which ends
--- the list has then, and what a refused one leaves, and why.
+-- WHAT THE CALLS OF DOUBLY LINKED LISTS DO: each record is the whole contract of a call. The first fields say what the call does to a list that the
+-- table represents. The others hold whatever the words contain: what an accepted call has tested before it edits, which entries it changes, which
+-- ends the list then has, and what a refused call leaves and why it was refused.
 use Rattle.std.specs.Prelude.{◌≡◌, ◌≢◌, ◌↔◌, ◌++◌, ◌∷◌, ℕ, List, [], Option, Some, None}
 use Rattle.ic_link_ops.specs.Prelude.{Place, Cut, join, at_back, KeepsLinked, acquires, releases}
 use Rattle.ic_link_ops.specs.Chains.{no_members}
@@ -17,10 +17,10 @@ use Rattle.ic_raw.specs.LinkWords.{LinkWords, table_of, FreeIn, fault_at, fault_
 use Rattle.ic_raw.specs.Touches.{Touches, sides}
 use Rattle.ic_raw.specs.Words.{place_of, HasNumber}
 
--- `link`: what the words of a place say. `old`, `new`: those of the table before the call and after it. `list`, `list'`: those of the list.
--- `status`: what the call returns
+-- `link`: how the words of a place are read. `old`, `new`: the words of the table before the call and after it. `list`, `list'`: the words of the
+-- list before and after. `status`: the status that the call returns
 module _ {W : Type 0} (link : LinkWords W) (old new : List W) (list list' : RawEnds) (status : ℕ) where
-  -- A PLACE GOES INTO THE GAP on this side of the member `at`, at none into the outermost one
+  -- A PLACE IS INSERTED INTO THE GAP on this side of the member `at`, or at an end of the list if `at` is none
   pub record InsertCall (side : Side) (at place : Option Place) : Type 0 where
     pub inserted : (cut : Cut) (p : Place) → IsBeside side cut at → place ≡ Some p → Inserted link old new list list' status cut p
     pub free : (p : Place) → place ≡ Some p → status ≡ OK → FreeIn link old p
@@ -35,7 +35,7 @@ module _ {W : Type 0} (link : LinkWords W) (old new : List W) (list list' : RawE
     pub why : status ≢ OK → status ≡ refusal (fault_at link old at ∷ fault_of link old place ∷ [])
     pub is_status : IsStatus status
 
-  -- THE FIRST MEMBER LEAVES, on the side Before the last one, and its number is handed out, in words that said `was`
+  -- THE FIRST MEMBER IS REMOVED, or the last one for the side `Before`, and its number replaces `was`
   pub record PopCall (side : Side) (was popped : ℕ) : Type 0 where
     pub taken : (front back : List Place) (p : Place) → IsEnd side front back → Popped link old new list list' status popped p front back
     pub handed : (p : Place) → end_on side (ends_of list) ≡ Some p → status ≡ OK → HasNumber p popped
@@ -51,13 +51,13 @@ module _ {W : Type 0} (link : LinkWords W) (old new : List W) (list list' : RawE
     pub why : status ≢ OK → status ≢ NULL → status ≡ BROKEN
     pub is_status : IsStatus status
 
-  -- A MEMBER LEAVES
+  -- A MEMBER IS REMOVED
   pub record RemoveCall (at : Option Place) : Type 0 where
     pub removed : (front back : List Place) (p : Place) → at ≡ Some p → Removed link old new list list' status p front back
     pub null : (status ≡ NULL) ↔ (at ≡ None)
     pub stands : status ≡ OK → IsNoneOrLinkedIn link old at
     pub before : status ≡ OK → TellsGap link Before (table_of link old) (ends_of list) at
-    pub behind : status ≡ OK → TellsGap link After (table_of link old) (ends_of list) at
+    pub after : status ≡ OK → TellsGap link After (table_of link old) (ends_of list) at
     pub own : status ≡ OK → TakenOut (around link (table_of link old) (ends_of list) at) (ends_of list) (ends_of list')
     pub touched : (p : Place) → at ≡ Some p → status ≡ OK → Touches link.is_linked (table_of link old) (table_of link new) (releases p ∷ [])
         (Some p ∷ sides (around link (table_of link old) (ends_of list) at))
@@ -66,7 +66,7 @@ module _ {W : Type 0} (link : LinkWords W) (old new : List W) (list list' : RawE
     pub why : status ≢ OK → status ≢ NULL → status ≡ refusal (fault_at link old at ∷ [])
     pub is_status : IsStatus status
 
-  -- A PLACE STANDS WHERE A MEMBER DID, which leaves
+  -- A PLACE REPLACES A MEMBER, which is removed
   pub record ReplaceCall (at place : Option Place) : Type 0 where
     pub replaced : (front back : List Place) (out p : Place) → at ≡ Some out → place ≡ Some p → Replaced link old new list list' status out front back p
     pub free : (p : Place) → place ≡ Some p → status ≡ OK → FreeIn link old p
@@ -74,7 +74,7 @@ module _ {W : Type 0} (link : LinkWords W) (old new : List W) (list list' : RawE
     pub null : (status ≡ NULL) ↔ (at ≡ None)
     pub stands : status ≡ OK → IsNoneOrLinkedIn link old at
     pub before : status ≡ OK → TellsGap link Before (table_of link old) (ends_of list) at
-    pub behind : status ≡ OK → TellsGap link After (table_of link old) (ends_of list) at
+    pub after : status ≡ OK → TellsGap link After (table_of link old) (ends_of list) at
     pub own : status ≡ OK → PutIn (around link (table_of link old) (ends_of list) at) place (ends_of list) (ends_of list')
     pub touched : (out p : Place) → at ≡ Some out → place ≡ Some p → status ≡ OK → Touches link.is_linked (table_of link old) (table_of link new) (acquires p ∷ releases out ∷ [])
         (Some p ∷ Some out ∷ sides (around link (table_of link old) (ends_of list) at))
@@ -83,7 +83,8 @@ module _ {W : Type 0} (link : LinkWords W) (old new : List W) (list list' : RawE
     pub why : status ≢ OK → status ≢ NULL → status ≡ refusal (fault_at link old at ∷ fault_of link old place ∷ [])
     pub is_status : IsStatus status
 
-  -- A MEMBER MOVES into the gap on this side of the member `at`, at none into the outermost one. Beside itself it stays
+  -- A MEMBER MOVES into the gap on this side of the member `at`, or to an end of the list if `at` is none. If `at` is the member itself, nothing
+  -- changes
   pub record MoveCall (side : Side) (at place : Option Place) : Type 0 where
     pub moved : (cut : Cut) (front back : List Place) (p : Place) → IsBeside side cut at → place ≡ Some p → join cut ≡ front ++ back
         → Moved link old new list list' status p front back cut
@@ -95,7 +96,7 @@ module _ {W : Type 0} (link : LinkWords W) (old new : List W) (list list' : RawE
     pub links_back : status ≡ OK → TellsGap link side (table_of link old) (ends_of list) at
     pub member : status ≡ OK → IsNoneOrLinkedIn link old place
     pub before : status ≡ OK → TellsGap link Before (table_of link old) (ends_of list) place
-    pub behind : status ≡ OK → TellsGap link After (table_of link old) (ends_of list) place
+    pub after : status ≡ OK → TellsGap link After (table_of link old) (ends_of list) place
     pub linked : KeepsLinked link.is_linked (table_of link old) (table_of link new)
     pub touched : status ≡ OK → Touches link.is_linked (table_of link old) (table_of link new) []
         (place ∷ sides (around link (table_of link old) (ends_of list) place) ++ sides (gap_from link side (table_of link old) (ends_of list) at))
@@ -107,7 +108,7 @@ module _ {W : Type 0} (link : LinkWords W) (old new : List W) (list list' : RawE
     pub why : status ≢ OK → status ≢ NULL → status ≡ refusal (fault_at link old at ∷ fault_at link old place ∷ [])
     pub is_status : IsStatus status
 
-  -- A MEMBER MOVES TO THE FRONT, on the side Before to the back
+  -- A MEMBER MOVES TO THE FRONT, or to the back for the side `Before`
   pub record MoveToEndCall (side : Side) (place : Option Place) : Type 0 where
     pub moved : (front back : List Place) (p : Place) → place ≡ Some p → Moved link old new list list' status p front back (outermost side (front ++ back))
     pub there : (front back : List Place) (p : Place) → IsEnd side front back → place ≡ Some p → Stayed link old new list list' status p front back
@@ -115,7 +116,7 @@ module _ {W : Type 0} (link : LinkWords W) (old new : List W) (list list' : RawE
     pub links_back : status ≡ OK → TellsGap link side (table_of link old) (ends_of list) None
     pub member : status ≡ OK → IsNoneOrLinkedIn link old place
     pub before : status ≡ OK → TellsGap link Before (table_of link old) (ends_of list) place
-    pub behind : status ≡ OK → TellsGap link After (table_of link old) (ends_of list) place
+    pub after : status ≡ OK → TellsGap link After (table_of link old) (ends_of list) place
     pub linked : KeepsLinked link.is_linked (table_of link old) (table_of link new)
     pub touched : status ≡ OK → Touches link.is_linked (table_of link old) (table_of link new) []
         (place ∷ sides (around link (table_of link old) (ends_of list) place) ++ sides (gap_from link side (table_of link old) (ends_of list) None))
@@ -127,7 +128,8 @@ module _ {W : Type 0} (link : LinkWords W) (old new : List W) (list list' : RawE
     pub why : status ≢ OK → status ≢ NULL → status ≡ refusal (fault_at link old place ∷ [])
     pub is_status : IsStatus status
 
-  -- ALL MEMBERS OF A SECOND LIST GO INTO THE GAP on this side of the member `at`, at none into the outermost one. `given`, `given'`: its words
+  -- ALL MEMBERS OF A SECOND LIST MOVE INTO THE GAP on this side of the member `at`, or to an end of the list if `at` is none. `given`, `given'`: the
+  -- words of the second list
   pub record SpliceCall (side : Side) (at : Option Place) (given given' : RawEnds) : Type 0 where
     pub spliced : (cut : Cut) (t : List Place) → IsBeside side cut at → Spliced link old new list list' status given cut t
     pub emptied : status ≡ OK → given' ≡ words_of no_members
@@ -144,8 +146,8 @@ module _ {W : Type 0} (link : LinkWords W) (old new : List W) (list list' : RawE
     pub why : status ≢ OK → status ≡ refusal (fault_at link old at ∷ [])
     pub is_status : IsStatus status
 
-  -- THE LIST IS CUT at the gap on this side of the member `at`, at none at the outermost one, and the part on that side handed out, in words
-  -- that say no member. `rest`, `rest'`: these words
+  -- THE LIST IS CUT at the gap on this side of the member `at`, or at an end if `at` is none, and the part on that side becomes the list `rest`,
+  -- which has to be empty before. `rest`, `rest'`: the words of that list
   pub record SplitCall (side : Side) (at : Option Place) (rest rest' : RawEnds) : Type 0 where
     pub split : (cut : Cut) → IsBeside side cut at → ends_of rest ≡ no_members → Split link old new list list' status side rest' cut
     pub empty : status ≡ OK → ends_of rest ≡ no_members
@@ -159,7 +161,7 @@ module _ {W : Type 0} (link : LinkWords W) (old new : List W) (list list' : RawE
     pub why : status ≢ OK → status ≡ refusal (fault_at link old at ∷ [])
     pub is_status : IsStatus status
 
-  -- A RUN OF `count` PLACES GOES IN BEHIND ALL MEMBERS
+  -- A RUN OF `count` PLACES IS INSERTED AFTER ALL MEMBERS
   pub record FillCall (first count : ℕ) : Type 0 where
     pub filled : (s : List Place) → Filled link old new list list' status (at_back s) first count
     pub free : status ≡ OK → IsFreeRunIn link old first count
@@ -172,7 +174,7 @@ module _ {W : Type 0} (link : LinkWords W) (old new : List W) (list list' : RawE
     pub why : status ≢ OK → status ≡ refusal (run_faults (fault_of link old) first count)
     pub is_status : IsStatus status
 
-  -- ALL MEMBERS LEAVE
+  -- ALL MEMBERS ARE REMOVED
   pub record ClearCall : Type 0 where
     pub cleared : (s : List Place) → Cleared link old new list list' status s
     pub ended : status ≡ OK → (s : List Place) × RepresentsList link old list s

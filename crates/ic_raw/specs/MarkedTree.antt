@@ -10,6 +10,6 @@ use Rattle.ic_raw.specs.Words.{no_tree_words}
 abbrev pub marked_entries : MarkedTree → List RawThree
 marked_entries t = t.entries.now
 
--- as a table: the name of the borrow tells it from other tables that are lent
+-- the same words as a table. The name of the borrow distinguishes it from other tables that are lent
 abbrev pub marked_table : MarkedTree → Table RawThree
 marked_table t = table_with no_tree_words (t.entries.ghost_name ∷ []) (marked_entries t)

@@ -1,4 +1,4 @@
--- WHAT THE CALLS OF RED-BLACK TREES BY KEYS DO, which stand in an array, one for each place: each record is the whole contract of a call.
+-- WHAT THE CALLS OF RED-BLACK TREES BY KEYS DO, in an array with one key for each place: each record is the whole contract of a call.
 use Rattle.std.specs.Prelude.{◌≡◌, ◌≢◌, ◌≤◌, ◌⊎◌, ◌∷◌, ℕ, List, [], Option, Some, None, length}
 use Rattle.ic_link_ops.specs.Prelude.{Place, LinksAlso}
 use Rattle.ic_raw.specs.declared.search.Target.{Target}
@@ -13,7 +13,7 @@ use Rattle.ic_raw.specs.Tree.{RepresentsTree, FreeIn, IsNoneOrLinkedIn, IsWritte
 
 -- the words of the table before the call and after it
 module _ (keys : List ℕ) (old new : List RawThree) (status : ℕ) where
-  -- A PLACE GOES IN BEHIND ALL MEMBERS with no greater key than its own. `tree`, `tree'`: the word of the tree before and after
+  -- A PLACE IS INSERTED BY ITS KEY, after all members whose key is not greater. `tree`, `tree'`: the word of the tree before and after
   pub record PutCall (tree tree' : RawRoot) (place : Option Place) : Type 0 where
     pub inserted : (s : List Place) (p : Place) → place ≡ Some p → length old ≤ length keys → InsertedInOrder keys old new tree tree' status s p
     pub free : (p : Place) → place ≡ Some p → status ≡ OK → FreeIn old p
@@ -27,7 +27,7 @@ module _ (keys : List ℕ) (old new : List RawThree) (status : ℕ) where
     pub why : status ≢ OK → status ≡ refusal (keys_fault keys (length old) ∷ fault_of old place ∷ [])
     pub is_status : IsStatus status
 
-  -- THE MEMBER THAT IS SEARCHED FOR A KEY IS HANDED OUT, in words that said `was`
+  -- THE MEMBER THAT IS SEARCHED FOR A KEY IS FOUND, and its number replaces `was`
   pub record FindCall (tree : RawRoot) (key : ℕ) (target : Target) (was number : ℕ) : Type 0 where
     pub found : (s : List Place) → length old ≤ length keys → RepresentsTree old tree s → HandsOut (IsTarget target (against key keys) s) status number
     pub reached : status ≡ OK → HandsOutReached (table_of old) (root_in tree) [] number

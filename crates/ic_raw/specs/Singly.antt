@@ -15,67 +15,67 @@ use Rattle.ic_raw.specs.Fills as fills
 use Rattle.ic_raw.specs.Gaps.{IsNoneOrLinked}
 use Rattle.ic_raw.specs.Touches.{Touches}
 
--- the words of a table, and those that are lent, as clauses see them
+-- the words of a table, and those that are lent, as contracts see them
 abbrev pub table_of : List RawOne → Table RawOne
 table_of = plain.table_of no_word
 
 abbrev pub lent_table : RawTable RawOne → Table RawOne
 lent_table = raw_table no_word
 
--- what stands after an entry's place
+-- the place after the place of an entry
 abbrev pub successor : RawOne → Successor
 successor = successor_of next_of_one is_linked_one
 
--- THE TABLE SHOWS s for the list with this front
+-- THE TABLE REPRESENTS s as the list with this first place
 abbrev pub Represents : Table RawOne → Front → List Place → Type 0
 Represents = singly.Represents successor
 
--- THE TABLE SHOWS A SEQUENCE for the list: its places lead to an end
+-- THE TABLE REPRESENTS A SEQUENCE for the list: its links lead to an end
 abbrev pub RepresentsSome : Table RawOne → Front → Type 0
 RepresentsSome = singly.RepresentsSome successor
 
--- the front of a list by its word
+-- the first place that a list's word names
 abbrev pub front_of : RawFront → Option Place
 front_of l = place_in l.head
 
--- and the word of a front, as a call writes it: none is 0
+-- the word for a first place, as a call writes it: 0 for none
 abbrev pub word_of_front : Option Place → RawFront
 word_of_front first = record { head = word_of first }
 
--- the word of a list is as a call writes it
+-- the word of a list has exactly the bits that a call writes
 abbrev pub IsWritten : RawFront → Type 0
 IsWritten l = l ≡ word_of_front (front_of l)
 
--- and the list with that front
+-- the list with that first place
 abbrev pub list_of : RawFront → Front
 list_of l = list_from (front_of l)
 
--- what stands after a place, the first of the list at none
+-- the place after a place; for none, the first place of the list
 abbrev pub next_from : Table RawOne → Front → Option Place → Option Place
 next_from t list None = list.head
 next_from t list (Some p) = (successor_at successor t p).next
 
--- THE WORDS TELL OF A GAP after a place, at none before all members: what stands on both sides of it is none or linked
+-- THE LINKS CONFIRM A GAP after a place, or before all members for none: each of its two sides is none or linked
 abbrev pub TellsGap : Table RawOne → Front → (at : Option Place) → Type 0
 TellsGap t list at = IsNoneOrLinked is_linked_one t at × IsNoneOrLinked is_linked_one t (next_from t list at)
 
--- and of a member there
+-- THE LINKS CONFIRM A MEMBER there
 abbrev pub TellsMember : Table RawOne → Front → (at : Option Place) → Type 0
 TellsMember t list at = TellsGap t list at × (next_from t list at ≢ None)
 
--- THE PLACES FROM `front` ON LEAD TO `at`: each of `walked` is linked, with the next one after it, and `at` stands after the last
+-- THE LINKS LEAD FROM `front` TO `at`: each place of `walked` is linked and names the next one, and the last names `at`
 pub record LeadsTo (t : Table RawOne) (front at : Place) : Type 0 where
   pub walked : List Place
   pub chain : IsChain (IsFollowed successor) t.entry None walked (Some at)
   pub starts : Some front ≡ first_or walked (Some at)
 
--- and so do those from this front on, which is a place
+-- the links lead from this place, which is not none, to `at`
 pub record LeadsFrom (t : Table RawOne) (front : Option Place) (at : Place) : Type 0 where
   pub begin : Place
   pub is : front ≡ Some begin
   pub leads : LeadsTo t begin at
 
--- a list's own front after the member `at` left: what stood after that one where it was the first, and else the first that there was
+-- a list's own first place after the member `at` was removed: the place after `at` if `at` was the first, or else the first place as before
 pub record LosesFront (t : Table RawOne) (at : Option Place) (old new : Front) : Type 0 where
   pub first : old.head ≡ at → new.head ≡ next_from t old at
   pub other : old.head ≢ at → new.head ≡ old.head
@@ -120,12 +120,12 @@ Cleared = calls.Cleared Represents is_linked_one no_word list_of
 abbrev pub Filled : (old new : List RawOne) (list list' : RawFront) (status : ℕ) → Cut → (first count : ℕ) → Type 0
 Filled = fills.Filled Represents is_linked_one no_word list_of
 
--- the words are linked and unlinked in these steps alone, and none changes but those of these places
+-- a call links and unlinks places in these steps alone, and changes only the words of these places
 abbrev pub Touched : (old new : List RawOne) → List LinkStep → (places : List (Option Place)) → Type 0
 Touched old new = Touches is_linked_one (table_of old) (table_of new)
 
--- A PLACE IS TAKEN OUT OF A LIST to which its words lead: what stands before it is linked, or none at the front. It alone is unlinked, and
--- no words change but its own and those of the place before
+-- A PLACE IS REMOVED FROM A LIST whose links lead to it: the place before it is linked, or none at the front. Only this place is unlinked, and only
+-- its own words and those of the place before change
 pub record LeavesChain (old new : List RawOne) (list : RawFront) (p : Place) : Type 0 where
   pub before : Option Place
   pub stands : IsNoneOrLinkedIn old before
@@ -136,6 +136,6 @@ pub record LeavesChain (old new : List RawOne) (list : RawFront) (p : Place) : T
 abbrev pub TouchedRun : (old new : List RawOne) → (run : List Place) → (end : Option Place) → Type 0
 TouchedRun old new = fills.TouchesRun is_linked_one (table_of old) (table_of new)
 
--- the run of so many places from this number on is free in the table of these words
+-- the `count` places from this number on belong to the table of these words, and none of them is linked
 abbrev pub IsFreeRunIn : List RawOne → (first count : ℕ) → Type 0
 IsFreeRunIn words = fills.IsFreeRun is_linked_one (table_of words)

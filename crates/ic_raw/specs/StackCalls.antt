@@ -1,5 +1,6 @@
--- WHAT THE CALLS OF SINGLY LINKED LISTS DO: each record is the whole contract of a call. It says first what the call does to a list that the table
--- represents, and then what holds whatever the words say: what an accepted call has found before it edits, and what a refused one leaves, and why.
+-- WHAT THE CALLS OF SINGLY LINKED LISTS DO: each record is the whole contract of a call. The first fields say what the call does to a list that the
+-- table represents. The others hold whatever the words contain: what an accepted call has tested before it edits, and what a refused call leaves and
+-- why it was refused.
 use Rattle.std.specs.Prelude.{◌≡◌, ◌≢◌, ◌↔◌, ◌∷◌, ℕ, List, [], Option, Some, None}
 use Rattle.ic_link_ops.specs.Prelude.{Place, Cut, at_front, last, IsAfter, acquires, releases}
 use Rattle.ic_link_ops.specs.Chains.{end_of}
@@ -13,13 +14,14 @@ use Rattle.ic_raw.specs.Singly.{RepresentsList, RepresentsSome, IsNoneOrLinkedIn
 use Rattle.ic_raw.specs.Singly.{Inserted, Popped, Exchanged, Spliced, Split, Cleared, Filled, Touched, TouchedRun}
 use Rattle.ic_raw.specs.Words.{HasNumber, is_linked_one, place_of}
 
--- `old`, `new`: the words of the table before the call and after it. `list`, `list'`: that of the list. `status`: what the call returns
+-- `old`, `new`: the words of the table before the call and after it. `list`, `list'`: the word of the list before and after. `status`: the status
+-- that the call returns
 module _ (old new : List RawOne) (list list' : RawFront) (status : ℕ) where
-  -- what stands after a place, the first member at none
-  abbrev pub behind : Option Place → Option Place
-  behind at = next_from (table_of old) (list_of list) at
+  -- the place after a place; for none, the first member
+  abbrev pub after : Option Place → Option Place
+  after at = next_from (table_of old) (list_of list) at
 
-  -- A PLACE GOES IN BEHIND THE MEMBER `at`, at none before all
+  -- A PLACE IS INSERTED AFTER THE MEMBER `at`, or before all members if `at` is none
   pub record InsertCall (at place : Option Place) : Type 0 where
     pub inserted : (cut : Cut) (p : Place) → IsAfter cut at → place ≡ Some p → Inserted old new list list' status cut p
     pub accepted : (status ≡ OK) ↔ NamesFree is_linked_one (table_of old) place × TellsGap (table_of old) (list_of list) at
@@ -30,49 +32,49 @@ module _ (old new : List RawOne) (list list' : RawFront) (status : ℕ) where
     pub why : status ≢ OK → status ≡ refusal (fault_at old at ∷ fault_of old place ∷ [])
     pub is_status : IsStatus status
 
-  -- THE FIRST MEMBER LEAVES, and its number is handed out, in words that said `was`
+  -- THE FIRST MEMBER IS REMOVED, and its number replaces `was`
   pub record PopCall (was popped : ℕ) : Type 0 where
     pub taken : (s : List Place) (p : Place) → Popped old new list list' status popped p [] s
     pub handed : (p : Place) → front_of list ≡ Some p → status ≡ OK → HasNumber p popped
     pub null : (status ≡ NULL) ↔ (front_of list ≡ None)
     pub accepted : (status ≡ OK) ↔ TellsMember (table_of old) (list_of list) None
-    pub own : status ≡ OK → front_of list' ≡ behind (front_of list)
+    pub own : status ≡ OK → front_of list' ≡ after (front_of list)
     pub touched : (p : Place) → front_of list ≡ Some p → status ≡ OK → Touched old new (releases p ∷ []) (Some p ∷ [])
     pub words : status ≡ OK → IsWritten list'
     pub refused : status ≢ OK → (new ≡ old) × (list' ≡ list) × (popped ≡ was)
     pub why : status ≢ OK → status ≢ NULL → status ≡ BROKEN
     pub is_status : IsStatus status
 
-  -- THE MEMBER BEHIND `at` LEAVES, at none the first one, and its number is handed out, in words that said `was`
+  -- THE MEMBER AFTER `at` IS REMOVED, or the first one if `at` is none, and its number replaces `was`
   pub record RemoveCall (at : Option Place) (was removed : ℕ) : Type 0 where
     pub taken : (front back : List Place) (p : Place) → at ≡ last front → Popped old new list list' status removed p front back
-    pub handed : (p : Place) → behind at ≡ Some p → status ≡ OK → HasNumber p removed
+    pub handed : (p : Place) → after at ≡ Some p → status ≡ OK → HasNumber p removed
     pub nothing : (s : List Place) → RepresentsList old list s → at ≡ last s → status ≡ NULL
-    pub null : (status ≡ NULL) ↔ (fault_at old at ≡ OK) × (behind at ≡ None)
+    pub null : (status ≡ NULL) ↔ (fault_at old at ≡ OK) × (after at ≡ None)
     pub accepted : (status ≡ OK) ↔ TellsMember (table_of old) (list_of list) at
-    pub own : status ≡ OK → front_of list' ≡ end_of at (behind (behind at)) (front_of list)
-    pub touched : (p : Place) → behind at ≡ Some p → status ≡ OK → Touched old new (releases p ∷ []) (Some p ∷ at ∷ [])
+    pub own : status ≡ OK → front_of list' ≡ end_of at (after (after at)) (front_of list)
+    pub touched : (p : Place) → after at ≡ Some p → status ≡ OK → Touched old new (releases p ∷ []) (Some p ∷ at ∷ [])
     pub words : status ≡ OK → IsWritten list'
     pub refused : status ≢ OK → (new ≡ old) × (list' ≡ list) × (removed ≡ was)
     pub why : status ≢ OK → status ≢ NULL → status ≡ refusal (fault_at old at ∷ [])
     pub is_status : IsStatus status
 
-  -- A PLACE STANDS WHERE THE MEMBER BEHIND `at` DID, at none where the first one did. That one leaves, and its number is handed out
+  -- A PLACE REPLACES THE MEMBER AFTER `at`, or the first one if `at` is none. That member is removed, and its number is stored
   pub record ReplaceCall (at place : Option Place) (was out : ℕ) : Type 0 where
     pub replaced : (front back : List Place) (q p : Place) → at ≡ last front → place ≡ Some p → Exchanged old new list list' status out q front back p
-    pub handed : (q : Place) → behind at ≡ Some q → status ≡ OK → HasNumber q out
+    pub handed : (q : Place) → after at ≡ Some q → status ≡ OK → HasNumber q out
     pub nothing : (s : List Place) → RepresentsList old list s → at ≡ last s → status ≡ NULL
-    pub null : (status ≡ NULL) ↔ (fault_at old at ≡ OK) × (behind at ≡ None)
+    pub null : (status ≡ NULL) ↔ (fault_at old at ≡ OK) × (after at ≡ None)
     pub accepted : (status ≡ OK) ↔ NamesFree is_linked_one (table_of old) place × TellsMember (table_of old) (list_of list) at
     pub own : status ≡ OK → front_of list' ≡ end_of at place (front_of list)
-    pub touched : (q p : Place) → behind at ≡ Some q → place ≡ Some p → status ≡ OK
+    pub touched : (q p : Place) → after at ≡ Some q → place ≡ Some p → status ≡ OK
         → Touched old new (acquires p ∷ releases q ∷ []) (Some p ∷ Some q ∷ at ∷ [])
     pub words : status ≡ OK → IsWritten list'
     pub refused : status ≢ OK → (new ≡ old) × (list' ≡ list) × (out ≡ was)
     pub why : status ≢ OK → status ≢ NULL → status ≡ refusal (fault_at old at ∷ fault_of old place ∷ [])
     pub is_status : IsStatus status
 
-  -- ALL MEMBERS OF A SECOND LIST GO IN BEHIND THE MEMBER `at`, at none before all. `given`, `given'`: its word
+  -- ALL MEMBERS OF A SECOND LIST MOVE AFTER THE MEMBER `at`, or to the front if `at` is none. `given`, `given'`: the word of the second list
   pub record SpliceCall (at : Option Place) (given given' : RawFront) : Type 0 where
     pub spliced : (cut : Cut) (t : List Place) → IsAfter cut at → Spliced old new list list' status given cut t
     pub emptied : status ≡ OK → given' ≡ word_of_front None
@@ -86,12 +88,12 @@ module _ (old new : List RawOne) (list list' : RawFront) (status : ℕ) where
     pub why : status ≢ OK → status ≡ refusal (fault_at old at ∷ [])
     pub is_status : IsStatus status
 
-  -- THE LIST IS CUT BEHIND THE MEMBER `at`, at none before all, and what stands after the cut handed out, in a word that says no member.
-  -- `rest`, `rest'`: that word
+  -- THE LIST IS CUT AFTER THE MEMBER `at`, or before all members if `at` is none, and the members after the cut become the list `rest`, which has to
+  -- be empty before. `rest`, `rest'`: the word of that list
   pub record SplitCall (at : Option Place) (rest rest' : RawFront) : Type 0 where
     pub split : (cut : Cut) → IsAfter cut at → front_of rest ≡ None → Split old new list list' status rest' cut
     pub accepted : (status ≡ OK) ↔ (front_of rest ≡ None) × TellsGap (table_of old) (list_of list) at
-    pub own : status ≡ OK → (front_of list' ≡ end_of at None (front_of list)) × (front_of rest' ≡ behind at)
+    pub own : status ≡ OK → (front_of list' ≡ end_of at None (front_of list)) × (front_of rest' ≡ after at)
     pub touched : status ≡ OK → Touched old new [] (at ∷ [])
     pub words : status ≡ OK → IsWritten list'
     pub rest_words : status ≡ OK → IsWritten rest'
@@ -99,7 +101,7 @@ module _ (old new : List RawOne) (list list' : RawFront) (status : ℕ) where
     pub why : status ≢ OK → status ≡ refusal (fault_at old at ∷ [])
     pub is_status : IsStatus status
 
-  -- A RUN OF `count` PLACES GOES IN BEFORE ALL MEMBERS
+  -- A RUN OF `count` PLACES IS INSERTED BEFORE ALL MEMBERS
   pub record FillCall (first count : ℕ) : Type 0 where
     pub filled : (s : List Place) → Filled old new list list' status (at_front s) first count
     pub nothing : count ≡ 0 → (status ≡ OK) × (new ≡ old) × (list' ≡ list)
@@ -111,7 +113,7 @@ module _ (old new : List RawOne) (list list' : RawFront) (status : ℕ) where
     pub why : status ≢ OK → status ≡ refusal (run_faults (fault_of old) first count)
     pub is_status : IsStatus status
 
-  -- ALL MEMBERS LEAVE
+  -- ALL MEMBERS ARE REMOVED
   pub record ClearCall : Type 0 where
     pub cleared : (s : List Place) → Cleared old new list list' status s
     pub ended : status ≡ OK → (s : List Place) × RepresentsList old list s

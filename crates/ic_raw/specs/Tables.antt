@@ -12,7 +12,7 @@ use Rattle.ic_raw.specs.declared.status.TheConstants.{OK, OUT_OF_RANGE, LINKED, 
 use Rattle.ic_raw.specs.declared.table.RawTable.{RawTable}
 
 module _ {W : Type 0} where
-  -- it is a view of these words, as they are
+  -- this is a view of these words, as they are
   abbrev pub IsView : MutBor (List W) → RawTable W → Type 0
   IsView words t = (t.entries.ghost_name ≡ words.ghost_name) × (t.entries.now ≡ words.now)
 
@@ -20,33 +20,33 @@ module _ {W : Type 0} where
   abbrev pub raw_entries : RawTable W → List W
   raw_entries t = t.entries.now
 
-  -- as a table of the places for which words of this width have room: the name of the borrow tells it from other tables that are lent
+  -- the words as a table of the places that words of this width can name. The name of the borrow distinguishes it from other tables that are lent
   abbrev pub nameable_table : Width → W → RawTable W → Table W
   nameable_table width unlinked t = table_with unlinked (t.entries.ghost_name ∷ []) (nameable width (raw_entries t))
 
-  -- the same of words of 8 bytes, which have room for every place
+  -- the same for words of 8 bytes, which can name every place
   abbrev pub raw_table : W → RawTable W → Table W
   raw_table = nameable_table wide
 
-  -- THE FAULT OF A MEMBER that is named: it is not linked, or none of the table. None has no fault
+  -- THE FAULT OF A MEMBER that the caller names: it is not linked, or does not belong to the table. If the caller names none, there is no fault
   abbrev pub member_fault : (is_linked : W → Bool) → Table W → Option Place → ℕ
   member_fault is_linked t None = OK
   member_fault is_linked t (Some p) = cond (is_linked (t.entry p)) OK (cond (nat_lt (index_of p) t.extent.places) NOT_LINKED OUT_OF_RANGE)
 
-  -- THE FAULT OF A PLACE that is to go in: it is linked, or none of the table
+  -- THE FAULT OF A PLACE to insert: it is linked, or does not belong to the table
   abbrev pub place_fault : (is_linked : W → Bool) → Table W → Option Place → ℕ
   place_fault is_linked t None = OUT_OF_RANGE
   place_fault is_linked t (Some p) = cond (nat_lt (index_of p) t.extent.places) (cond (is_linked (t.entry p)) LINKED OK) OUT_OF_RANGE
 
-  -- the place is one of the table, and not linked
+  -- the place belongs to the table and is not linked
   pub record IsFree (is_linked : W → Bool) (t : Table W) (p : Place) : Type 0 where
     pub covered : IsCovered t p
     pub unlinked : IsUnlinked is_linked t p
 
 module _ {W : Type 0} (next_word : W → ℕ) where
-  -- what the words say of neighbors, as links do
+  -- the neighbors that the words name, in the form of links
   abbrev pub joins_of : W → Option Place → Option Place → Type 0
-  joins_of w = readings.XorJoins next_word (link_of w)
+  joins_of w = readings.HasXorNeighbors next_word (link_of w)
 
   abbrev pub other_of : W → Option Place → Option Place
   other_of w = readings.xor_other next_word (link_of w)

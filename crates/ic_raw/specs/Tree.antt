@@ -14,38 +14,39 @@ use Rattle.ic_raw.specs.Words.{place_in, no_tree_words, is_linked_three, color_o
 use Rattle.ic_raw.specs.Tables.{raw_table}
 use Rattle.ic_raw.specs.Calls as calls
 
--- the words of a table, and those that are lent, as clauses see them
+-- the words of a table, and those that are lent, as contracts see them
 abbrev pub table_of : List RawThree → Table RawThree
 table_of = plain.table_of no_tree_words
 
 abbrev pub lent_table : RawTable RawThree → Table RawThree
 lent_table = raw_table no_tree_words
 
--- what an entry says of a tree
+-- the node that an entry describes
 abbrev pub node : RawThree → Node
 node w = record { linked = is_linked_three w; left = place_in w.left; right = place_in w.right; parent = place_in w.parent; color = color_of w }
 
--- THE TABLE SHOWS s for the tree with this root
+-- THE TABLE REPRESENTS s as the tree with this root
 abbrev pub Represents : Table RawThree → Option Place → List Place → Type 0
 Represents = trees.Represents node
 
--- the root of a tree by its word
+-- the root that a tree's word names
 abbrev pub root_in : RawRoot → Option Place
 root_in t = place_in t.root
 
--- and the word of a root, as a call writes it: none is 0
+-- the word for a root, as a call writes it: 0 for none
 abbrev pub word_of_root : Option Place → RawRoot
 word_of_root root = record { root = word_of root }
 
--- the word of a tree is as a call writes it
+-- the word of a tree has exactly the bits that a call writes
 abbrev pub IsWritten : RawRoot → Type 0
 IsWritten t = t ≡ word_of_root (root_in t)
 
--- THE HOLE on a side of a member, where it has no child: the gap before it on the left, after it on the right. At none the tree is empty
+-- THE HOLE on a side of a member where it has no child: on the left it is the gap before the member, on the right the gap after it. For none, the
+-- tree is empty
 abbrev pub IsInsertPos : Side → Table RawThree → Option Place → Cut → Type 0
 IsInsertPos side t at cut = holes.IsInsertPos node t at side cut
 
--- THE WORDS TELL OF A HOLE there: the place has no child on this side; at none the tree has no root
+-- THE LINKS CONFIRM A HOLE there: the place has no child on this side, or, for none, the tree has no root
 abbrev pub TellsInsertPos : Side → Table RawThree → (root : Option Place) → Option Place → Type 0
 TellsInsertPos side t root None = root ≡ None
 TellsInsertPos side t root (Some p) = child_on side (node (t.entry p)) ≡ None

@@ -11,55 +11,55 @@ use Rattle.ic_raw.specs.Doubly.{ends_of}
 use Rattle.ic_raw.specs.Calls as calls
 use Rattle.ic_raw.specs.Fills as fills
 
--- an entry's place stands between these two
-abbrev pub Joins : RawOne → Option Place → Option Place → Type 0
-Joins = joins_of next_of_one
+-- the place of an entry is between these two
+abbrev pub HasNeighbors : RawOne → Option Place → Option Place → Type 0
+HasNeighbors = joins_of next_of_one
 
--- its neighbor on the other side of the one that is told
+-- the neighbor of an entry's place on the other side, from the given neighbor
 abbrev pub other : RawOne → Option Place → Option Place
 other = other_of next_of_one
 
--- THE TABLE SHOWS s for the list with these ends
+-- THE TABLE REPRESENTS s as the list with these ends
 abbrev pub Represents : Table RawOne → Ends → List Place → Type 0
-Represents = xor.Represents is_linked_one Joins
+Represents = xor.Represents is_linked_one HasNeighbors
 
--- what stands on the other side of a place, by its word: nothing beyond none
+-- the place on the other side of a place, by its word; none beyond none
 abbrev pub beyond : Table RawOne → (at neighbor : Option Place) → Option Place
 beyond t None neighbor = None
 beyond t (Some p) neighbor = other (t.entry p) neighbor
 
--- THE LIST GOES ON beyond a place: a linked place stands there, or nothing does, and the place is the list's end on that side
+-- THE LIST GOES ON beyond a place: a linked place is there, or none is and the place is the list's end on that side
 abbrev pub GoesOn : (Place → RawOne) → (end : Option Place) → Place → (beyond : Option Place) → Type 0
 GoesOn entry end p None = end ≡ Some p
 GoesOn entry end p (Some q) = is_linked_one (entry q) ≡ true
 
--- A PLACE FACES ITS NEIGHBOR: it is linked, and the list goes on on its other side. Where there is no place, the neighbor is the list's end
+-- A PLACE FACES ITS NEIGHBOR: it is linked, and the list goes on beyond it. If there is no place, the neighbor is the list's end
 abbrev pub Faces : (Place → RawOne) → (end place neighbor : Option Place) → Type 0
 Faces entry end None neighbor = end ≡ neighbor
 Faces entry end (Some p) neighbor = (is_linked_one (entry p) ≡ true) × GoesOn entry end p (other (entry p) neighbor)
 
--- THE WORDS TELL OF A GAP: the places on both sides of it face each other. They tell of each gap of a list, and may tell of others too: in the
--- list 0, 1, .., 6 of one between 1 and 6, since the words there name the linked places 4 and 3 beyond them
-abbrev pub TellsGap : Table RawOne → Ends → (before behind : Option Place) → Type 0
-TellsGap t list before behind = Faces t.entry list.head before behind × Faces t.entry list.tail behind before
+-- THE LINKS CONFIRM A GAP: the places on both sides of it face each other. They confirm each gap of a list, but may confirm others, too: in the list
+-- 0, 1, .., 6 they confirm one between 1 and 6, since the words of these name the linked places 4 and 3 beyond them
+abbrev pub TellsGap : Table RawOne → Ends → (before after : Option Place) → Type 0
+TellsGap t list before after = Faces t.entry list.head before after × Faces t.entry list.tail after before
 
--- THE WORDS TELL OF A MEMBER between two places: both face it
-abbrev pub TellsMember : Table RawOne → Ends → (before : Option Place) → Place → (behind : Option Place) → Type 0
-TellsMember t list before p behind = Faces t.entry list.head before (Some p) × Faces t.entry list.tail behind (Some p)
+-- THE LINKS CONFIRM A MEMBER between two places: both face it
+abbrev pub TellsMember : Table RawOne → Ends → (before : Option Place) → Place → (after : Option Place) → Type 0
+TellsMember t list before p after = Faces t.entry list.head before (Some p) × Faces t.entry list.tail after (Some p)
 
--- of the member after a place, none before the first; and of that before a place, none after the last
+-- THE LINKS CONFIRM the member after a place, with none before the first member, and the member before a place, with none after the last
 abbrev pub TellsMemberAfter : Table RawOne → Ends → (before at : Option Place) → Type 0
 TellsMemberAfter t list before at = (p : Place) → at ≡ Some p → TellsMember t list before p (other (t.entry p) before)
 
-abbrev pub TellsMemberBefore : Table RawOne → Ends → (behind at : Option Place) → Type 0
-TellsMemberBefore t list behind at = (p : Place) → at ≡ Some p → TellsMember t list (other (t.entry p) behind) p behind
+abbrev pub TellsMemberBefore : Table RawOne → Ends → (after at : Option Place) → Type 0
+TellsMemberBefore t list after at = (p : Place) → at ≡ Some p → TellsMember t list (other (t.entry p) after) p after
 
--- THE WORDS TELL OF A LIST by its ends: with nothing before the first member and nothing after the last, both face it
+-- THE LINKS CONFIRM A LIST by its ends: the first member faces none before it, and the last faces none after it
 abbrev pub TellsEnds : Table RawOne → Ends → Type 0
 TellsEnds t list = Faces t.entry list.tail list.head None × Faces t.entry list.head list.tail None
 
--- THE WORDS LEAD THROUGH s from the first member to the last: each place of s is linked, and what stands on its other side is next. s may have
--- a place twice, as no list has
+-- THE LINKS LEAD THROUGH s from the first member to the last: each place of s is linked, and the place on its other side is the next one. Unlike a
+-- list, s may have a place twice
 abbrev pub LeadsOn : (Place → RawOne) → (end from at : Option Place) → List Place → Type 0
 LeadsOn entry end from at [] = (at ≡ None) × (end ≡ from)
 LeadsOn entry end from at (x ∷ s) = (at ≡ Some x) × (is_linked_one (entry x) ≡ true) × LeadsOn entry end (Some x) (other (entry x) from) s
@@ -106,3 +106,7 @@ Cleared = calls.Cleared Represents is_linked_one no_word ends_of
 
 abbrev pub Filled : (old new : List RawOne) (list list' : RawEnds) (status : ℕ) → Cut → (first count : ℕ) → Type 0
 Filled = fills.Filled Represents is_linked_one no_word ends_of
+
+-- LINKED PLACES ARE UNLINKED, AND NOTHING ELSE IS CHANGED: such a place has the word of one then that no call has linked
+abbrev pub OnlyUnlinks : (old new : Table RawOne) → Type 0
+OnlyUnlinks = calls.OnlyUnlinks is_linked_one (λ w. no_word)

@@ -1,5 +1,6 @@
--- WHAT THE CALLS OF XOR LINKED LISTS DO: each record is the whole contract of a call. It says first what the call does to a list that the table
--- represents, and then what holds whatever the words say: what an accepted call has found before it edits, and what a refused one leaves, and why.
+-- WHAT THE CALLS OF XOR LINKED LISTS DO: each record is the whole contract of a call. The first fields say what the call does to a list that the
+-- table represents. The others hold whatever the words contain: what an accepted call has tested before it edits, and what a refused call leaves and
+-- why it was refused.
 use Rattle.std.specs.Prelude.{◌≡◌, ◌≢◌, ◌↔◌, ◌∷◌, ℕ, List, [], Option, Some, None}
 use Rattle.ic_link_ops.specs.Prelude.{Place, Cut, at_back, last, IsAfter, IsBefore, acquires, releases}
 use Rattle.ic_link_ops.specs.Chains.{no_members}
@@ -17,49 +18,50 @@ use Rattle.ic_raw.specs.Singly.{IsFreeRunIn, TouchedRun, table_of}
 use Rattle.ic_raw.specs.Touches.{Touches, sides}
 use Rattle.ic_raw.specs.Words.{HasNumber, is_linked_one, place_of}
 use Rattle.ic_raw.specs.Xor.{FreeIn, IsNoneOrLinkedIn, beyond, TellsGap, TellsMemberAfter, TellsMemberBefore, TellsEnds, LeadsThrough, fault_at, fault_of}
-use Rattle.ic_raw.specs.Xor.{Inserted, Removed, Popped, Replaced, Spliced, Split, Cleared, Filled}
+use Rattle.ic_raw.specs.Xor.{Inserted, Removed, Popped, Replaced, Spliced, Split, Cleared, Filled, OnlyUnlinks}
 
--- `old`, `new`: the words of the table before the call and after it. `list`, `list'`: those of the list. `status`: what the call returns
+-- `old`, `new`: the words of the table before the call and after it. `list`, `list'`: the words of the list before and after. `status`: the status
+-- that the call returns
 module _ (old new : List RawOne) (list list' : RawEnds) (status : ℕ) where
-  -- A PLACE GOES IN BETWEEN two neighbors, none beyond an end
-  pub record InsertCall (before behind place : Option Place) : Type 0 where
-    pub inserted : (cut : Cut) (p : Place) → IsAfter cut before → IsBefore cut behind → place ≡ Some p → Inserted old new list list' status cut p
+  -- A PLACE IS INSERTED BETWEEN two neighbors, of which one is none at an end of the list
+  pub record InsertCall (before after place : Option Place) : Type 0 where
+    pub inserted : (cut : Cut) (p : Place) → IsAfter cut before → IsBefore cut after → place ≡ Some p → Inserted old new list list' status cut p
     pub free : (p : Place) → place ≡ Some p → status ≡ OK → FreeIn old p
     pub no_place : place ≡ None → status ≢ OK
     pub stands_before : status ≡ OK → IsNoneOrLinkedIn old before
-    pub stands_behind : status ≡ OK → IsNoneOrLinkedIn old behind
-    pub links_back : status ≡ OK → TellsGap (table_of old) (ends_of list) before behind
-    pub touched : (p : Place) → place ≡ Some p → status ≡ OK → Touches is_linked_one (table_of old) (table_of new) (acquires p ∷ []) (Some p ∷ before ∷ behind ∷ [])
-    pub own : status ≡ OK → PutIn (gap_between before behind) place (ends_of list) (ends_of list')
+    pub stands_after : status ≡ OK → IsNoneOrLinkedIn old after
+    pub links_back : status ≡ OK → TellsGap (table_of old) (ends_of list) before after
+    pub touched : (p : Place) → place ≡ Some p → status ≡ OK → Touches is_linked_one (table_of old) (table_of new) (acquires p ∷ []) (Some p ∷ before ∷ after ∷ [])
+    pub own : status ≡ OK → PutIn (gap_between before after) place (ends_of list) (ends_of list')
     pub words : status ≡ OK → IsWritten list'
     pub refused : status ≢ OK → (new ≡ old) × (list' ≡ list)
-    pub why : status ≢ OK → status ≡ refusal (fault_at old before ∷ fault_at old behind ∷ fault_of old place ∷ [])
+    pub why : status ≢ OK → status ≡ refusal (fault_at old before ∷ fault_at old after ∷ fault_of old place ∷ [])
     pub is_status : IsStatus status
 
-  -- A PLACE GOES IN AT AN END, between none and the end that the list names
-  pub record PushCall (before behind place : Option Place) : Type 0 where
-    pub inserted : (cut : Cut) (p : Place) → IsAfter cut before → IsBefore cut behind → place ≡ Some p → Inserted old new list list' status cut p
+  -- A PLACE IS INSERTED AT AN END, between none and the end that the list names
+  pub record PushCall (before after place : Option Place) : Type 0 where
+    pub inserted : (cut : Cut) (p : Place) → IsAfter cut before → IsBefore cut after → place ≡ Some p → Inserted old new list list' status cut p
     pub free : (p : Place) → place ≡ Some p → status ≡ OK → FreeIn old p
     pub no_place : place ≡ None → status ≢ OK
-    pub links_back : status ≡ OK → TellsGap (table_of old) (ends_of list) before behind
-    pub touched : (p : Place) → place ≡ Some p → status ≡ OK → Touches is_linked_one (table_of old) (table_of new) (acquires p ∷ []) (Some p ∷ before ∷ behind ∷ [])
-    pub own : status ≡ OK → PutIn (gap_between before behind) place (ends_of list) (ends_of list')
+    pub links_back : status ≡ OK → TellsGap (table_of old) (ends_of list) before after
+    pub touched : (p : Place) → place ≡ Some p → status ≡ OK → Touches is_linked_one (table_of old) (table_of new) (acquires p ∷ []) (Some p ∷ before ∷ after ∷ [])
+    pub own : status ≡ OK → PutIn (gap_between before after) place (ends_of list) (ends_of list')
     pub words : status ≡ OK → IsWritten list'
     pub refused : status ≢ OK → (new ≡ old) × (list' ≡ list)
     pub why : status ≢ OK → status ≡ refusal (fault_of old place ∷ [])
     pub is_status : IsStatus status
 
-  -- the words tell of the member at an end: the first one, or on the side Before the last one
+  -- the links confirm the member at an end: the first one, or the last one for the side `Before`
   abbrev pub TellsEndOn : Side → Type 0
   TellsEndOn After = TellsMemberAfter (table_of old) (ends_of list) None (ends_of list).head
   TellsEndOn Before = TellsMemberBefore (table_of old) (ends_of list) None (ends_of list).tail
 
-  -- between which places that member stands: none, and what its word tells
+  -- the places on both sides of that member: none, and the one that its word names
   abbrev pub around_end : Side → Gap
   around_end After = gap_between None (beyond (table_of old) (ends_of list).head None)
   around_end Before = gap_between (beyond (table_of old) (ends_of list).tail None) None
 
-  -- THE FIRST MEMBER LEAVES, on the side Before the last one, and its number is handed out, in words that said `was`
+  -- THE FIRST MEMBER IS REMOVED, or the last one for the side `Before`, and its number replaces `was`
   pub record PopCall (side : Side) (was popped : ℕ) : Type 0 where
     pub taken : (front back : List Place) (p : Place) → IsEnd side front back → Popped old new list list' status popped p front back
     pub handed : (p : Place) → end_on side (ends_of list) ≡ Some p → status ≡ OK → HasNumber p popped
@@ -74,7 +76,7 @@ module _ (old new : List RawOne) (list list' : RawEnds) (status : ℕ) where
     pub why : status ≢ OK → status ≢ NULL → status ≡ BROKEN
     pub is_status : IsStatus status
 
-  -- THE MEMBER `at` LEAVES, before which `before` stands
+  -- THE MEMBER `at` IS REMOVED, whose previous member is `before`
   pub record RemoveCall (before at : Option Place) : Type 0 where
     pub removed : (front back : List Place) (p : Place) → before ≡ last front → at ≡ Some p → Removed old new list list' status p front back
     pub null : (status ≡ NULL) ↔ (at ≡ None)
@@ -89,7 +91,7 @@ module _ (old new : List RawOne) (list list' : RawEnds) (status : ℕ) where
     pub why : status ≢ OK → status ≢ NULL → status ≡ refusal (fault_at old at ∷ fault_at old before ∷ [])
     pub is_status : IsStatus status
 
-  -- A PLACE STANDS WHERE THE MEMBER `at` DID, which leaves, and before which `before` stands
+  -- A PLACE REPLACES THE MEMBER `at`, which is removed, and whose previous member is `before`
   pub record ReplaceCall (before at place : Option Place) : Type 0 where
     pub replaced : (front back : List Place) (out p : Place) → before ≡ last front → at ≡ Some out → place ≡ Some p
         → Replaced old new list list' status out front back p
@@ -108,25 +110,26 @@ module _ (old new : List RawOne) (list list' : RawEnds) (status : ℕ) where
     pub why : status ≢ OK → status ≢ NULL → status ≡ refusal (fault_at old at ∷ fault_at old before ∷ fault_of old place ∷ [])
     pub is_status : IsStatus status
 
-  -- ALL MEMBERS OF A SECOND LIST GO IN BETWEEN two neighbors, none beyond an end. `given`, `given'`: its words
-  pub record SpliceCall (before behind : Option Place) (given given' : RawEnds) : Type 0 where
-    pub spliced : (cut : Cut) (t : List Place) → IsAfter cut before → IsBefore cut behind → Spliced old new list list' status given cut t
+  -- ALL MEMBERS OF A SECOND LIST MOVE BETWEEN two neighbors, of which one is none at an end of the list. `given`, `given'`: the words of the second
+  -- list
+  pub record SpliceCall (before after : Option Place) (given given' : RawEnds) : Type 0 where
+    pub spliced : (cut : Cut) (t : List Place) → IsAfter cut before → IsBefore cut after → Spliced old new list list' status given cut t
     pub emptied : status ≡ OK → given' ≡ words_of no_members
     pub stands_before : status ≡ OK → IsNoneOrLinkedIn old before
-    pub stands_behind : status ≡ OK → IsNoneOrLinkedIn old behind
-    pub links_back : status ≡ OK → TellsGap (table_of old) (ends_of list) before behind
+    pub stands_after : status ≡ OK → IsNoneOrLinkedIn old after
+    pub links_back : status ≡ OK → TellsGap (table_of old) (ends_of list) before after
     pub ends : status ≡ OK → TellsEnds (table_of old) (ends_of given)
     pub apart : status ≡ OK → (p : Place) → (ends_of given).head ≡ Some p → (ends_of list).head ≢ Some p
-    pub touched : status ≡ OK → Touches is_linked_one (table_of old) (table_of new) [] (before ∷ behind ∷ (ends_of given).head ∷ (ends_of given).tail ∷ [])
+    pub touched : status ≡ OK → Touches is_linked_one (table_of old) (table_of new) [] (before ∷ after ∷ (ends_of given).head ∷ (ends_of given).tail ∷ [])
     pub own : (first : Place) → (ends_of given).head ≡ Some first → status ≡ OK
-        → Turns (gap_between before behind) (Some first) (ends_of given).tail (ends_of list) (ends_of list')
+        → Turns (gap_between before after) (Some first) (ends_of given).tail (ends_of list) (ends_of list')
     pub nothing : (ends_of given).head ≡ None → status ≡ OK → (new ≡ old) × (ends_of list' ≡ ends_of list)
     pub words : status ≡ OK → IsWritten list'
     pub refused : status ≢ OK → (new ≡ old) × (list' ≡ list) × (given' ≡ given)
-    pub why : status ≢ OK → status ≡ refusal (fault_at old before ∷ fault_at old behind ∷ [])
+    pub why : status ≢ OK → status ≡ refusal (fault_at old before ∷ fault_at old after ∷ [])
     pub is_status : IsStatus status
 
-  -- ALL MEMBERS OF A SECOND LIST GO IN BEHIND ALL
+  -- ALL MEMBERS OF A SECOND LIST MOVE TO THE BACK
   pub record AppendCall (given given' : RawEnds) : Type 0 where
     pub spliced : (s t : List Place) → Spliced old new list list' status given (at_back s) t
     pub emptied : status ≡ OK → given' ≡ words_of no_members
@@ -143,23 +146,23 @@ module _ (old new : List RawOne) (list list' : RawEnds) (status : ℕ) where
     pub why : status ≢ OK → status ≡ BROKEN
     pub is_status : IsStatus status
 
-  -- THE LIST IS CUT BETWEEN two neighbors, none beyond an end, and what stands after the cut handed out, in words that say no member. `rest`,
-  -- `rest'`: these words
-  pub record SplitCall (before behind : Option Place) (rest rest' : RawEnds) : Type 0 where
-    pub split : (cut : Cut) → IsAfter cut before → IsBefore cut behind → ends_of rest ≡ no_members → Split old new list list' status rest' cut
+  -- THE LIST IS CUT BETWEEN two neighbors, of which one is none at an end of the list, and the members after the cut become the list `rest`, which
+  -- has to be empty before. `rest`, `rest'`: the words of that list
+  pub record SplitCall (before after : Option Place) (rest rest' : RawEnds) : Type 0 where
+    pub split : (cut : Cut) → IsAfter cut before → IsBefore cut after → ends_of rest ≡ no_members → Split old new list list' status rest' cut
     pub empty : status ≡ OK → ends_of rest ≡ no_members
     pub stands_before : status ≡ OK → IsNoneOrLinkedIn old before
-    pub stands_behind : status ≡ OK → IsNoneOrLinkedIn old behind
-    pub links_back : status ≡ OK → TellsGap (table_of old) (ends_of list) before behind
-    pub touched : status ≡ OK → Touches is_linked_one (table_of old) (table_of new) [] (before ∷ behind ∷ [])
-    pub own : status ≡ OK → IsCutAt (gap_between before behind) (ends_of list) (ends_of list') (ends_of rest')
+    pub stands_after : status ≡ OK → IsNoneOrLinkedIn old after
+    pub links_back : status ≡ OK → TellsGap (table_of old) (ends_of list) before after
+    pub touched : status ≡ OK → Touches is_linked_one (table_of old) (table_of new) [] (before ∷ after ∷ [])
+    pub own : status ≡ OK → IsCutAt (gap_between before after) (ends_of list) (ends_of list') (ends_of rest')
     pub words : status ≡ OK → IsWritten list'
     pub rest_words : status ≡ OK → IsWritten rest'
     pub refused : status ≢ OK → (new ≡ old) × (list' ≡ list) × (rest' ≡ rest)
-    pub why : status ≢ OK → status ≡ refusal (fault_at old before ∷ fault_at old behind ∷ [])
+    pub why : status ≢ OK → status ≡ refusal (fault_at old before ∷ fault_at old after ∷ [])
     pub is_status : IsStatus status
 
-  -- A RUN OF `count` PLACES GOES IN BEHIND ALL MEMBERS
+  -- A RUN OF `count` PLACES IS INSERTED AFTER ALL MEMBERS
   pub record FillCall (first count : ℕ) : Type 0 where
     pub filled : (s : List Place) → Filled old new list list' status (at_back s) first count
     pub free : status ≡ OK → IsFreeRunIn old first count
@@ -172,11 +175,12 @@ module _ (old new : List RawOne) (list list' : RawEnds) (status : ℕ) where
     pub why : status ≢ OK → status ≡ refusal (run_faults (fault_of old) first count)
     pub is_status : IsStatus status
 
-  -- ALL MEMBERS LEAVE
+  -- ALL MEMBERS ARE REMOVED
   pub record ClearCall : Type 0 where
     pub cleared : (s : List Place) → Cleared old new list list' status s
     pub ended : status ≡ OK → (s : List Place) × LeadsThrough (table_of old) (ends_of list) s
     pub emptied : status ≡ OK → list' ≡ words_of no_members
+    pub marks : OnlyUnlinks (table_of old) (table_of new)
     pub refused : status ≢ OK → (new ≡ old) × (list' ≡ list)
     pub why : status ≢ OK → status ≡ BROKEN
     pub is_status : IsStatus status

@@ -1,4 +1,4 @@
-//! Walks along one chain of a hash table, over a view of the table. Each ends within as many steps as the table has places.
+//! Walks along one chain of a hash table, over a view of the table. Each walk ends within as many steps as the table has places.
 //!
 //! ```text
 //! let before = place_before(&links, list.first(), member); // the place before the member, if the chain has it
@@ -22,7 +22,7 @@ use crate::words::RawOne;
 use ic_link_ops::singly_linked_list::SinglyLinkedListOps;
 use ic_unsafe_ref::Place;
 
-// What stands before this member in the chain from `front` on, if a walk comes to it.
+// Returns the place before this member in the chain that begins with `front`, if a walk from there comes to the member.
 pub(crate) fn place_before(
     links: &RawTable<'_, RawOne>,
     front: Option<Place>,
@@ -57,8 +57,8 @@ pub(crate) fn place_before(
     None
 }
 
-// Hands out the first member with this key, from this place of a chain on.
-pub(crate) fn look_from(
+// Stores the number of the first member with this key in `found`, from this place of a chain on.
+pub(crate) fn find_from(
     links: &RawTable<'_, RawOne>,
     keys: &[u64],
     key: u64,

@@ -1,4 +1,4 @@
-//! Checks: whether the words represent a list, a tree or a hash table, and of how many members.
+//! Checks that the words represent a list, a tree or a hash table, and counts its members.
 //!
 //! ```text
 //! check_list(table, list, &mut members) // OK, or BROKEN where the words represent no list
@@ -37,9 +37,10 @@ impl<W: Words> TellsLinks for RawTable<'_, W> {
     }
 }
 
-/// Hands out how many members the words represent for a doubly linked list, or returns [`BROKEN`] where they represent no list. O(n).
+/// Checks that the words represent a doubly linked list, and stores the number of its members in `members`, or returns [`BROKEN`] if they do not
+/// represent one. O(n).
 ///
-/// It writes nothing else. Where it returns [`OK`], each call does what it says of a list that is represented.
+/// It writes nothing else. If it returns [`OK`], every other call does with this list what its own comment says.
 #[inline]
 pub fn check_list<W: PrevPlace>(table: &mut [W], list: &RawEnds, members: &mut u64) -> u32
     ensures { CheckCall table.old table.new result (doubly.RepresentsList W.PrevPlace table.old list.now) members.old members.new }
@@ -52,9 +53,10 @@ pub fn check_list<W: PrevPlace>(table: &mut [W], list: &RawEnds, members: &mut u
     OK
 }
 
-/// Hands out how many members the words represent for a singly linked list, or returns [`BROKEN`] where they represent no list. O(n).
+/// Checks that the words represent a singly linked list, and stores the number of its members in `members`, or returns [`BROKEN`] if they do not
+/// represent one. O(n).
 ///
-/// It writes nothing else. Where it returns [`OK`], each call does what it says of a list that is represented.
+/// It writes nothing else. If it returns [`OK`], every other call does with this list what its own comment says.
 #[inline]
 pub fn check_stack(table: &mut [RawOne], list: &RawFront, members: &mut u64) -> u32
     ensures { CheckCall table.old table.new result (singly.RepresentsList table.old list.now) members.old members.new }
@@ -67,9 +69,10 @@ pub fn check_stack(table: &mut [RawOne], list: &RawFront, members: &mut u64) -> 
     OK
 }
 
-/// Hands out how many members the words represent for a tree, or returns [`BROKEN`] where they represent no red-black tree. O(n).
+/// Checks that the words represent a tree, and stores the number of its members in `members`, or returns [`BROKEN`] if they do not represent a
+/// red-black tree. O(n).
 ///
-/// It writes nothing else, and requires no keys. Where it returns [`OK`], each call does what it says of a tree that is represented.
+/// It writes nothing else, and requires no keys. If it returns [`OK`], every other call does with this tree what its own comment says.
 #[inline]
 pub fn check_tree(table: &mut [RawThree], tree: &RawRoot, members: &mut u64) -> u32
     ensures { CheckCall table.old table.new result (RepresentsTree table.old tree.now) members.old members.new }
@@ -82,7 +85,7 @@ pub fn check_tree(table: &mut [RawThree], tree: &RawRoot, members: &mut u64) -> 
     OK
 }
 
-// How many members the chain in a bucket has, `None` if it has no end, or if a member belongs in another bucket.
+// Returns how many members the chain in a bucket has, or `None` if the chain has no end or a member belongs in another bucket.
 fn own_members(
     links: &RawTable<'_, RawOne>,
     hashes: &[u64],
@@ -112,7 +115,7 @@ fn own_members(
     Some(members)
 }
 
-// How many members all chains have, `None` if one of them has no end, or a member that belongs in another bucket.
+// Returns how many members all chains have together, or `None` if a chain has no end or a member belongs in another bucket.
 fn all_members(links: &RawTable<'_, RawOne>, hashes: &[u64], buckets: &[RawFront]) -> Option<usize>
     requires hashes { (singly.lent_table links.now).extent.places ≤ length hashes.now }
     ensures { MatchOption result (RepresentsNone (HoldsByHash (raw_entries links.now) hashes.now buckets.now))
@@ -130,11 +133,11 @@ fn all_members(links: &RawTable<'_, RawOne>, hashes: &[u64], buckets: &[RawFront
     Some(members)
 }
 
-/// Hands out how many members the words represent for a hash table, or returns [`BROKEN`] where they represent none: where a chain has no end, or a
-/// member is in another bucket than that where its hash leads. O(b + n) for b buckets and n places.
+/// Checks that the words represent a hash table, and stores the number of its members in `members`, or returns [`BROKEN`] if they do not: if a chain
+/// has no end, or a member is not in the bucket to which its hash leads. O(b + n) for b buckets and n places.
 ///
-/// It writes nothing else. There has to be a hash for each place of the table, and a bucket. Where it returns [`OK`], no place is in two
-/// chains, and each call does what it says of a chain that is represented.
+/// It writes nothing else. There must be a hash for each place of the table, and at least one bucket. If it returns [`OK`], no place is in two
+/// chains, and every other call does with each chain what its own comment says.
 #[inline]
 pub fn check_hash(
     table: &mut [RawOne],

@@ -1,4 +1,4 @@
-//! Runs of places with numbers one after another, all of which are linked by one call.
+//! Runs of places with consecutive numbers, which one call links.
 //!
 //! ```text
 //! let status = fill(&mut links, &mut list, gap, first, count);
@@ -28,7 +28,7 @@ use ic_chain::{Chain, ForwardLinks};
 use ic_link_ops::Words;
 use ic_unsafe_ref::Place;
 
-// The first fault of `count` places from this number on, [`OK`] where each is one of the table and not linked.
+// Returns the first fault of `count` places from this number on: [`OK`] if each belongs to the table and is not linked.
 fn run_fault<W: Words>(links: &RawTable<'_, W>, first: u32, count: u32) -> u32
     ensures fault { result ≡ first_fault (run_faults (place_fault W.is_linked (nameable_table W.width W.unlinked links.now)) first count) }
     ensures status { IsStatus result }
@@ -46,9 +46,9 @@ fn run_fault<W: Words>(links: &RawTable<'_, W>, first: u32, count: u32) -> u32
     OK
 }
 
-// Links each place of a run that is free, after the one before, between two neighbors.
+// Links each place of a run of unlinked places after the previous one, between two neighbors of a list.
 //
-// Who calls it hands `filled` the law of the kind, that what stands between two others is linked.
+// The caller passes in `filled` the law of its kind of lists, by which a place between two others is linked.
 fn link_run<'a, W: Words, K: ForwardLinks<RawTable<'a, W>>>(
     links: &mut RawTable<'a, W>,
     list: &mut Chain<K, ()>,
@@ -62,8 +62,8 @@ fn link_run<'a, W: Words, K: ForwardLinks<RawTable<'a, W>>>(
         → RepresentsChain K.Between K.kept (nameable_table W.width W.unlinked links.old) list.old (join cut) → gap ≡ gap_of cut
         → Splices (RepresentsChain K.Between K.kept) (nameable_table W.width W.unlinked links.old) (nameable_table W.width W.unlinked links.new) list.new cut free.run }
     ensures ends { IsFreeRun W.is_linked (nameable_table W.width W.unlinked links.old) first count → count ≢ 0
-        → TurnsEnds K.kept list.old list.new gap.before gap.behind (place_of first) (last_of_run first count) }
-    ensures touched { (K.NamesPrev → gap.behind ≡ None) → (free : IsFreeRun W.is_linked (nameable_table W.width W.unlinked links.old) first count)
+        → TurnsEnds K.kept list.old list.new gap.before gap.after (place_of first) (last_of_run first count) }
+    ensures touched { (K.NamesPrev → gap.after ≡ None) → (free : IsFreeRun W.is_linked (nameable_table W.width W.unlinked links.old) first count)
         → TouchesRun W.is_linked (nameable_table W.width W.unlinked links.old) (nameable_table W.width W.unlinked links.new) free.run gap.before }
     ensures extent { (nameable_table W.width W.unlinked links.new).extent ≡ (nameable_table W.width W.unlinked links.old).extent }
 {
@@ -74,14 +74,14 @@ fn link_run<'a, W: Words, K: ForwardLinks<RawTable<'a, W>>>(
         let Some(place) = links.acquire(place_of(number)) else {
             return;
         };
-        list.insert_linked(links, before, place, gap.behind);
+        list.insert_linked(links, before, place, gap.after);
         before = Some(place);
         number += 1;
         left -= 1;
     }
 }
 
-/// Puts a run of places into the gap, if there is one and all of them are free, and says else why not. O(count).
+/// Inserts a run of places into the gap, if there is one and no place of the run is linked. Otherwise it returns the status of the refusal. O(count).
 pub(crate) fn fill<'a, W: Words, K: ForwardLinks<RawTable<'a, W>>>(
     links: &mut RawTable<'a, W>,
     list: &mut Chain<K, ()>,
@@ -98,8 +98,8 @@ pub(crate) fn fill<'a, W: Words, K: ForwardLinks<RawTable<'a, W>>>(
     ensures free { result ≡ OK → IsFreeRun W.is_linked (nameable_table W.width W.unlinked links.old) first count }
     ensures gap { result ≡ OK → (g : Gap) × (gap ≡ Some g) }
     ensures ends { result ≡ OK → count ≢ 0 → (g : Gap) → gap ≡ Some g
-        → TurnsEnds K.kept list.old list.new g.before g.behind (place_of first) (last_of_run first count) }
-    ensures touched { result ≡ OK → (g : Gap) → gap ≡ Some g → (K.NamesPrev → g.behind ≡ None)
+        → TurnsEnds K.kept list.old list.new g.before g.after (place_of first) (last_of_run first count) }
+    ensures touched { result ≡ OK → (g : Gap) → gap ≡ Some g → (K.NamesPrev → g.after ≡ None)
         → (free : IsFreeRun W.is_linked (nameable_table W.width W.unlinked links.old) first count)
         → TouchesRun W.is_linked (nameable_table W.width W.unlinked links.old) (nameable_table W.width W.unlinked links.new) free.run g.before }
     ensures refused { result ≢ OK → (links.new ≡ links.old) × (list.new ≡ list.old) }
@@ -119,7 +119,7 @@ pub(crate) fn fill<'a, W: Words, K: ForwardLinks<RawTable<'a, W>>>(
     OK
 }
 
-/// The gap after the last member of an XOR list. None where the words tell of none.
+/// Returns the gap after the last member of an XOR list. The result is `None` if the links at the end do not lead to each other.
 pub(crate) fn gap_after_last_of_xor(
     links: &RawTable<'_, RawOne>,
     list: &xor_list::List,
@@ -135,6 +135,6 @@ pub(crate) fn gap_after_last_of_xor(
     }
     Some(Gap {
         before,
-        behind: None,
+        after: None,
     })
 }

@@ -1,4 +1,4 @@
-//! What the calls do that link a run of places at once.
+//! The calls that link a run of consecutive places at once.
 //!
 //! ```text
 //! fill_list(table, &mut vacant, 0, 64) // OK: 0, 1, .., 63
@@ -20,10 +20,10 @@ use crate::table::RawTable;
 use crate::words::{RawEnds, RawFront, RawOne, RawTwo};
 use crate::xor_calls;
 
-/// Puts `count` places after all members, in the order of their numbers: `first`, `first + 1` and so on. O(count).
+/// Inserts the `count` places `first`, `first + 1` and so on at the back, in this order. O(count).
 ///
-/// Each has to be one of the table, and not linked. Where the last member is none of the table, it returns
-/// [`BROKEN`](crate::BROKEN). No place at all changes nothing.
+/// Each of them must belong to the table and must not be linked. If the last member does not belong to the table, it returns
+/// [`BROKEN`](crate::BROKEN). If `count` is 0, nothing changes.
 #[inline]
 pub fn fill_list(table: &mut [RawTwo], list: &mut RawEnds, first: u32, count: u32) -> u32
     ensures { lists.FillCall wide_words table.old table.new list.old list.new result first count }
@@ -42,10 +42,10 @@ pub fn fill_list(table: &mut [RawTwo], list: &mut RawEnds, first: u32, count: u3
     OK
 }
 
-/// Puts `count` places before all members, in the order of their numbers: `first`, `first + 1` and so on. O(count).
+/// Inserts the `count` places `first`, `first + 1` and so on at the front, in this order. O(count).
 ///
-/// Each has to be one of the table, and not linked. Where the first member is not linked, it returns
-/// [`BROKEN`](crate::BROKEN). No place at all changes nothing.
+/// Each of them must belong to the table and must not be linked. If the first member is not linked, it returns [`BROKEN`](crate::BROKEN). If `count`
+/// is 0, nothing changes.
 #[inline]
 pub fn fill_stack(table: &mut [RawOne], list: &mut RawFront, first: u32, count: u32) -> u32
     ensures { stacks.FillCall table.old table.new list.old list.new result first count }
@@ -64,10 +64,10 @@ pub fn fill_stack(table: &mut [RawOne], list: &mut RawFront, first: u32, count: 
     OK
 }
 
-/// Puts `count` places after all members, in the order of their numbers: `first`, `first + 1` and so on. O(count).
+/// Inserts the `count` places `first`, `first + 1` and so on at the back, in this order. O(count).
 ///
-/// Each has to be one of the table, and not linked. Where the last member is none of the table, it returns
-/// [`BROKEN`](crate::BROKEN). No place at all changes nothing.
+/// Each of them must belong to the table and must not be linked. If the last member does not belong to the table, it returns
+/// [`BROKEN`](crate::BROKEN). If `count` is 0, nothing changes.
 #[inline]
 pub fn fill_xor_list(table: &mut [RawOne], list: &mut RawEnds, first: u32, count: u32) -> u32
     ensures { xor_lists.FillCall table.old table.new list.old list.new result first count }

@@ -11,36 +11,36 @@ ghost use Rattle.ic_raw.specs.Gaps.{IsApart};
 use ic_chain::{Chain, ListKind};
 use ic_unsafe_ref::Place;
 
-/// On which side of a place a call edits.
+/// The side of a place on which a call edits.
 #[derive(Clone, Copy)]
 pub enum Side {
-    /// After it; at none before all.
+    /// The gap after the place, or the gap before all members if the place is none.
     After,
-    /// Before it; at none after all.
+    /// The gap before the place, or the gap after all members if the place is none.
     Before,
 }
 
 /// The places on both sides of a gap, or of a member.
 #[derive(Clone, Copy)]
 pub struct Gap {
-    /// Before the gap.
+    /// The place before the gap.
     pub before: Option<Place>,
-    /// After it.
-    pub behind: Option<Place>,
+    /// The place after the gap.
+    pub after: Option<Place>,
 }
 
 impl Gap {
-    /// Whether the place is on neither side.
+    /// Returns whether the place is on neither side of the gap.
     #[inline]
     pub fn is_apart(&self, place: Place) -> bool
         ensures { (result ≡ true) ↔ IsApart self.now place }
     {
         let word = Place::to_word(Some(place));
-        Place::to_word(self.before) != word && Place::to_word(self.behind) != word
+        Place::to_word(self.before) != word && Place::to_word(self.after) != word
     }
 }
 
-/// Whether both lists begin with the same member, as the two names of one list do.
+/// Returns whether both lists begin with the same member. They do if both are the same list.
 #[inline]
 pub fn begin_alike<K: ListKind, T>(list: &Chain<K, T>, given: &Chain<K, T>) -> bool
     ensures apart { result ≡ false → (p : Place) → given.now.head ≡ Some p → list.now.head ≢ Some p }

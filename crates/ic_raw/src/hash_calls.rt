@@ -1,4 +1,4 @@
-//! What the calls of hash tables do: a bucket has the singly linked list of the members whose hash leads there.
+//! The calls of hash tables. Each bucket is a singly linked list of the members whose hash leads to it.
 //!
 //! ```text
 //! insert(table, buckets, hash_of(30), 7)                  // OK
@@ -14,7 +14,7 @@ ghost use Rattle.ic_raw.specs.Singly.{RepresentsList, IsNoneOrLinkedIn, LosesFro
 ghost use Rattle.ic_raw.specs.Words.{place_of};
 ghost use Rattle.ic_raw.specs.HashCalls.{FindCall, InsertCall, NextEqualCall, RemoveCall};
 
-use crate::chain::{look_from, place_before};
+use crate::chain::{find_from, place_before};
 use crate::number::{place_in, place_of};
 use crate::stack;
 use crate::stack_calls::{push_front, stack_of, write_back};
@@ -24,7 +24,7 @@ use crate::words::{RawFront, RawOne};
 use ic_link_ops::singly_linked_list::SinglyLinkedListOps;
 use ic_unsafe_ref::Place;
 
-// The bucket where a hash leads, if there is any bucket.
+// Returns the bucket to which a hash leads, or `None` if there are no buckets.
 #[inline]
 fn slot(buckets: &[RawFront], hash: u64) -> Option<usize>
     ensures slot { (i : ℕ) → result ≡ Some i → (i ≡ slot_of buckets.now hash) × (i < length buckets.now) }
@@ -36,10 +36,10 @@ fn slot(buckets: &[RawFront], hash: u64) -> Option<usize>
     Some((hash % buckets.len() as u64) as usize)
 }
 
-/// Puts a place before the members of its chain, which is that in bucket `hash % buckets`. O(1).
+/// Inserts a place at the front of its chain, which is the list in bucket `hash % buckets`. O(1).
 ///
-/// The place has to be one of the table, and not linked, and there has to be a bucket. Where the first member of the chain is not linked, it
-/// returns [`BROKEN`](crate::BROKEN).
+/// The place must belong to the table and must not be linked, and there must be at least one bucket. If the first member of the chain is not linked,
+/// it returns [`BROKEN`](crate::BROKEN).
 #[inline]
 pub fn insert(table: &mut [RawOne], buckets: &mut [RawFront], hash: u64, place: u32) -> u32
     ensures { InsertCall table.old table.new buckets.old buckets.new result hash (place_of place) }
@@ -50,7 +50,7 @@ pub fn insert(table: &mut [RawOne], buckets: &mut [RawFront], hash: u64, place: 
     push_front(table, &mut buckets[at], place)
 }
 
-// Takes a member out of a list, wherever it stands there.
+// Removes a member from a list, at whichever position it is.
 #[inline]
 fn remove_from(table: &mut [RawOne], list: &mut RawFront, member: Place) -> u32
     ensures removed { (front back : List Place) → Removed table.old table.new list.old list.new result member front back }
@@ -74,10 +74,10 @@ fn remove_from(table: &mut [RawOne], list: &mut RawFront, member: Place) -> u32
     OK
 }
 
-/// Takes a place out of its chain, wherever it stands there, or returns [`NULL`](crate::NULL) at [`NONE`](crate::NONE). One reading for each
-/// member up to it.
+/// Removes a place from its chain, at whichever position it is there, or returns [`NULL`](crate::NULL) if the argument is [`NONE`](crate::NONE). It
+/// reads one entry of the table for each member up to that one.
 ///
-/// Where the chain has no such member, it returns [`BROKEN`](crate::BROKEN).
+/// If the chain has no such member, it returns [`BROKEN`](crate::BROKEN).
 #[inline]
 pub fn remove(table: &mut [RawOne], buckets: &mut [RawFront], hash: u64, place: u32) -> u32
     ensures { RemoveCall table.old table.new buckets.old buckets.new result hash (place_of place) }
@@ -91,11 +91,11 @@ pub fn remove(table: &mut [RawOne], buckets: &mut [RawFront], hash: u64, place: 
     remove_from(table, &mut buckets[at], member)
 }
 
-/// Hands out the first member of a chain with this key, or returns [`NULL`](crate::NULL) where there is none. It writes nothing else. One
-/// reading for each member up to it.
+/// Stores the number of the first member of the chain with this key in `found`, or returns [`NULL`](crate::NULL) if there is none. It writes nothing
+/// else. It reads one entry of the table for each member up to that one.
 ///
-/// There has to be a key for each place of the table, and a bucket. Where the words of the chain lead to no end, or out of the table, it
-/// returns [`BROKEN`](crate::BROKEN).
+/// There must be a key for each place of the table, and at least one bucket. If the links of the chain lead to no end or out of the table, it returns
+/// [`BROKEN`](crate::BROKEN).
 #[inline]
 pub fn find(
     table: &mut [RawOne],
@@ -114,14 +114,13 @@ pub fn find(
     let Some(at) = slot(buckets, hash) else {
         return OUT_OF_RANGE;
     };
-    look_from(&links, keys, key, place_in(buckets[at].head), found)
+    find_from(&links, keys, key, place_in(buckets[at].head), found)
 }
 
-/// Hands out the next member after the member `at` with the key of that one, or returns [`NULL`](crate::NULL) where there is none, or at
-/// [`NONE`](crate::NONE). It writes nothing else. One reading for each member up to it.
+/// Stores the number of the next member after `at` that has the same key in `found`, or returns [`NULL`](crate::NULL) if there is none, or if `at` is
+/// [`NONE`](crate::NONE). It writes nothing else. It reads one entry of the table for each member up to that one.
 ///
-/// There has to be a key for each place of the table. Where the words lead to no end, or out of the table, it returns
-/// [`BROKEN`](crate::BROKEN).
+/// There must be a key for each place of the table. If the links lead to no end or out of the table, it returns [`BROKEN`](crate::BROKEN).
 #[inline]
 pub fn next_equal(table: &mut [RawOne], keys: &[u64], at: u32, found: &mut u32) -> u32
     ensures { NextEqualCall keys.now table.old table.new result found.old found.new (place_of at) }
@@ -136,7 +135,7 @@ pub fn next_equal(table: &mut [RawOne], keys: &[u64], at: u32, found: &mut u32) 
     if !links.is_linked(member) {
         return links.refusal_of(member);
     }
-    look_from(
+    find_from(
         &links,
         keys,
         keys[member.index()],

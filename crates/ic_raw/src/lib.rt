@@ -6,10 +6,11 @@
 //! list_calls::pop(table, list, Side::Before, &mut last)    // OK, and last is 7
 //! ```
 //!
-//! The modules with names in `_calls` have what the calls for C do, and `ic_ffi` gives each its C name. Nothing requires anything of its
-//! arguments. Each tests what it reads and writes by, returns a status, and leaves all as it was where the status is not [`OK`]. It is
-//! that of the first fault: of the members that are named, in their order, of the keys, of the place to insert, or else [`BROKEN`]. [`NULL`]
-//! says that no place was named where one is needed, or that a call has looked and found none.
+//! The modules whose names end in `_calls` contain the calls for C, and `ic_ffi` gives each of them its C name. No call requires anything of its
+//! arguments. Each call tests every link that it follows or changes, returns a status, and changes nothing if the status is not [`OK`]. The status is
+//! that of the first fault: it tests the members that the caller names, in their order, then the keys, then the place to insert, and returns
+//! [`BROKEN`] if all these are right but the links do not fit together. [`NULL`] means that the caller named no place where one is needed, or that a
+//! search found none.
 #![tactic(auto)]
 
 mod chain;

@@ -26,10 +26,10 @@ use ic_linked_list::LinkedList;
 use ic_unsafe_ref::Place;
 use std::mem;
 
-/// A list of the caller's.
+/// A list that belongs to the caller.
 pub type List = LinkedList<()>;
 
-// What stands after a place, the first of the list at none.
+// Returns the place after a place, or the first place of the list for `None`.
 #[inline]
 fn next_of<W: ListWords>(
     links: &RawTable<'_, W>,
@@ -45,7 +45,7 @@ fn next_of<W: ListWords>(
     }
 }
 
-// What stands before a place, the last of the list at none.
+// Returns the place before a place, or the last place of the list for `None`.
 #[inline]
 fn prev_of<W: ListWords>(
     links: &RawTable<'_, W>,
@@ -61,7 +61,7 @@ fn prev_of<W: ListWords>(
     }
 }
 
-// Whether `place` is linked, or none, and `next` stands after it.
+// Returns whether `place` is linked or `None`, and `next` is the place after it.
 #[inline]
 pub(crate) fn leads<W: ListWords>(
     links: &RawTable<'_, W>,
@@ -85,7 +85,7 @@ pub(crate) fn leads<W: ListWords>(
     }
 }
 
-// Whether `place` is linked, or none, and `prev` stands before it.
+// Returns whether `place` is linked or `None`, and `prev` is the place before it.
 #[inline]
 pub(crate) fn follows<W: ListWords>(
     links: &RawTable<'_, W>,
@@ -104,7 +104,8 @@ pub(crate) fn follows<W: ListWords>(
     Place::to_word(prev_of(links, list, place)) == Place::to_word(prev)
 }
 
-/// The gap beside a place, at none the outermost one. None where the words tell of no gap.
+/// Returns the gap beside a place, or the outermost gap of the list for `None`. The result is `None` if the links on its two sides do not lead to
+/// each other.
 #[inline]
 pub fn gap_at<W: ListWords>(
     links: &RawTable<'_, W>,
@@ -123,29 +124,30 @@ pub fn gap_at<W: ListWords>(
     }
     match side {
         Side::After => {
-            let behind = next_of(links, list, at);
-            if !follows(links, list, behind, at) {
+            let after = next_of(links, list, at);
+            if !follows(links, list, after, at) {
                 return None;
             }
-            Some(Gap { before: at, behind })
+            Some(Gap { before: at, after })
         }
         Side::Before => {
             let before = prev_of(links, list, at);
             if !leads(links, list, before, at) {
                 return None;
             }
-            Some(Gap { before, behind: at })
+            Some(Gap { before, after: at })
         }
     }
 }
 
-/// The places on both sides of a member, at none the last one and the first. None where the words tell of no such places.
+/// Returns the places on both sides of a member, or the last and the first place of the list for `None`. The result is `None` if their links do not
+/// lead back to the member.
 #[inline]
 pub fn beside<W: ListWords>(links: &RawTable<'_, W>, list: &List, at: Option<Place>) -> Option<Gap>
     ensures at { (gap : Gap) → result ≡ Some gap → IsNoneOrLinked W.is_linked (lent_table W.PrevPlace links.now) at }
     ensures stands { (gap : Gap) → result ≡ Some gap → StandBeside W.is_linked (lent_table W.PrevPlace links.now) gap }
     ensures before { (gap : Gap) → result ≡ Some gap → TellsGap W.PrevPlace Before (lent_table W.PrevPlace links.now) list.now at }
-    ensures behind { (gap : Gap) → result ≡ Some gap → TellsGap W.PrevPlace After (lent_table W.PrevPlace links.now) list.now at }
+    ensures after { (gap : Gap) → result ≡ Some gap → TellsGap W.PrevPlace After (lent_table W.PrevPlace links.now) list.now at }
     ensures sides { (gap : Gap) → result ≡ Some gap → gap ≡ around W.PrevPlace (lent_table W.PrevPlace links.now) list.now at }
     ensures member { (front back : List Place) (p : Place) → Represents W.PrevPlace (lent_table W.PrevPlace links.now) list.now (front ++ p ∷ back) → at ≡ Some p
         → result ≡ Some (gap_of (record { front = front; back = back })) }
@@ -159,14 +161,14 @@ pub fn beside<W: ListWords>(links: &RawTable<'_, W>, list: &List, at: Option<Pla
     if !leads(links, list, before, at) {
         return None;
     }
-    let behind = next_of(links, list, at);
-    if !follows(links, list, behind, at) {
+    let after = next_of(links, list, at);
+    if !follows(links, list, after, at) {
         return None;
     }
-    Some(Gap { before, behind })
+    Some(Gap { before, after })
 }
 
-// Whether the place is one of the table and linked, with `next` after it, by words such as a call writes.
+// Returns whether the place belongs to the table and is linked, with `next` after it, and its words have exactly the bits that a call writes.
 #[inline]
 pub(crate) fn is_before<W: ListWords>(
     links: &RawTable<'_, W>,
@@ -179,7 +181,7 @@ pub(crate) fn is_before<W: ListWords>(
     links.covers(place) && links.at(place).is_before(next)
 }
 
-// Whether the place is one of the table and linked, with `prev` before it, by words such as a call writes.
+// Returns whether the place belongs to the table and is linked, with `prev` before it, and its words have exactly the bits that a call writes.
 #[inline]
 pub(crate) fn is_after<W: ListWords>(
     links: &RawTable<'_, W>,
@@ -192,16 +194,17 @@ pub(crate) fn is_after<W: ListWords>(
     links.covers(place) && links.at(place).is_after(prev)
 }
 
-// The places on both sides of a member that has one on either, where their words are such as a call writes. Else none.
+// Returns the places on both sides of a member that has one on each, if the words of all three have exactly the bits that a call writes. Otherwise it
+// returns `None`.
 #[inline]
 pub(crate) fn between<W: ListWords>(links: &RawTable<'_, W>, member: Place) -> Option<Gap>
     ensures member { (gap : Gap) → result ≡ Some gap → IsNoneOrLinked W.is_linked (lent_table W.PrevPlace links.now) (Some member) }
     ensures stands { (gap : Gap) → result ≡ Some gap → StandBeside W.is_linked (lent_table W.PrevPlace links.now) gap }
     ensures before { (gap : Gap) (list : Ends) → result ≡ Some gap → TellsGap W.PrevPlace Before (lent_table W.PrevPlace links.now) list (Some member) }
-    ensures behind { (gap : Gap) (list : Ends) → result ≡ Some gap → TellsGap W.PrevPlace After (lent_table W.PrevPlace links.now) list (Some member) }
+    ensures after { (gap : Gap) (list : Ends) → result ≡ Some gap → TellsGap W.PrevPlace After (lent_table W.PrevPlace links.now) list (Some member) }
     ensures sides { (gap : Gap) (list : Ends) → result ≡ Some gap → gap ≡ around W.PrevPlace (lent_table W.PrevPlace links.now) list (Some member) }
     ensures prev { (gap : Gap) → result ≡ Some gap → (q : Place) × (gap.before ≡ Some q) }
-    ensures next { (gap : Gap) → result ≡ Some gap → (q : Place) × (gap.behind ≡ Some q) }
+    ensures next { (gap : Gap) → result ≡ Some gap → (q : Place) × (gap.after ≡ Some q) }
     ensures shown { (gap : Gap) (list : Ends) (front back : List Place) → result ≡ Some gap → Represents W.PrevPlace (lent_table W.PrevPlace links.now) list (front ++ member ∷ back)
         → gap ≡ gap_of (record { front = front; back = back }) }
 {
@@ -211,19 +214,19 @@ pub(crate) fn between<W: ListWords>(links: &RawTable<'_, W>, member: Place) -> O
     let Some(before) = links.prev(member) else {
         return None;
     };
-    let Some(behind) = links.next(member) else {
+    let Some(after) = links.next(member) else {
         return None;
     };
-    if !is_before(links, before, Some(member)) || !is_after(links, behind, Some(member)) {
+    if !is_before(links, before, Some(member)) || !is_after(links, after, Some(member)) {
         return None;
     }
     Some(Gap {
         before: Some(before),
-        behind: Some(behind),
+        after: Some(after),
     })
 }
 
-// The outermost gap on a side of none, beyond a member whose words are such as a call writes. Else none.
+// Returns the gap at an end of the list, if the words of the member there have exactly the bits that a call writes. Otherwise it returns `None`.
 #[inline]
 pub(crate) fn gap_at_end<W: ListWords>(
     links: &RawTable<'_, W>,
@@ -246,7 +249,7 @@ pub(crate) fn gap_at_end<W: ListWords>(
             }
             Some(Gap {
                 before: None,
-                behind: Some(first),
+                after: Some(first),
             })
         }
         Side::Before => {
@@ -258,13 +261,14 @@ pub(crate) fn gap_at_end<W: ListWords>(
             }
             Some(Gap {
                 before: Some(last),
-                behind: None,
+                after: None,
             })
         }
     }
 }
 
-// Puts a place after the last member, where its words are such as a call writes. Else it changes nothing, and says so.
+// Inserts a place after the last member, if its words have exactly the bits that a call writes. Otherwise it changes nothing and returns that it did
+// not.
 #[inline]
 pub(crate) fn push_after_last<W: ListWords>(
     links: &mut RawTable<'_, W>,
@@ -288,11 +292,11 @@ pub(crate) fn push_after_last<W: ListWords>(
     let Some(place) = links.acquire(place) else {
         return false;
     };
-    list.insert_linked(links, gap.before, place, gap.behind);
+    list.insert_linked(links, gap.before, place, gap.after);
     true
 }
 
-// Takes the first member off, where its words are such as a call writes, and a second is after it. Else it changes nothing.
+// Removes the first member, if a second one is after it and its words have exactly the bits that a call writes. Otherwise it changes nothing.
 #[inline]
 pub(crate) fn pop_before_second<W: ListWords>(
     links: &mut RawTable<'_, W>,
@@ -329,7 +333,8 @@ pub(crate) fn pop_before_second<W: ListWords>(
     Some(first)
 }
 
-// Takes a member off that has one on both sides, where their words are such as a call writes. Else it changes nothing, and says so.
+// Removes a member that has one on both sides, if their words have exactly the bits that a call writes. Otherwise it changes nothing and returns that
+// it did not.
 #[inline]
 pub(crate) fn remove_between<W: ListWords>(
     links: &mut RawTable<'_, W>,
@@ -341,7 +346,7 @@ pub(crate) fn remove_between<W: ListWords>(
         × IsUnlinked W.is_linked (lent_table W.PrevPlace links.new) member }
     ensures stands { result ≡ true → IsNoneOrLinked W.is_linked (lent_table W.PrevPlace links.old) (Some member) }
     ensures before { result ≡ true → TellsGap W.PrevPlace Before (lent_table W.PrevPlace links.old) list.old (Some member) }
-    ensures behind { result ≡ true → TellsGap W.PrevPlace After (lent_table W.PrevPlace links.old) list.old (Some member) }
+    ensures after { result ≡ true → TellsGap W.PrevPlace After (lent_table W.PrevPlace links.old) list.old (Some member) }
     ensures own { result ≡ true → TakenOut (around W.PrevPlace (lent_table W.PrevPlace links.old) list.old (Some member)) list.old list.old }
     ensures touched { result ≡ true → Touches W.is_linked (lent_table W.PrevPlace links.old) (lent_table W.PrevPlace links.new)
         (releases member ∷ []) (Some member ∷ sides (around W.PrevPlace (lent_table W.PrevPlace links.old) list.old (Some member))) }
@@ -351,12 +356,12 @@ pub(crate) fn remove_between<W: ListWords>(
     let Some(gap) = between(&*links, member) else {
         return false;
     };
-    list.bypass(links, gap.before, member, gap.behind);
+    list.bypass(links, gap.before, member, gap.after);
     links.release_link(member);
     true
 }
 
-// Puts the place into the gap beside another one, and says whether it could.
+// Inserts the place into the gap beside another one, and returns whether it did.
 #[inline]
 pub(crate) fn insert<W: ListWords>(
     links: &mut RawTable<'_, W>,
@@ -383,11 +388,11 @@ pub(crate) fn insert<W: ListWords>(
     let Some(place) = links.acquire(place) else {
         return false;
     };
-    list.insert_linked(links, gap.before, place, gap.behind);
+    list.insert_linked(links, gap.before, place, gap.after);
     true
 }
 
-// Takes the member off, and says whether it could.
+// Removes the member, and returns whether it did.
 #[inline]
 pub(crate) fn remove<W: ListWords>(
     links: &mut RawTable<'_, W>,
@@ -399,7 +404,7 @@ pub(crate) fn remove<W: ListWords>(
         × IsUnlinked W.is_linked (lent_table W.PrevPlace links.new) member }
     ensures stands { result ≡ true → IsNoneOrLinked W.is_linked (lent_table W.PrevPlace links.old) (Some member) }
     ensures before { result ≡ true → TellsGap W.PrevPlace Before (lent_table W.PrevPlace links.old) list.old (Some member) }
-    ensures behind { result ≡ true → TellsGap W.PrevPlace After (lent_table W.PrevPlace links.old) list.old (Some member) }
+    ensures after { result ≡ true → TellsGap W.PrevPlace After (lent_table W.PrevPlace links.old) list.old (Some member) }
     ensures own { result ≡ true → TakenOut (around W.PrevPlace (lent_table W.PrevPlace links.old) list.old (Some member)) list.old list.new }
     ensures touched { result ≡ true → Touches W.is_linked (lent_table W.PrevPlace links.old) (lent_table W.PrevPlace links.new)
         (releases member ∷ []) (Some member ∷ sides (around W.PrevPlace (lent_table W.PrevPlace links.old) list.old (Some member))) }
@@ -409,12 +414,13 @@ pub(crate) fn remove<W: ListWords>(
     let Some(gap) = beside(&*links, &*list, Some(member)) else {
         return false;
     };
-    list.bypass(links, gap.before, member, gap.behind);
+    list.bypass(links, gap.before, member, gap.after);
     links.release_link(member);
     true
 }
 
-// The gap beside a member that has another one on its other side, where their words are such as a call writes. Else none.
+// Returns the gap beside a member that has another member beyond the gap, if the words of both have exactly the bits that a call writes. Otherwise it
+// returns `None`.
 #[inline(always)]
 pub(crate) fn gap_inside<W: ListWords>(
     links: &RawTable<'_, W>,
@@ -436,15 +442,15 @@ pub(crate) fn gap_inside<W: ListWords>(
     }
     match side {
         Side::After => {
-            let Some(behind) = links.next(at) else {
+            let Some(after) = links.next(at) else {
                 return None;
             };
-            if !is_after(links, behind, Some(at)) {
+            if !is_after(links, after, Some(at)) {
                 return None;
             }
             Some(Gap {
                 before: Some(at),
-                behind: Some(behind),
+                after: Some(after),
             })
         }
         Side::Before => {
@@ -456,14 +462,14 @@ pub(crate) fn gap_inside<W: ListWords>(
             }
             Some(Gap {
                 before: Some(before),
-                behind: Some(at),
+                after: Some(at),
             })
         }
     }
 }
 
-// The member at an end, which the outermost gap on this side of none is before, and the places on both sides of it. None where
-// the words tell of none.
+// Returns the member at the end that this side means, and the places on both sides of it. The result is `None` if the links at the end do not lead to
+// each other.
 #[inline]
 fn end_at<W: ListWords>(links: &RawTable<'_, W>, list: &List, side: Side) -> Option<(Place, Gap)>
     ensures shown { (front back : List Place) (p : Place) → Represents W.PrevPlace (lent_table W.PrevPlace links.now) list.now (front ++ p ∷ back)
@@ -480,7 +486,7 @@ fn end_at<W: ListWords>(links: &RawTable<'_, W>, list: &List, side: Side) -> Opt
             let Some(outer) = gap_at(links, list, Side::After, None) else {
                 return None;
             };
-            let Some(first) = outer.behind else {
+            let Some(first) = outer.after else {
                 return None;
             };
             let Some(inner) = gap_at(links, list, Side::After, Some(first)) else {
@@ -490,7 +496,7 @@ fn end_at<W: ListWords>(links: &RawTable<'_, W>, list: &List, side: Side) -> Opt
                 first,
                 Gap {
                     before: None,
-                    behind: inner.behind,
+                    after: inner.after,
                 },
             ))
         }
@@ -508,14 +514,14 @@ fn end_at<W: ListWords>(links: &RawTable<'_, W>, list: &List, side: Side) -> Opt
                 last,
                 Gap {
                     before: inner.before,
-                    behind: None,
+                    after: None,
                 },
             ))
         }
     }
 }
 
-// Takes the member at an end off, and gives it.
+// Removes the member at an end, and returns it.
 #[inline]
 pub(crate) fn pop<W: ListWords>(
     links: &mut RawTable<'_, W>,
@@ -539,12 +545,12 @@ pub(crate) fn pop<W: ListWords>(
     let Some((member, gap)) = end_at(&*links, &*list, side) else {
         return None;
     };
-    list.bypass(links, gap.before, member, gap.behind);
+    list.bypass(links, gap.before, member, gap.after);
     links.release_link(member);
     Some(member)
 }
 
-// Puts the place where the member is, which is unlinked then, and says whether it could.
+// Inserts the place where the member is, removes the member, and returns whether it did.
 #[inline]
 pub(crate) fn replace<W: ListWords>(
     links: &mut RawTable<'_, W>,
@@ -559,7 +565,7 @@ pub(crate) fn replace<W: ListWords>(
     ensures free { result ≡ true → (p : Place) × (place ≡ Some p) × IsFree W.is_linked (lent_table W.PrevPlace links.old) p }
     ensures stands { result ≡ true → IsNoneOrLinked W.is_linked (lent_table W.PrevPlace links.old) (Some member) }
     ensures before { result ≡ true → TellsGap W.PrevPlace Before (lent_table W.PrevPlace links.old) list.old (Some member) }
-    ensures behind { result ≡ true → TellsGap W.PrevPlace After (lent_table W.PrevPlace links.old) list.old (Some member) }
+    ensures after { result ≡ true → TellsGap W.PrevPlace After (lent_table W.PrevPlace links.old) list.old (Some member) }
     ensures own { result ≡ true → PutIn (around W.PrevPlace (lent_table W.PrevPlace links.old) list.old (Some member)) place list.old list.new }
     ensures touched { (p : Place) → result ≡ true → place ≡ Some p → Touches W.is_linked (lent_table W.PrevPlace links.old) (lent_table W.PrevPlace links.new)
         (acquires p ∷ releases member ∷ []) (Some p ∷ Some member ∷ sides (around W.PrevPlace (lent_table W.PrevPlace links.old) list.old (Some member))) }
@@ -572,12 +578,12 @@ pub(crate) fn replace<W: ListWords>(
     let Some(place) = links.acquire(place) else {
         return false;
     };
-    list.replace_linked(links, gap.before, member, place, gap.behind);
+    list.replace_linked(links, gap.before, member, place, gap.after);
     links.release_link(member);
     true
 }
 
-// Puts all of the given list into the gap beside a place, and says whether it could.
+// Moves all members of the given list into the gap beside a place, and returns whether it did.
 #[inline]
 pub(crate) fn splice<W: ListWords>(
     links: &mut RawTable<'_, W>,
@@ -609,12 +615,12 @@ pub(crate) fn splice<W: ListWords>(
     if begin_alike(&*list, &given) {
         return false;
     }
-    list.splice_between(links, gap.before, given, ends.before, gap.behind);
+    list.splice_between(links, gap.before, given, ends.before, gap.after);
     true
 }
 
-// Puts all of the given list at none into the outermost gap on this side of it, where both lists have members, and the words of their ends
-// are such as a call writes. Else it changes nothing, and says so.
+// Moves all members of the given list to the end of the list that this side means, if both lists have members and the words of their ends have
+// exactly the bits that a call writes. Otherwise it changes nothing and returns that it did not.
 #[inline(always)]
 pub(crate) fn splice_at_end<W: ListWords>(
     links: &mut RawTable<'_, W>,
@@ -652,11 +658,11 @@ pub(crate) fn splice_at_end<W: ListWords>(
     if begin_alike(&*list, &given) {
         return false;
     }
-    list.splice_between(links, gap.before, given, end.before, gap.behind);
+    list.splice_between(links, gap.before, given, end.before, gap.after);
     true
 }
 
-// Cuts the list at a gap, and gives the part that is on this side of it. The list keeps the other.
+// Cuts the list at a gap, and returns the part on this side of the gap. The list keeps the other part.
 #[inline]
 pub(crate) fn split<W: ListWords>(
     links: &mut RawTable<'_, W>,
@@ -671,7 +677,7 @@ pub(crate) fn split<W: ListWords>(
     ensures own { IsCutBeside side gap list.old list.new result }
     ensures extent { (lent_table W.PrevPlace links.new).extent ≡ (lent_table W.PrevPlace links.old).extent }
 {
-    let back = list.split_between(links, gap.before, gap.behind);
+    let back = list.split_between(links, gap.before, gap.after);
     match side {
         Side::After => back,
         Side::Before => mem::replace(list, back),

@@ -1,4 +1,4 @@
-//! What the calls of doubly linked lists do: edits at places that are numbers, of a list that is two words.
+//! The calls of doubly linked lists. A place is a number, and a list is two words.
 //!
 //! ```text
 //! insert_at(table, list, Side::After, NONE, 7) // OK: 7 is the first member
@@ -21,7 +21,7 @@ use crate::{list, whole};
 use ic_linked_list::LinkedList;
 use ic_unsafe_ref::Place;
 
-/// The list of its two words.
+/// Returns the list that its two words represent.
 #[inline]
 pub fn list_of(words: &RawEnds) -> list::List
     ensures { result ≡ ends_of words.now }
@@ -29,7 +29,7 @@ pub fn list_of(words: &RawEnds) -> list::List
     LinkedList::from_ends(place_in(words.head), place_in(words.tail))
 }
 
-/// Writes the ends of the list as its two words.
+/// Writes the words of the list's first and last place.
 #[inline]
 pub fn write_back(words: &mut RawEnds, list: list::List)
     ensures set { ends_of words.new ≡ list }
@@ -38,10 +38,10 @@ pub fn write_back(words: &mut RawEnds, list: list::List)
     words.set(list.first(), list.last());
 }
 
-/// Puts the place with that number into the gap on this side of the member `at`, at [`NONE`] at the end that the side means. O(1).
+/// Inserts the place with that number into the gap on this side of the member `at`, or at the end that the side means if `at` is [`NONE`]. O(1).
 ///
-/// The place has to be one of the table, and not linked. A refused edit leaves the words as they are, and returns the first fault of the two
-/// places, or else [`BROKEN`].
+/// The place must belong to the table and must not be linked. A refused call changes no word. It returns the first fault of the two places, or else
+/// [`BROKEN`].
 #[inline]
 pub fn insert_at<W: ListWords>(
     table: &mut [W],
@@ -61,9 +61,10 @@ pub fn insert_at<W: ListWords>(
     OK
 }
 
-/// Takes the first member off, on the side [`Side::Before`] the last one, and hands its number out. O(1).
+/// Removes the first member, or the last one if the side is [`Side::Before`], and stores its number in `popped`. O(1).
 ///
-/// Where there is none, it returns [`NULL`], and where the words tell of none, [`BROKEN`]. Then nothing is changed.
+/// If there is none, it returns [`NULL`]. If the links beside the member do not lead back to it, it returns [`BROKEN`]. In both cases nothing
+/// changes.
 #[inline]
 pub fn pop<W: ListWords>(table: &mut [W], list: &mut RawEnds, side: Side, popped: &mut u32) -> u32
     ensures { PopCall W.PrevPlace table.old table.new list.old list.new result side popped.old popped.new }
@@ -78,7 +79,7 @@ pub fn pop<W: ListWords>(table: &mut [W], list: &mut RawEnds, side: Side, popped
     OK
 }
 
-// Why no member is popped: there is none, or its words tell of none.
+// Returns why no member is popped: the list is empty, or the links beside the member do not lead back to it.
 #[cold]
 #[inline(never)]
 fn refusal_to_pop(list: &RawEnds, side: Side) -> u32
@@ -96,7 +97,7 @@ fn refusal_to_pop(list: &RawEnds, side: Side) -> u32
     }
 }
 
-// Puts all of the given list into the gap beside a place of any list, or says why not.
+// Moves all members of the given list into the gap beside a place of any list, or returns the status of the refusal.
 #[cold]
 #[inline(never)]
 fn splice_slow<W: ListWords>(
@@ -119,11 +120,10 @@ fn splice_slow<W: ListWords>(
     OK
 }
 
-/// Puts all of the given list into the gap on this side of the member `at`, at [`NONE`] at the end that the side means, and leaves the given
-/// one empty. O(1).
+/// Moves all members of `given` into the gap on this side of the member `at`, or to the end that the side means if `at` is [`NONE`], and leaves
+/// `given` empty. O(1).
 ///
-/// A refused edit leaves all as it is, and returns the fault of the member, or else [`BROKEN`], as for a list that begins with the same
-/// member.
+/// A refused call changes nothing. It returns the fault of the member, or else [`BROKEN`], for example if both lists begin with the same member.
 #[inline(always)]
 pub fn splice_at<W: ListWords>(
     table: &mut [W],
@@ -145,7 +145,7 @@ pub fn splice_at<W: ListWords>(
     splice_slow(links.entries, list, at, given, side)
 }
 
-// Cuts any list at the gap beside a place, and hands out the part on that side of it, or says why not.
+// Cuts any list at the gap beside a place, and stores the part on that side of the gap in `rest`, or returns the status of the refusal.
 #[cold]
 #[inline(never)]
 fn split_slow<W: ListWords>(
@@ -170,10 +170,10 @@ fn split_slow<W: ListWords>(
     links.refusal_at(at)
 }
 
-/// Cuts the list at the gap on this side of the member `at`, at [`NONE`] at the end that the side means, and hands out the part on that side of
-/// the cut. O(1).
+/// Cuts the list at the gap on this side of the member `at`, or at the end that the side means if `at` is [`NONE`], and moves the part on that side
+/// to `rest`. O(1).
 ///
-/// A refused edit leaves all as it is, and returns the fault of the member, or else [`BROKEN`], as where `rest` is not empty.
+/// A refused call changes nothing. It returns the fault of the member, or else [`BROKEN`], for example if `rest` is not empty.
 #[inline(always)]
 pub fn split_at<W: ListWords>(
     table: &mut [W],
@@ -197,7 +197,7 @@ pub fn split_at<W: ListWords>(
     split_slow(links.entries, list, at, rest, side)
 }
 
-// Puts a place after all members of any list, or says why not.
+// Inserts a place after all members of any list, or returns the status of the refusal.
 #[cold]
 #[inline(never)]
 fn push_back_slow<W: ListWords>(table: &mut [W], list: &mut RawEnds, place: u32) -> u32
@@ -206,9 +206,9 @@ fn push_back_slow<W: ListWords>(table: &mut [W], list: &mut RawEnds, place: u32)
     insert_at(table, list, Side::Before, NONE, place)
 }
 
-/// Puts a place after all members. O(1).
+/// Inserts a place at the back. O(1).
 ///
-/// The place has to be one of the table, and not linked.
+/// The place must belong to the table and must not be linked.
 #[inline]
 pub fn push_back<W: ListWords>(table: &mut [W], list: &mut RawEnds, place: u32) -> u32
     ensures { InsertCall W.PrevPlace table.old table.new list.old list.new result Before None (place_of place) }
@@ -222,7 +222,7 @@ pub fn push_back<W: ListWords>(table: &mut [W], list: &mut RawEnds, place: u32) 
     push_back_slow(links.entries, list, place)
 }
 
-// Takes the first member off any list, or says why not.
+// Removes the first member of any list, or returns the status of the refusal.
 #[cold]
 #[inline(never)]
 fn pop_front_slow<W: ListWords>(table: &mut [W], list: &mut RawEnds, popped: &mut u32) -> u32
@@ -231,7 +231,7 @@ fn pop_front_slow<W: ListWords>(table: &mut [W], list: &mut RawEnds, popped: &mu
     pop(table, list, Side::After, popped)
 }
 
-/// Takes the first member off and hands it out, or returns [`NULL`] where there is none. O(1).
+/// Removes the first member and stores its number in `popped`, or returns [`NULL`] if there is none. O(1).
 #[inline]
 pub fn pop_front<W: ListWords>(table: &mut [W], list: &mut RawEnds, popped: &mut u32) -> u32
     ensures { PopCall W.PrevPlace table.old table.new list.old list.new result After popped.old popped.new }
@@ -246,7 +246,7 @@ pub fn pop_front<W: ListWords>(table: &mut [W], list: &mut RawEnds, popped: &mut
     pop_front_slow(links.entries, list, popped)
 }
 
-// Takes any member off, or says why not.
+// Removes any member, or returns the status of the refusal.
 #[cold]
 #[inline(never)]
 fn remove_slow<W: ListWords>(table: &mut [W], list: &mut RawEnds, at: u32) -> u32
@@ -264,7 +264,7 @@ fn remove_slow<W: ListWords>(table: &mut [W], list: &mut RawEnds, at: u32) -> u3
     OK
 }
 
-/// Takes the member `at` off, or returns [`NULL`] at [`NONE`]. O(1).
+/// Removes the member `at`, or returns [`NULL`] if `at` is [`NONE`]. O(1).
 #[inline]
 pub fn remove<W: ListWords>(table: &mut [W], list: &mut RawEnds, at: u32) -> u32
     ensures { RemoveCall W.PrevPlace table.old table.new list.old list.new result (place_of at) }
@@ -279,9 +279,9 @@ pub fn remove<W: ListWords>(table: &mut [W], list: &mut RawEnds, at: u32) -> u32
     remove_slow(links.entries, list, at)
 }
 
-/// Puts a place where the member `at` is, which is unlinked then, or returns [`NULL`] at [`NONE`]. O(1).
+/// Inserts a place where the member `at` is, and removes `at`, or returns [`NULL`] if `at` is [`NONE`]. O(1).
 ///
-/// The place has to be one of the table, and not linked.
+/// The place must belong to the table and must not be linked.
 #[inline]
 pub fn replace<W: ListWords>(table: &mut [W], list: &mut RawEnds, at: u32, place: u32) -> u32
     ensures { ReplaceCall W.PrevPlace table.old table.new list.old list.new result (place_of at) (place_of place) }
@@ -298,7 +298,7 @@ pub fn replace<W: ListWords>(table: &mut [W], list: &mut RawEnds, at: u32, place
     OK
 }
 
-/// Takes all members off, which are unlinked then. O(n).
+/// Removes and unlinks all members. O(n).
 ///
 /// It returns [`BROKEN`] if the links do not lead from the first member to the last one, and back.
 #[inline]

@@ -1,5 +1,5 @@
-//! The words of a tree as they are, for a check and for an edit of a tree that a check has found: a place is linked if it has the mark,
-//! and each number names its place.
+//! A view of a tree's words as they are, for checks and for edits of a tree that a check has found valid. A place is linked if its words have the
+//! mark of a linked place, and each number names the place with that number.
 //!
 //! ```text
 //! let links = MarkedTree::new(words);
@@ -17,10 +17,10 @@ use ic_link_ops::rbtree::RBTreeOps;
 use ic_link_ops::{Color, LinkOps, Words};
 use ic_unsafe_ref::Place;
 
-/// A view of a tree's words as they are. [`RawTable`](crate::RawTable) sees every place of the table as linked, for edits and searches of words
-/// that may represent no tree.
+/// A view of a tree's words as they are. [`RawTable`](crate::RawTable), in contrast, treats every place of the table as linked, since it serves edits
+/// and searches of words that may represent no tree.
 ///
-/// It is for checks, and for edits of a tree that a check has found.
+/// Checks use this view, and so do edits of a tree that a check has found valid.
 pub struct MarkedTree<'a> {
     entries: &'a mut [RawThree],
 }
@@ -34,7 +34,7 @@ impl Drop for MarkedTree<'_> {
 }
 
 impl<'a> MarkedTree<'a> {
-    /// A view of these words. O(1).
+    /// Makes a view of these words. O(1).
     #[inline]
     pub fn new(words: &'a mut [RawThree]) -> MarkedTree<'a>
         ensures name { result.entries.ghost_name ≡ words.entry.ghost_name }
@@ -45,7 +45,7 @@ impl<'a> MarkedTree<'a> {
 }
 
 impl MarkedTree<'_> {
-    // Whether there is such a place.
+    // Returns whether the table has this place.
     #[inline]
     fn covers(&self, place: Place) -> bool
         ensures { IsTrue result ↔ IsCovered (marked_table self.now) place }
@@ -53,7 +53,7 @@ impl MarkedTree<'_> {
         place.index() + 1 <= self.entries.len()
     }
 
-    // The words of `place`.
+    // Returns the words of `place`.
     #[inline]
     fn at(&self, place: Place) -> &RawThree
         requires covered { IsCovered (marked_table self.now) place }

@@ -1,4 +1,4 @@
-//! What the calls do that move a member of a doubly linked list, which stays linked.
+//! The calls that move a member of a doubly linked list. The member stays linked.
 //!
 //! ```text
 //! move_to_end(table, list, Side::After, 7) // OK: 7 is the first member, whichever it was
@@ -17,8 +17,7 @@ use crate::status::{NONE, NULL, OK};
 use crate::table::RawTable;
 use crate::words::{ListWords, RawEnds};
 
-// Moves any member into the gap beside another one, or says why not. A gap beside the member itself is where it stands: then nothing is
-// changed.
+// Moves any member into the gap beside another one, or returns the status of the refusal. If the gap is beside the member itself, nothing changes.
 #[cold]
 #[inline(never)]
 fn move_slow<W: ListWords>(
@@ -46,10 +45,11 @@ fn move_slow<W: ListWords>(
     OK
 }
 
-/// Moves the member `place` into the gap on this side of the member `at`, at [`NONE`] to the end that the side means. It stays linked. O(1).
+/// Moves the member `place` into the gap on this side of the member `at`, or to the end that the side means if `at` is [`NONE`]. The member stays
+/// linked during the call. O(1).
 ///
-/// Where it stands there already, nothing is changed. It returns [`NULL`] where `place` is [`NONE`], and else the first fault of the two, or
-/// [`BROKEN`](crate::BROKEN). A refused edit leaves the words as they are.
+/// If the member is already there, nothing changes. It returns [`NULL`] if `place` is [`NONE`], else the first fault of the two places, or else
+/// [`BROKEN`](crate::BROKEN). A refused call changes no word.
 #[inline(always)]
 pub fn move_at<W: ListWords>(
     table: &mut [W],
@@ -76,7 +76,7 @@ pub fn move_at<W: ListWords>(
     OK
 }
 
-// Moves a member to an end of any list, or says why not.
+// Moves a member to an end of any list, or returns the status of the refusal.
 #[cold]
 #[inline(never)]
 fn move_to_end_slow<W: ListWords>(
@@ -102,10 +102,10 @@ fn move_to_end_slow<W: ListWords>(
     move_slow(links.entries, list, side, NONE, place)
 }
 
-/// Moves a member to the front, on the side [`Side::Before`] to the back. It stays linked. O(1).
+/// Moves a member to the front, or to the back if the side is [`Side::Before`]. The member stays linked during the call. O(1).
 ///
-/// Where it stands there already, nothing is changed. It returns [`NULL`] at [`NONE`], and else the fault of the member, or
-/// [`BROKEN`](crate::BROKEN). A refused edit leaves the words as they are.
+/// If the member is already there, nothing changes. It returns [`NULL`] at [`NONE`], and else the fault of the member, or [`BROKEN`](crate::BROKEN).
+/// A refused call changes no word.
 #[inline(always)]
 pub fn move_to_end<W: ListWords>(table: &mut [W], list: &mut RawEnds, side: Side, place: u32) -> u32
     ensures { MoveToEndCall W.PrevPlace table.old table.new list.old list.new result side (place_of place) }

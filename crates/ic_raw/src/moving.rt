@@ -1,4 +1,4 @@
-//! A member of a doubly linked list that is moved: between which places it is, and where it goes.
+//! Moves of a member of a doubly linked list. Before a move, a function finds the places beside the member and the gap to which it goes.
 //!
 //! ```text
 //! let Some((from, to)) = gaps_to_move(&links, &list, Side::After, at, member) else { .. };
@@ -23,7 +23,7 @@ use crate::words::ListWords;
 use ic_link_ops::linked_list::LinkedListOps;
 use ic_unsafe_ref::Place;
 
-// Whether the member is at the end beside the outermost gap on this side of none, with another one beyond it, and their words are such as a
+// Returns whether the member is at the end of the list that this side means, has a neighbor there, and the words of both have exactly the bits that a
 // call writes.
 #[inline]
 pub(crate) fn is_at_end<W: ListWords>(
@@ -36,7 +36,7 @@ pub(crate) fn is_at_end<W: ListWords>(
     ensures links_back { result ≡ true → TellsGap W.PrevPlace side (lent_table W.PrevPlace links.now) list.now None }
     ensures member { result ≡ true → IsNoneOrLinked W.is_linked (lent_table W.PrevPlace links.now) (Some member) }
     ensures before { result ≡ true → TellsGap W.PrevPlace Before (lent_table W.PrevPlace links.now) list.now (Some member) }
-    ensures behind { result ≡ true → TellsGap W.PrevPlace After (lent_table W.PrevPlace links.now) list.now (Some member) }
+    ensures after { result ≡ true → TellsGap W.PrevPlace After (lent_table W.PrevPlace links.now) list.now (Some member) }
 {
     let at = Some(member);
     match side {
@@ -61,8 +61,8 @@ pub(crate) fn is_at_end<W: ListWords>(
     }
 }
 
-// The places on both sides of the last member where the side is that of the first, and of the first one where it is that of the last, if
-// there is another one, and their words are such as a call writes. Else none.
+// Returns the places on both sides of the member at the end opposite to this side, if the list has another member and the words of both have exactly
+// the bits that a call writes. Otherwise it returns `None`.
 #[inline]
 pub(crate) fn beside_other_end<W: ListWords>(
     links: &RawTable<'_, W>,
@@ -73,7 +73,7 @@ pub(crate) fn beside_other_end<W: ListWords>(
     ensures member { (gap : Gap) → result ≡ Some gap → IsNoneOrLinked W.is_linked (lent_table W.PrevPlace links.now) (Some member) }
     ensures stands { (gap : Gap) → result ≡ Some gap → StandBeside W.is_linked (lent_table W.PrevPlace links.now) gap }
     ensures before { (gap : Gap) → result ≡ Some gap → TellsGap W.PrevPlace Before (lent_table W.PrevPlace links.now) list.now (Some member) }
-    ensures behind { (gap : Gap) → result ≡ Some gap → TellsGap W.PrevPlace After (lent_table W.PrevPlace links.now) list.now (Some member) }
+    ensures after { (gap : Gap) → result ≡ Some gap → TellsGap W.PrevPlace After (lent_table W.PrevPlace links.now) list.now (Some member) }
     ensures sides { (gap : Gap) → result ≡ Some gap → gap ≡ around W.PrevPlace (lent_table W.PrevPlace links.now) list.now (Some member) }
     ensures toward { (gap : Gap) → result ≡ Some gap → (q : Place) × (toward side gap ≡ Some q) }
     ensures shown { (gap : Gap) (front back : List Place) → result ≡ Some gap → Represents W.PrevPlace (lent_table W.PrevPlace links.now) list.now (front ++ member ∷ back)
@@ -89,26 +89,26 @@ pub(crate) fn beside_other_end<W: ListWords>(
             };
             Some(Gap {
                 before: Some(before),
-                behind: links.next(member),
+                after: links.next(member),
             })
         }
         Side::Before => {
             if !is_at_end(links, list, Side::After, member) {
                 return None;
             }
-            let Some(behind) = links.next(member) else {
+            let Some(after) = links.next(member) else {
                 return None;
             };
             Some(Gap {
                 before: links.prev(member),
-                behind: Some(behind),
+                after: Some(after),
             })
         }
     }
 }
 
-// What `gaps_to_move` gives of a member that has one on both sides and goes between two others, where all these words are such as a call
-// writes. Else none.
+// Returns what `gaps_to_move` returns, for a member that has a neighbor on each side and goes between two others, if all their words have exactly the
+// bits that a call writes. Otherwise it returns `None`.
 #[inline(always)]
 pub(crate) fn gaps_inside<W: ListWords>(
     links: &RawTable<'_, W>,
@@ -124,7 +124,7 @@ pub(crate) fn gaps_inside<W: ListWords>(
     ensures to { (from to : Gap) → result ≡ Some (from, to) → StandBeside W.is_linked (lent_table W.PrevPlace links.now) to }
     ensures member { (from to : Gap) → result ≡ Some (from, to) → IsNoneOrLinked W.is_linked (lent_table W.PrevPlace links.now) (Some member) }
     ensures before { (from to : Gap) (list : Ends) → result ≡ Some (from, to) → TellsGap W.PrevPlace Before (lent_table W.PrevPlace links.now) list (Some member) }
-    ensures behind { (from to : Gap) (list : Ends) → result ≡ Some (from, to) → TellsGap W.PrevPlace After (lent_table W.PrevPlace links.now) list (Some member) }
+    ensures after { (from to : Gap) (list : Ends) → result ≡ Some (from, to) → TellsGap W.PrevPlace After (lent_table W.PrevPlace links.now) list (Some member) }
     ensures from { (from to : Gap) → result ≡ Some (from, to) → StandBeside W.is_linked (lent_table W.PrevPlace links.now) from }
     ensures sides { (from to : Gap) (list : Ends) → result ≡ Some (from, to)
         → (from ≡ around W.PrevPlace (lent_table W.PrevPlace links.now) list (Some member)) × (to ≡ gap_from W.PrevPlace side (lent_table W.PrevPlace links.now) list at) }
@@ -138,8 +138,8 @@ pub(crate) fn gaps_inside<W: ListWords>(
     Some((from, to))
 }
 
-// The places on both sides of a member, and the gap beside another one, where the member is to go. None where the words tell of no such
-// member, or of no such gap.
+// Returns the places on both sides of a member, and the gap beside another member to which it is to go. The result is `None` if the links beside the
+// member do not lead back to it, or if those on the two sides of the gap do not lead to each other.
 #[inline]
 pub(crate) fn gaps_to_move<W: ListWords>(
     links: &RawTable<'_, W>,
@@ -156,7 +156,7 @@ pub(crate) fn gaps_to_move<W: ListWords>(
     ensures to { (from to : Gap) → result ≡ Some (from, to) → StandBeside W.is_linked (lent_table W.PrevPlace links.now) to }
     ensures member { (from to : Gap) → result ≡ Some (from, to) → IsNoneOrLinked W.is_linked (lent_table W.PrevPlace links.now) (Some member) }
     ensures before { (from to : Gap) → result ≡ Some (from, to) → TellsGap W.PrevPlace Before (lent_table W.PrevPlace links.now) list.now (Some member) }
-    ensures behind { (from to : Gap) → result ≡ Some (from, to) → TellsGap W.PrevPlace After (lent_table W.PrevPlace links.now) list.now (Some member) }
+    ensures after { (from to : Gap) → result ≡ Some (from, to) → TellsGap W.PrevPlace After (lent_table W.PrevPlace links.now) list.now (Some member) }
     ensures from { (from to : Gap) → result ≡ Some (from, to) → StandBeside W.is_linked (lent_table W.PrevPlace links.now) from }
     ensures sides { (from to : Gap) → result ≡ Some (from, to)
         → (from ≡ around W.PrevPlace (lent_table W.PrevPlace links.now) list.now (Some member)) × (to ≡ gap_from W.PrevPlace side (lent_table W.PrevPlace links.now) list.now at) }
@@ -170,7 +170,7 @@ pub(crate) fn gaps_to_move<W: ListWords>(
     Some((from, to))
 }
 
-// Moves a member, which is between these two places, into a gap that it is not beside. It stays linked.
+// Moves a member from between these two places into a gap that is not beside it. The member stays linked.
 #[inline]
 pub(crate) fn relocate<W: ListWords>(
     links: &mut RawTable<'_, W>,
@@ -190,6 +190,6 @@ pub(crate) fn relocate<W: ListWords>(
     ensures own { IsMoved from (Some member) to list.old list.new }
     ensures extent { (lent_table W.PrevPlace links.new).extent ≡ (lent_table W.PrevPlace links.old).extent }
 {
-    list.bypass(links, from.before, member, from.behind);
-    list.insert_linked(links, to.before, member, to.behind);
+    list.bypass(links, from.before, member, from.after);
+    list.insert_linked(links, to.before, member, to.after);
 }

@@ -1,4 +1,4 @@
-//! The words of a tree as its surgery sees them.
+//! The words of a tree as an edit of the tree reads them.
 //!
 //! ```text
 //! tree.unlink(&mut links, place); // whatever the words say, it writes to no place but those of the table
@@ -16,9 +16,9 @@ use ic_link_ops::{Color, Side};
 use ic_rbtree::NodeStore;
 use ic_unsafe_ref::Place;
 
-/// What is seen at a place: the words there, which place it is, and how many places the table has.
+/// What an edit of a tree reads at a place: the words there, the place itself, and how many places the table has.
 ///
-/// Clauses speak of it, and no code makes one.
+/// Only contracts use this type. No code makes a value of it.
 #[derive(Clone, Copy)]
 pub struct Seen {
     words: RawThree,
@@ -27,10 +27,10 @@ pub struct Seen {
 }
 
 impl RawTable<'_, RawThree> {
-    // The place that a word names, none where the table has no such place. The number in the word is compared, which takes no shift, and a
-    // number of no place of the table counts as 0, so that one test tells both.
+    // Returns the place that a word names, or `None` if the table has no such place. It compares the number in the word, which takes no shift. A
+    // number beyond the table counts as 0, so that one test finds both cases.
     #[inline]
-    fn named(&self, word: u64) -> Option<Place>
+    pub(crate) fn named(&self, word: u64) -> Option<Place>
         ensures { result ≡ named_within (lent_table self.now).extent.places (place_in word) }
     {
         let number = word / 8 % 8_589_934_592 * 8;
@@ -42,7 +42,7 @@ impl RawTable<'_, RawThree> {
         Place::from_word(within)
     }
 
-    // Whether a word names that place of the table. The numbers are compared, since one that names none of the table is another.
+    // Returns whether a word names that place of the table. It compares the numbers: a number beyond the table differs from every place of the table.
     #[inline]
     fn is_named(&self, word: u64, place: Place) -> bool
         requires { has_place (lent_table self.now) place ≡ true }
@@ -52,7 +52,7 @@ impl RawTable<'_, RawThree> {
     }
 }
 
-/// The places that the table has count as linked, so that no name leads to another, whatever the words say.
+/// Every place of the table counts as linked, so that whatever the words contain, no link leads out of the table.
 impl NodeStore for RawTable<'_, RawThree> {
     ghost use Rattle.std.specs.Prelude.{nat_lt};
     ghost use Rattle.std.proofs.Common.{refl, ap, ◌∙◌};

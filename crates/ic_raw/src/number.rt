@@ -9,7 +9,7 @@ ghost use Rattle.ic_raw.specs.Words.{place_in, narrow_place_in, place_of, HasNum
 
 use ic_unsafe_ref::Place;
 
-/// The place that a word names, whatever its bits are: the three lowest, and those from `2^36` on, count for nothing.
+/// Returns the place that a word names, whatever its bits are. It ignores the three lowest bits and all bits from `2^36` on.
 #[inline]
 pub fn place_in(word: u64) -> Option<Place>
     ensures { result ≡ place_in word }
@@ -17,7 +17,7 @@ pub fn place_in(word: u64) -> Option<Place>
     Place::from_word(word / 8 % 8_589_934_592 * 8)
 }
 
-/// The place that a word of 4 bytes names, whatever its bits are: the three lowest count for nothing.
+/// Returns the place that a word of 4 bytes names, whatever its bits are. It ignores the three lowest bits.
 #[inline]
 pub fn narrow_place_in(word: u32) -> Option<Place>
     ensures { result ≡ narrow_place_in word }
@@ -25,7 +25,7 @@ pub fn narrow_place_in(word: u32) -> Option<Place>
     Place::from_word(u64::from(word / 8 % 536_870_912 * 8))
 }
 
-/// The place with that index, and none at [`NONE`](crate::NONE).
+/// Returns the place with that index, or `None` for [`NONE`](crate::NONE).
 #[inline]
 pub fn place_of(index: u32) -> Option<Place>
     ensures { result ≡ place_of index }
@@ -33,7 +33,7 @@ pub fn place_of(index: u32) -> Option<Place>
     Place::from_word(8 * u64::from(index.wrapping_add(1)))
 }
 
-/// The index of the place, as many of its bits as the number has. No call puts a place in whose index has more.
+/// Returns the index of the place, cut to the bits of a `u32`. No call inserts a place whose index has more bits.
 #[inline]
 #[tactic(auto, using(crate::proofs::Numbers::index_named))]
 pub fn number_of(place: Place) -> u32

@@ -1,4 +1,4 @@
-//! Rings: what their calls test, and their edits over a view of the table. A call names places, and no ring.
+//! Rings: what their calls test, and their edits over a view of the table. The arguments of a call are places, and never a ring.
 //!
 //! ```text
 //! let made = remove(&mut links, place);
@@ -19,37 +19,37 @@ use ic_link_ops::{LinkOps, PrevPlace};
 use ic_ring::{bypass, turn_to};
 use ic_unsafe_ref::Place;
 
-/// Two places, of which the second stands after the first.
+/// Two places, of which the second is directly after the first.
 pub type Pair = (Place, Place);
 
-// The two places, where the words tell that the second stands after the first: both are linked, and each names the other.
+// Returns the two places, if both are linked, the first names the second as its next place, and the second names the first as its previous one.
 #[inline]
 fn pair<W: PrevPlace>(
     links: &RawTable<'_, W>,
     before: Option<Place>,
-    behind: Option<Place>,
+    after: Option<Place>,
 ) -> Option<Pair>
-    ensures links_back { (x : Place × Place) → result ≡ Some x → AreLinked W.PrevPlace (lent_table W.PrevPlace links.now) x.0 x.1 × (before ≡ Some x.0) × (behind ≡ Some x.1) }
-    ensures tells { (x : Place × Place) → before ≡ Some x.0 → behind ≡ Some x.1 → AreLinked W.PrevPlace (lent_table W.PrevPlace links.now) x.0 x.1 → result ≡ Some x }
+    ensures links_back { (x : Place × Place) → result ≡ Some x → AreLinked W.PrevPlace (lent_table W.PrevPlace links.now) x.0 x.1 × (before ≡ Some x.0) × (after ≡ Some x.1) }
+    ensures tells { (x : Place × Place) → before ≡ Some x.0 → after ≡ Some x.1 → AreLinked W.PrevPlace (lent_table W.PrevPlace links.now) x.0 x.1 → result ≡ Some x }
 {
     let before = before?;
-    let behind = behind?;
+    let after = after?;
     if !links.is_linked(before) {
         return None;
     }
-    if !links.is_linked(behind) {
+    if !links.is_linked(after) {
         return None;
     }
-    if Place::to_word(links.next(before)) != Place::to_word(Some(behind)) {
+    if Place::to_word(links.next(before)) != Place::to_word(Some(after)) {
         return None;
     }
-    if Place::to_word(links.prev(behind)) != Place::to_word(Some(before)) {
+    if Place::to_word(links.prev(after)) != Place::to_word(Some(before)) {
         return None;
     }
-    Some((before, behind))
+    Some((before, after))
 }
 
-/// A place and its neighbor on this side, where the words tell of them.
+/// Returns a place and its neighbor on this side, if both are linked and name each other.
 #[inline]
 pub fn beside<W: PrevPlace>(links: &RawTable<'_, W>, side: Side, at: Place) -> Option<Pair>
     ensures links_back { (x : Place × Place) → result ≡ Some x → AreLinked W.PrevPlace (lent_table W.PrevPlace links.now) x.0 x.1 × (own_on side x ≡ at) }
@@ -64,7 +64,7 @@ pub fn beside<W: PrevPlace>(links: &RawTable<'_, W>, side: Side, at: Place) -> O
     }
 }
 
-// The two neighbors of a place, where the words tell of both.
+// Returns the two neighbors of a place, if both are linked and name it.
 #[inline]
 pub(crate) fn around<W: PrevPlace>(links: &RawTable<'_, W>, place: Place) -> Option<Pair>
     ensures links_back { (x : Place × Place) → result ≡ Some x → AreLinked W.PrevPlace (lent_table W.PrevPlace links.now) x.0 place × AreLinked W.PrevPlace (lent_table W.PrevPlace links.now) place x.1 }
@@ -73,13 +73,13 @@ pub(crate) fn around<W: PrevPlace>(links: &RawTable<'_, W>, place: Place) -> Opt
     let Some(before) = beside(links, Side::Before, place) else {
         return None;
     };
-    let Some(behind) = beside(links, Side::After, place) else {
+    let Some(after) = beside(links, Side::After, place) else {
         return None;
     };
-    Some((before.0, behind.1))
+    Some((before.0, after.1))
 }
 
-// Whether the words tell that the place stands after itself, as a head without members does.
+// Returns whether the place is its own next place, as a head without members is.
 #[inline]
 pub(crate) fn is_alone<W: PrevPlace>(links: &RawTable<'_, W>, place: Place) -> bool
     ensures links_back { result ≡ true → AreLinked W.PrevPlace (lent_table W.PrevPlace links.now) place place }
@@ -91,7 +91,7 @@ pub(crate) fn is_alone<W: PrevPlace>(links: &RawTable<'_, W>, place: Place) -> b
     true
 }
 
-// Makes a circle of the place alone, and gives it, if it is one of the table and not linked.
+// Makes a ring of the place alone, and returns it, if it belongs to the table and is not linked.
 #[inline]
 pub(crate) fn close<W: PrevPlace>(
     links: &mut RawTable<'_, W>,
@@ -109,7 +109,7 @@ pub(crate) fn close<W: PrevPlace>(
     Some(place)
 }
 
-// Puts a linked place, which stands in no ring, between two neighbors of one.
+// Inserts a linked place that is in no ring between two neighbors of a ring.
 #[inline]
 pub(crate) fn link_between<W: PrevPlace>(links: &mut RawTable<'_, W>, pair: Pair, place: Place)
     requires held { IsLinked W.is_linked (lent_table W.PrevPlace links.old) place }
@@ -125,24 +125,24 @@ pub(crate) fn link_between<W: PrevPlace>(links: &mut RawTable<'_, W>, pair: Pair
     turn_to(links, pair.0, place, pair.1);
 }
 
-// Turns two linked places to each other. What stood between them has left its ring, and stays linked.
+// Makes two linked places neighbors. The places that were between them are no longer in the ring, but stay linked.
 #[inline]
-pub(crate) fn close_gap<W: PrevPlace>(links: &mut RawTable<'_, W>, before: Place, behind: Place)
+pub(crate) fn close_gap<W: PrevPlace>(links: &mut RawTable<'_, W>, before: Place, after: Place)
     requires before { IsLinked W.is_linked (lent_table W.PrevPlace links.old) before }
-    requires behind { IsLinked W.is_linked (lent_table W.PrevPlace links.old) behind }
-    ensures closed { (p : Place) (r : List Place) → IsCircle W.PrevPlace (lent_table W.PrevPlace links.old) (p ∷ r) → Some before ≡ last r → Some behind ≡ first r
+    requires after { IsLinked W.is_linked (lent_table W.PrevPlace links.old) after }
+    ensures closed { (p : Place) (r : List Place) → IsCircle W.PrevPlace (lent_table W.PrevPlace links.old) (p ∷ r) → Some before ≡ last r → Some after ≡ first r
         → IsCircle W.PrevPlace (lent_table W.PrevPlace links.new) r }
-    ensures joined { AreLinked W.PrevPlace (lent_table W.PrevPlace links.new) before behind }
-    ensures links_back { (x y : Place) → x ≢ before → y ≢ behind → AreLinked W.PrevPlace (lent_table W.PrevPlace links.old) x y → AreLinked W.PrevPlace (lent_table W.PrevPlace links.new) x y }
-    ensures others { (q : Place) → q ≢ before → q ≢ behind → (lent_table W.PrevPlace links.new).entry q ≡ (lent_table W.PrevPlace links.old).entry q }
+    ensures joined { AreLinked W.PrevPlace (lent_table W.PrevPlace links.new) before after }
+    ensures links_back { (x y : Place) → x ≢ before → y ≢ after → AreLinked W.PrevPlace (lent_table W.PrevPlace links.old) x y → AreLinked W.PrevPlace (lent_table W.PrevPlace links.new) x y }
+    ensures others { (q : Place) → q ≢ before → q ≢ after → (lent_table W.PrevPlace links.new).entry q ≡ (lent_table W.PrevPlace links.old).entry q }
     ensures extent { (lent_table W.PrevPlace links.new).extent ≡ (lent_table W.PrevPlace links.old).extent }
     ensures trace_stays { (q : Place) → W.is_linked ((lent_table W.PrevPlace links.new).entry q) ≡ W.is_linked ((lent_table W.PrevPlace links.old).entry q) }
 {
-    links.set_next(before, Some(behind));
-    links.set_prev(behind, Some(before));
+    links.set_next(before, Some(after));
+    links.set_prev(after, Some(before));
 }
 
-// Two pairs of neighbors exchange their second places.
+// Exchanges the second places of two pairs of neighbors.
 #[inline]
 pub(crate) fn cross<W: PrevPlace>(links: &mut RawTable<'_, W>, first: Pair, second: Pair)
     requires first { AreLinked W.PrevPlace (lent_table W.PrevPlace links.old) first.0 first.1 }
@@ -162,14 +162,14 @@ pub(crate) fn cross<W: PrevPlace>(links: &mut RawTable<'_, W>, first: Pair, seco
     links.set_prev(first.1, Some(second.0));
 }
 
-// Takes the place out of its ring, whichever that is, and says whether it could.
+// Removes the place from the ring in which it is, and returns whether it did.
 #[inline]
 pub(crate) fn remove<W: PrevPlace>(links: &mut RawTable<'_, W>, place: Place) -> bool
     ensures removed { (r : List Place) → IsCircle W.PrevPlace (lent_table W.PrevPlace links.old) (place ∷ r)
         → (result ≡ true) × Makes W.PrevPlace (lent_table W.PrevPlace links.old) (lent_table W.PrevPlace links.new) (place ∷ r) r }
     ensures unlinked { result ≡ true → IsUnlinked W.is_linked (lent_table W.PrevPlace links.new) place }
     ensures before { result ≡ true → (q : Place) × AreLinked W.PrevPlace (lent_table W.PrevPlace links.old) q place }
-    ensures behind { result ≡ true → (q : Place) × AreLinked W.PrevPlace (lent_table W.PrevPlace links.old) place q }
+    ensures after { result ≡ true → (q : Place) × AreLinked W.PrevPlace (lent_table W.PrevPlace links.old) place q }
     ensures touched { result ≡ true → Touches W.is_linked (lent_table W.PrevPlace links.old) (lent_table W.PrevPlace links.new) (releases place ∷ [])
         (Some place ∷ around W.PrevPlace (lent_table W.PrevPlace links.old) place) }
     ensures refused { result ≡ false → links.new ≡ links.old }
@@ -183,7 +183,7 @@ pub(crate) fn remove<W: PrevPlace>(links: &mut RawTable<'_, W>, place: Place) ->
     true
 }
 
-// Puts the place in beside one that stands in a ring, and says whether it could.
+// Inserts the place beside a place of a ring, and returns whether it did.
 #[inline]
 pub(crate) fn insert<W: PrevPlace>(
     links: &mut RawTable<'_, W>,
@@ -211,7 +211,7 @@ pub(crate) fn insert<W: PrevPlace>(
     true
 }
 
-// Two places that stand in rings exchange what stands after them, and it says whether they could: two rings become one, one becomes two.
+// Exchanges the successors of two places in rings, and returns whether it did. Two rings become one, or one ring becomes two.
 #[inline]
 pub(crate) fn exchange<W: PrevPlace>(links: &mut RawTable<'_, W>, one: Place, other: Place) -> bool
     ensures joins { (r s : List Place) → IsCircle W.PrevPlace (lent_table W.PrevPlace links.old) r → IsCircle W.PrevPlace (lent_table W.PrevPlace links.old) s → IsDisjoint r s

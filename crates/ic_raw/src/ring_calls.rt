@@ -1,4 +1,4 @@
-//! What the calls of rings do: doubly linked lists whose head is a place of the table. An edit names places, and no ring.
+//! The calls of rings: doubly linked lists whose head is a place of the table. The arguments of an edit are places, and never a ring.
 //!
 //! ```text
 //! init(table, 64)                    // OK: a ring with no members
@@ -26,7 +26,7 @@ use ic_unsafe_ref::Place;
 
 /// Makes a place the head of a ring with no members. O(1).
 ///
-/// The place has to be one of the table, and not linked.
+/// The place must belong to the table and must not be linked.
 #[inline]
 pub fn init<W: PrevPlace>(table: &mut [W], head: u32) -> u32
     ensures { InitCall W.PrevPlace table.old table.new result (place_of head) }
@@ -38,10 +38,10 @@ pub fn init<W: PrevPlace>(table: &mut [W], head: u32) -> u32
     OK
 }
 
-/// Puts a place in on this side of the place `at`, which stands in a ring. O(1).
+/// Inserts a place on this side of the place `at`, which is in a ring. O(1).
 ///
-/// The place has to be one of the table, and not linked. It returns [`NULL`] where `at` is [`NONE`](crate::NONE), and else the first fault of
-/// the two, or [`BROKEN`](crate::BROKEN). A refused edit leaves the words as they are.
+/// The place must belong to the table and must not be linked. It returns [`NULL`] if `at` is [`NONE`](crate::NONE), else the first fault of the two
+/// places, or else [`BROKEN`](crate::BROKEN). A refused call changes no word.
 #[inline]
 pub fn insert<W: PrevPlace>(table: &mut [W], side: Side, at: u32, place: u32) -> u32
     ensures { InsertCall W.PrevPlace table.old table.new result side (place_of at) (place_of place) }
@@ -56,9 +56,9 @@ pub fn insert<W: PrevPlace>(table: &mut [W], side: Side, at: u32, place: u32) ->
     OK
 }
 
-/// Takes a place out of its ring, whichever that is. O(1).
+/// Removes a place from the ring in which it is. O(1).
 ///
-/// A head that has no members leaves, too, and its ring is gone then.
+/// If the place is a head without members, it is unlinked, and its ring no longer exists.
 #[inline]
 pub fn remove<W: PrevPlace>(table: &mut [W], place: u32) -> u32
     ensures { RemoveCall W.PrevPlace table.old table.new result (place_of place) }
@@ -73,10 +73,10 @@ pub fn remove<W: PrevPlace>(table: &mut [W], place: u32) -> u32
     OK
 }
 
-/// Two places that stand in rings exchange what stands after them. So two rings become one, and one becomes two. O(1).
+/// Exchanges the successors of two places. If they are in two rings, the rings become one. If they are in one ring, it becomes two. O(1).
 ///
-/// With the last member of one ring and the head of another, all members of the second are put after the first. The same call again takes
-/// it back.
+/// For the last member of one ring and the head of another, it moves all members of the second ring to the back of the first. A second call with the
+/// same arguments undoes the first.
 #[inline]
 pub fn exchange<W: PrevPlace>(table: &mut [W], one: u32, other: u32) -> u32
     ensures { ExchangeCall W.PrevPlace table.old table.new result (place_of one) (place_of other) }
@@ -94,7 +94,7 @@ pub fn exchange<W: PrevPlace>(table: &mut [W], one: u32, other: u32) -> u32
     OK
 }
 
-// Why nothing could be taken out beside a head: it has no members, or its words tell of none.
+// Returns why nothing could be removed beside a head: it has no members, or its links and those of its neighbor do not lead to each other.
 #[cold]
 fn refusal_to_pop<W: PrevPlace>(links: &RawTable<'_, W>, head: Place) -> u32
     ensures null { (result ≡ NULL) ↔ AreLinked W.PrevPlace (lent_table W.PrevPlace links.now) head head }
@@ -107,9 +107,9 @@ fn refusal_to_pop<W: PrevPlace>(links: &RawTable<'_, W>, head: Place) -> u32
     links.refusal_of(head)
 }
 
-/// Takes out the place that stands on this side of a head, and hands its number out. O(1).
+/// Removes the place on this side of a head, and stores its number in `popped`. O(1).
 ///
-/// It returns [`NULL`] where `head` is [`NONE`](crate::NONE) or has no members. A refused call leaves the words and the number as they are.
+/// It returns [`NULL`] if `head` is [`NONE`](crate::NONE) or has no members. A refused call changes neither the words nor the number.
 #[inline]
 pub fn pop<W: PrevPlace>(table: &mut [W], side: Side, head: u32, popped: &mut u32) -> u32
     ensures { PopCall W.PrevPlace table.old table.new result popped.old popped.new side (place_of head) }
@@ -125,10 +125,9 @@ pub fn pop<W: PrevPlace>(table: &mut [W], side: Side, head: u32, popped: &mut u3
     OK
 }
 
-/// Puts `place` where `at` stands in a ring, which leaves it. O(1).
+/// Inserts `place` where `at` is in a ring, and removes `at`. O(1).
 ///
-/// `place` has to be one of the table, and not linked. It returns [`NULL`] where `at` is [`NONE`](crate::NONE). A refused call leaves the words
-/// as they are.
+/// `place` must belong to the table and must not be linked. It returns [`NULL`] if `at` is [`NONE`](crate::NONE). A refused call changes no word.
 #[inline]
 pub fn replace<W: PrevPlace>(table: &mut [W], at: u32, place: u32) -> u32
     ensures { ReplaceCall W.PrevPlace table.old table.new result (place_of at) (place_of place) }
@@ -143,9 +142,9 @@ pub fn replace<W: PrevPlace>(table: &mut [W], at: u32, place: u32) -> u32
     OK
 }
 
-/// Moves `place`, from whichever ring it stands in, to this side of `at`. O(1).
+/// Moves `place` to this side of `at`, out of any ring of the table. O(1).
 ///
-/// Beside itself it stays. It returns [`NULL`] where one of the two is [`NONE`](crate::NONE). A refused call leaves the words as they are.
+/// If both places are the same, nothing changes. It returns [`NULL`] if one of the two is [`NONE`](crate::NONE). A refused call changes no word.
 #[inline]
 pub fn move_beside<W: PrevPlace>(table: &mut [W], side: Side, at: u32, place: u32) -> u32
     ensures { MoveCall W.PrevPlace table.old table.new result side (place_of at) (place_of place) }
@@ -163,10 +162,10 @@ pub fn move_beside<W: PrevPlace>(table: &mut [W], side: Side, at: u32, place: u3
     OK
 }
 
-/// Moves all members of the head `head` to this side of `at`, which stands in another ring. O(1).
+/// Moves all members of the ring with the head `head` to this side of `at`, which is in another ring. O(1).
 ///
-/// The head stands alone then. It returns [`NULL`] where one of the two is [`NONE`](crate::NONE), and [`BROKEN`](crate::BROKEN) beside the head
-/// itself, and after its last member. A refused call leaves the words as they are.
+/// Their head is then without members. It returns [`NULL`] if one of the two is [`NONE`](crate::NONE), and [`BROKEN`](crate::BROKEN) if `at` is the
+/// head itself or its last member. A refused call changes no word.
 #[inline]
 pub fn splice<W: PrevPlace>(table: &mut [W], side: Side, at: u32, head: u32) -> u32
     ensures { SpliceCall W.PrevPlace table.old table.new result side (place_of at) (place_of head) }

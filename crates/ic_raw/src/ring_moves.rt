@@ -1,5 +1,5 @@
-//! What is made of several edits of rings: pops, replacements, moves and splices over a view of the table. Each tests all that it needs before
-//! it writes, so a refusal leaves the words as they are.
+//! Calls that consist of several edits of rings: pops, replacements, moves and splices over a view of the table. Each tests everything that it needs
+//! before it writes, so a refusal changes no word.
 //!
 //! ```text
 //! let popped = pop(&mut links, Side::After, head);
@@ -20,7 +20,7 @@ use ic_link_ops::linked_list::LinkedListOps;
 use ic_link_ops::{LinkOps, PrevPlace};
 use ic_unsafe_ref::Place;
 
-// Of two neighbors the one that stands on this side of the other.
+// Returns the one of two neighbors that is on this side of the other.
 #[inline]
 fn neighbor_on(side: Side, pair: Pair) -> Place
     ensures { result ≡ neighbor_on side pair }
@@ -31,7 +31,7 @@ fn neighbor_on(side: Side, pair: Pair) -> Place
     }
 }
 
-// Takes out the place that stands on this side of a head, and gives it: none where the head stands alone, or in no ring.
+// Removes the place on this side of a head, and returns it. The result is `None` if the head is in no ring or has no members.
 #[inline]
 pub(crate) fn pop<W: PrevPlace>(
     links: &mut RawTable<'_, W>,
@@ -62,7 +62,8 @@ pub(crate) fn pop<W: PrevPlace>(
     Some(member)
 }
 
-// What stands after `own`, which is to stand where `at` does, after which `next` stands: `own` itself where `at` stands alone.
+// Returns the place that will be after `own` once `own` replaces `at`, whose next place is `next`. If `at` is alone in its ring, this is `own`
+// itself.
 #[inline]
 fn next_without(at: Place, next: Place, own: Place) -> Place
     ensures alone { next ≡ at → result ≡ own }
@@ -71,7 +72,7 @@ fn next_without(at: Place, next: Place, own: Place) -> Place
     if next == at { own } else { next }
 }
 
-// Puts a place where another one stands in a ring, which leaves it, and says whether it could.
+// Inserts a place where another place is in a ring, removes that one, and returns whether it did.
 #[inline]
 pub(crate) fn replace<W: PrevPlace>(
     links: &mut RawTable<'_, W>,
@@ -84,7 +85,7 @@ pub(crate) fn replace<W: PrevPlace>(
     ensures free { result ≡ true → (p : Place) × (place ≡ Some p) × IsFree W.is_linked (lent_table W.PrevPlace links.old) p }
     ensures unlinked { result ≡ true → IsUnlinked W.is_linked (lent_table W.PrevPlace links.new) at }
     ensures before { result ≡ true → (q : Place) × AreLinked W.PrevPlace (lent_table W.PrevPlace links.old) q at }
-    ensures behind { result ≡ true → (q : Place) × AreLinked W.PrevPlace (lent_table W.PrevPlace links.old) at q }
+    ensures after { result ≡ true → (q : Place) × AreLinked W.PrevPlace (lent_table W.PrevPlace links.old) at q }
     ensures touched { (p : Place) → place ≡ Some p → result ≡ true
         → Touches W.is_linked (lent_table W.PrevPlace links.old) (lent_table W.PrevPlace links.new) (acquires p ∷ releases at ∷ [])
         (Some p ∷ Some at ∷ around W.PrevPlace (lent_table W.PrevPlace links.old) at) }
@@ -103,7 +104,7 @@ pub(crate) fn replace<W: PrevPlace>(
     true
 }
 
-// Moves a place, from whichever ring it stands in, to this side of another one, and says whether it could.
+// Moves a place to this side of another one, out of any ring of the table, and returns whether it did.
 #[inline]
 pub(crate) fn move_beside<W: PrevPlace>(
     links: &mut RawTable<'_, W>,
@@ -118,7 +119,7 @@ pub(crate) fn move_beside<W: PrevPlace>(
         → (result ≡ true) × Makes W.PrevPlace (lent_table W.PrevPlace links.old) (lent_table W.PrevPlace links.new) (place ∷ r ++ at ∷ s) (put_in side at place (s ++ r)) }
     ensures itself { (r : List Place) → at ≡ place → IsCircle W.PrevPlace (lent_table W.PrevPlace links.old) (place ∷ r) → (result ≡ true) × (links.new ≡ links.old) }
     ensures before { result ≡ true → (q : Place) × AreLinked W.PrevPlace (lent_table W.PrevPlace links.old) q place }
-    ensures behind { result ≡ true → (q : Place) × AreLinked W.PrevPlace (lent_table W.PrevPlace links.old) place q }
+    ensures after { result ≡ true → (q : Place) × AreLinked W.PrevPlace (lent_table W.PrevPlace links.old) place q }
     ensures linked { result ≡ true → IsLinked W.is_linked (lent_table W.PrevPlace links.old) at }
     ensures touched { result ≡ true → Touches W.is_linked (lent_table W.PrevPlace links.old) (lent_table W.PrevPlace links.new) []
         (Some place ∷ around W.PrevPlace (lent_table W.PrevPlace links.old) place ++ Some at ∷ beside W.PrevPlace side (lent_table W.PrevPlace links.old) at ∷ []) }
@@ -142,8 +143,8 @@ pub(crate) fn move_beside<W: PrevPlace>(
     true
 }
 
-// Moves all members of a head to this side of a place of another ring, and says whether it could: not beside that head itself, nor after its
-// last member.
+// Moves all members of a ring to this side of a place of another ring, and returns whether it did. It does not if that place is the head itself or
+// its last member.
 #[inline]
 pub(crate) fn splice<W: PrevPlace>(
     links: &mut RawTable<'_, W>,
@@ -155,7 +156,7 @@ pub(crate) fn splice<W: PrevPlace>(
         → IsDisjoint (at ∷ r) (given ∷ s)
         → (result ≡ true) × MakesTwo W.PrevPlace (lent_table W.PrevPlace links.old) (lent_table W.PrevPlace links.new) (at ∷ r ++ given ∷ s) (all_put_in side at r s) (given ∷ []) }
     ensures before { result ≡ true → (q : Place) × AreLinked W.PrevPlace (lent_table W.PrevPlace links.old) q given }
-    ensures behind { result ≡ true → (q : Place) × AreLinked W.PrevPlace (lent_table W.PrevPlace links.old) given q }
+    ensures after { result ≡ true → (q : Place) × AreLinked W.PrevPlace (lent_table W.PrevPlace links.old) given q }
     ensures linked { result ≡ true → IsLinked W.is_linked (lent_table W.PrevPlace links.old) at }
     ensures other { result ≡ true → at ≢ given }
     ensures touched { result ≡ true → Touches W.is_linked (lent_table W.PrevPlace links.old) (lent_table W.PrevPlace links.new) []

@@ -6,10 +6,11 @@
 
 ghost use Rattle.std.specs.Prelude.{◌≡◌, ◌≢◌, ◌⊎◌, ◌≤◌, ◌∷◌, [], List, Bool, Option, Some, length, None, IfSome, true, false};
 ghost use Rattle.ic_link_ops.specs.Prelude.{Place, is_placed, at_indexes, Cut, join, LinksAlso};
+ghost use Rattle.ic_link_ops.specs.Frames.{child_on};
 ghost use Rattle.ic_link_ops.specs.RedBlackTree as trees;
 ghost use Rattle.ic_rbtree.specs.Closed.{IsIn, AreIn, IsClosed};
 ghost use Rattle.ic_rbtree.specs.Comparing.{goes_left};
-ghost use Rattle.ic_rbtree.specs.Descents.{gap_in};
+ghost use Rattle.ic_rbtree.specs.Descents.{gap_in, side_of};
 ghost use Rattle.ic_rbtree.specs.Ordered.{InsertsInOrder};
 ghost use Rattle.ic_rbtree.specs.Tree.{root_of};
 ghost use Rattle.ic_raw.specs.declared.status.TheConstants.{OK, NULL};
@@ -17,11 +18,11 @@ ghost use Rattle.ic_raw.specs.Answers.{HandsOut, refusal};
 ghost use Rattle.ic_raw.specs.Gaps.{IsNoneOrLinked};
 ghost use Rattle.ic_raw.specs.declared.search.Way.{Way};
 ghost use Rattle.ic_raw.specs.Keys.{against, key_of, keys_fault, at_root, past, EndsIn, EndsBelow, HasTurned, IsTarget, Meets, NamesTarget, equals_of, SearchEnds};
-ghost use Rattle.ic_raw.specs.Seen.{seen, seen_node, has_place, StaysWithin, HandsOutReached};
+ghost use Rattle.ic_raw.specs.Seen.{seen, seen_node, named_within, has_place, StaysWithin, HandsOutReached};
 ghost use Rattle.ic_raw.specs.Surgery.{TellsOfInsertion};
 ghost use Rattle.ic_raw.specs.Tables.{IsFree, place_fault};
 ghost use Rattle.ic_raw.specs.Tree.{Represents, IsInsertPos, lent_table};
-ghost use Rattle.ic_raw.specs.Words.{is_linked_three, place_of};
+ghost use Rattle.ic_raw.specs.Words.{is_linked_three, place_in, place_of};
 
 use crate::status::{BROKEN, NONE, OUT_OF_RANGE};
 use crate::surgery::Surgery;
@@ -33,32 +34,40 @@ use ic_rbtree::NodeStore;
 use ic_unsafe_ref::{Place, Values};
 use std::cmp::Ordering;
 
-// A search makes no more looks. In a tree of the right shape no way down is as long.
-const LOOKS: u32 = 66;
+// The most turns of a search, of three comparisons each. In a valid red-black tree every way down is shorter.
+const TURNS: u32 = 22;
 
-/// Which member a search is for.
+/// The member that a search returns.
 #[derive(Clone, Copy)]
 pub enum Target {
-    /// The first one with the key.
+    /// The first member with the key.
     Equal,
-    /// The first one with a key of at least that.
+    /// The first member whose key is at least the given one.
     AtLeast,
-    /// The last one with a key of at most that.
+    /// The last member whose key is at most the given one.
     AtMost,
 }
 
-/// Where a search from the root has come to: a gap between two members.
+/// The gap between two members that a search from the root has reached.
 #[derive(Drop)]
 pub struct Way {
-    // The member below which the gap is, none in an empty tree, and the side of that member.
+    // The member below which the gap is, or `None` in an empty tree, and the side of that member on which the gap is.
     parent: PlaceWord,
     side: Side,
-    // The members before the gap, and after it.
+    // The members before and after the gap.
     front: PlaceWord,
     back: PlaceWord,
 }
 
-// Whether there is a key for each place, and the root is none or linked.
+// The words for both children of a place, and the one of the two to which a search goes.
+#[derive(Clone, Copy)]
+struct Children {
+    left: u64,
+    right: u64,
+    picked: u64,
+}
+
+// Returns whether there is a key for each place, and the root is `None` or linked.
 #[inline]
 pub(crate) fn is_searchable(links: &RawTable<'_, RawThree>, tree: &Tree, keys: &[u64]) -> bool
     ensures keys { result ≡ true → (lent_table links.now).extent.places ≤ length keys.now }
@@ -72,7 +81,7 @@ pub(crate) fn is_searchable(links: &RawTable<'_, RawThree>, tree: &Tree, keys: &
     links.stands(tree.root())
 }
 
-// Why a tree is not searched: by the fault of the keys, or as [`BROKEN`].
+// Returns why a tree is not searched: the fault of the keys, or else [`BROKEN`].
 #[cold]
 #[inline(never)]
 fn refusal(links: &RawTable<'_, RawThree>, keys: &[u64]) -> u32
@@ -85,7 +94,7 @@ fn refusal(links: &RawTable<'_, RawThree>, keys: &[u64]) -> u32
     BROKEN
 }
 
-// Why a place does not go in by its key: by the fault of the keys or of the place, or as [`BROKEN`].
+// Returns why a place is not inserted by its key: the fault of the keys, else that of the place, or else [`BROKEN`].
 #[cold]
 #[inline(never)]
 pub(crate) fn refusal_of(links: &RawTable<'_, RawThree>, keys: &[u64], place: u32) -> u32
@@ -99,7 +108,7 @@ pub(crate) fn refusal_of(links: &RawTable<'_, RawThree>, keys: &[u64], place: u3
     links.refusal(NONE, place)
 }
 
-// How a key stands to that of a place.
+// Compares a key with that of a place.
 #[inline]
 fn compare_at(keys: &[u64], key: u64, place: Place) -> Ordering
     requires { is_placed (at_indexes keys.now) place ≡ true }
@@ -108,7 +117,7 @@ fn compare_at(keys: &[u64], key: u64, place: Place) -> Ordering
     key.cmp(keys.value(place))
 }
 
-// Whether the search goes left at a member to which the key stands so, past equal ones to this side.
+// Returns whether the search goes left at a member, by the result of its comparison. At equal keys it goes to this side.
 #[inline]
 fn goes_left(order: Ordering, equals: Side) -> bool
     ensures { result ≡ goes_left equals order }
@@ -120,7 +129,7 @@ fn goes_left(order: Ordering, equals: Side) -> bool
 }
 
 impl Way {
-    // At the root, past no member.
+    // The start of a search, at the root.
     #[inline]
     fn new() -> Way
         ensures { result ≡ at_root }
@@ -133,7 +142,7 @@ impl Way {
         }
     }
 
-    // Goes past a member to one side of it.
+    // Goes from a member down to one side of it.
     #[inline]
     fn pass(&mut self, place: Place, left: bool)
         ensures { self.new ≡ past self.old place left }
@@ -148,7 +157,7 @@ impl Way {
         }
     }
 
-    // Whether a place can go into the gap: below a linked place, or into a tree without a root.
+    // Returns whether a place can be inserted into the gap: it is below a linked place, or the tree has no root.
     #[inline]
     fn is_open(&self, links: &RawTable<'_, RawThree>, tree: &Tree) -> bool
         requires { IsIn (has_place (lent_table links.now)) self.now.parent }
@@ -162,9 +171,53 @@ impl Way {
     }
 }
 
-// Goes down from the root to the gap to which the key sends, past equal ones to this side. [`RBTree::descend`](ic_rbtree::RBTree::descend)
-// does so for any probe in a table that represents the tree, and keeps the last equal member as well, which takes more instructions a look. It is
-// `None` if the way is longer than that of any tree.
+// Compares the key with that of a place, and goes past this place. It picks the word for the child there without a branch. For keys at random a
+// processor would predict every second such branch wrongly.
+#[inline]
+fn look_at(
+    links: &RawTable<'_, RawThree>,
+    keys: &[u64],
+    key: u64,
+    equals: Side,
+    place: Place,
+    way: &mut Way,
+) -> Children
+    requires keys { (lent_table links.now).extent.places ≤ length keys.now }
+    requires here { has_place (lent_table links.now) place ≡ true }
+    ensures passed { way.new ≡ past way.old place (goes_left equals (against key keys.now place)) }
+    ensures below { named_within (lent_table links.now).extent.places (place_in result.picked)
+        ≡ child_on (side_of (goes_left equals (against key keys.now place))) (seen_node ((seen (lent_table links.now)).entry place)) }
+    ensures either { (result.picked ≡ result.left) ⊎ (result.picked ≡ result.right) }
+{
+    let words = links.at(place);
+    let (left, right) = (words.left, words.right);
+    let goes_left = goes_left(compare_at(keys, key, place), equals);
+    way.pass(place, goes_left);
+    let picked = if goes_left { left } else { right };
+    Children {
+        left,
+        right,
+        picked,
+    }
+}
+
+// Returns the way at its end. The test never holds, but it reads the words for both children. Without it the compiler would load only one word, from
+// an address that depends on the comparison.
+#[inline]
+fn end(children: Children, way: Way) -> Option<Way>
+    requires { (children.picked ≡ children.left) ⊎ (children.picked ≡ children.right) }
+    ensures { result ≡ Some way }
+{
+    let number = children.picked / 8 % 8_589_934_592 * 8;
+    if number > children.left && number > children.right {
+        return None;
+    }
+    Some(way)
+}
+
+// Goes down from the root to the gap where the key belongs, at equal keys to this side. [`RBTree::descend`](ic_rbtree::RBTree::descend) does so for
+// any probe in a table that represents the tree, and also keeps the last equal member, which takes more instructions for each comparison. The result
+// is `None` if the way is longer than in any valid tree.
 #[inline]
 fn descend(
     links: &RawTable<'_, RawThree>,
@@ -188,26 +241,25 @@ fn descend(
         return Some(way);
     };
     let mut place = root;
-    for _ in 0..LOOKS {
-        let left = goes_left(compare_at(keys, key, place), equals);
-        way.pass(place, left);
-        // Each side has code of its own, in which one test tells that the table has no place there.
-        if left {
-            let Some(next) = links.left(place) else {
-                return Some(way);
-            };
-            place = next;
-        } else {
-            let Some(next) = links.right(place) else {
-                return Some(way);
-            };
-            place = next;
-        }
+    for _ in 0..TURNS {
+        let first = look_at(links, keys, key, equals, place, &mut way);
+        let Some(second) = links.named(first.picked) else {
+            return end(first, way);
+        };
+        let next = look_at(links, keys, key, equals, second, &mut way);
+        let Some(third) = links.named(next.picked) else {
+            return end(next, way);
+        };
+        let last = look_at(links, keys, key, equals, third, &mut way);
+        let Some(below) = links.named(last.picked) else {
+            return end(last, way);
+        };
+        place = below;
     }
     None
 }
 
-// Where a search goes past equal keys.
+// The side to which a search goes at equal keys.
 #[inline]
 fn equals_of(target: Target) -> Side
     ensures { result ≡ equals_of target }
@@ -218,7 +270,7 @@ fn equals_of(target: Target) -> Side
     }
 }
 
-// The member that is searched, `Some(None)` where there is none. It is `None` if the words lead to no end.
+// Returns the member that the search is for, or `Some(None)` if there is none. It is `None` if the links lead to no end.
 #[inline]
 pub(crate) fn find(
     links: &RawTable<'_, RawThree>,
@@ -254,7 +306,7 @@ pub(crate) fn find(
     }
 }
 
-// Hands out the member that is searched.
+// Stores the number of the member that the search is for.
 #[inline]
 pub(crate) fn look(
     links: &RawTable<'_, RawThree>,
@@ -283,7 +335,7 @@ pub(crate) fn look(
     tree::hand_out(links, member, found)
 }
 
-// Puts the place in after all members with no greater key than its own, and says whether it could.
+// Inserts the place by its key, after all members whose key is not greater, and returns whether it did.
 #[inline]
 pub(crate) fn insert<S: Surgery>(
     surgery: &mut S,

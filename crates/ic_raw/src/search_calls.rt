@@ -1,8 +1,8 @@
-//! What the calls of red-black trees by keys do. The keys stand in an array of their own, one for each place.
+//! The calls of red-black trees that search and insert by keys. The keys are in a separate array with one key for each place.
 //!
 //! ```text
 //! insert(table, keys, tree, 7)                                 // OK: in the order of keys[0], keys[1] ..
-//! look_for(table, keys, tree, 20, Target::AtLeast, &mut found) // OK, and found is 7 where keys[7] is 30
+//! find_target(table, keys, tree, 20, Target::AtLeast, &mut found) // OK, and found is 7 where keys[7] is 30
 //! ```
 
 ghost use Rattle.std.specs.Prelude.{◌≡◌, Some};
@@ -20,9 +20,9 @@ use crate::table::RawTable;
 use crate::tree_calls::tree_of;
 use crate::words::{RawRoot, RawThree};
 
-/// Puts a place in after all members with no greater key than its own. O(log n).
+/// Inserts a place by its key, after all members whose key is not greater. O(log n).
 ///
-/// The place has to be one of the table, and not linked, and there has to be a key for each place of the table.
+/// The place must belong to the table and must not be linked, and there must be a key for each place of the table.
 #[inline]
 pub fn insert(table: &mut [RawThree], keys: &[u64], tree: &mut RawRoot, place: u32) -> u32
     ensures { PutCall keys.now table.old table.new result tree.old tree.new (place_of place) }
@@ -30,7 +30,7 @@ pub fn insert(table: &mut [RawThree], keys: &[u64], tree: &mut RawRoot, place: u
     insert_by(&mut Plain, table, keys, tree, place)
 }
 
-/// The same by surgery of the caller's, which sees what is written.
+/// The same call, with an implementation of [`Surgery`] of the caller's, which sees which words the edit writes.
 #[inline]
 pub fn insert_by<S: Surgery>(
     by: &mut S,
@@ -52,13 +52,14 @@ pub fn insert_by<S: Surgery>(
     OK
 }
 
-/// Hands out the member that is searched for this key, or returns [`NULL`](crate::NULL) where there is none. It writes nothing else. O(log n).
+/// Stores the number of the member that `target` names for this key in `found`, or returns [`NULL`](crate::NULL) if there is none. It writes nothing
+/// else. O(log n).
 ///
-/// There has to be a key for each place of the table, and from one member to the next the keys must not fall, else it may find another one
+/// There must be a key for each place of the table, and the keys must not decrease from one member to the next. Otherwise it may find another member
 /// or none. Without a key for each it returns [`OUT_OF_RANGE`](crate::OUT_OF_RANGE), and where the words represent no tree it may return
 /// [`BROKEN`](crate::BROKEN).
 #[inline]
-pub fn look_for(
+pub fn find_target(
     table: &mut [RawThree],
     keys: &[u64],
     tree: &RawRoot,

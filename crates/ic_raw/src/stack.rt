@@ -24,10 +24,10 @@ use ic_link_ops::singly_linked_list::SinglyLinkedListOps;
 use ic_singly_linked_list::SinglyLinkedList;
 use ic_unsafe_ref::Place;
 
-/// A list of the caller's.
+/// A list that belongs to the caller.
 pub type Stack = SinglyLinkedList<()>;
 
-// What stands after a place, the first of the list at none.
+// Returns the place after a place, or the first place of the list for `None`.
 #[inline]
 fn next_of(links: &RawTable<'_, RawOne>, list: &Stack, place: Option<Place>) -> Option<Place>
     requires { IsNoneOrLinked is_linked_one (lent_table links.now) place }
@@ -39,7 +39,7 @@ fn next_of(links: &RawTable<'_, RawOne>, list: &Stack, place: Option<Place>) -> 
     }
 }
 
-// The gap after a place, at none the first one. None where a side of it is a place that is not linked.
+// Returns the gap after a place, or the gap before all members for `None`. The result is `None` if a place on one of its sides is not linked.
 #[inline]
 pub(crate) fn gap_after(
     links: &RawTable<'_, RawOne>,
@@ -48,22 +48,22 @@ pub(crate) fn gap_after(
 ) -> Option<Gap>
     ensures links_back { (gap : Gap) → result ≡ Some gap → TellsGap (lent_table links.now) list.now at }
     ensures is { (gap : Gap) → result ≡ Some gap
-        → gap ≡ record { before = at; behind = next_from (lent_table links.now) list.now at } }
+        → gap ≡ record { before = at; after = next_from (lent_table links.now) list.now at } }
     ensures found { TellsGap (lent_table links.now) list.now at
-        → result ≡ Some (record { before = at; behind = next_from (lent_table links.now) list.now at }) }
+        → result ≡ Some (record { before = at; after = next_from (lent_table links.now) list.now at }) }
     ensures shown { (cut : Cut) → Represents (lent_table links.now) list.now (join cut) → IsAfter cut at → result ≡ Some (gap_of cut) }
 {
     if !links.stands(at) {
         return None;
     }
-    let behind = next_of(links, list, at);
-    if !links.stands(behind) {
+    let after = next_of(links, list, at);
+    if !links.stands(after) {
         return None;
     }
-    Some(Gap { before: at, behind })
+    Some(Gap { before: at, after })
 }
 
-// Puts the place into the gap after another one, and says whether it could.
+// Inserts the place into the gap after another one, and returns whether it did.
 #[inline]
 pub(crate) fn insert(
     links: &mut RawTable<'_, RawOne>,
@@ -87,11 +87,11 @@ pub(crate) fn insert(
     let Some(place) = links.acquire(place) else {
         return false;
     };
-    list.insert_linked(links, gap.before, place, gap.behind);
+    list.insert_linked(links, gap.before, place, gap.after);
     true
 }
 
-// Takes the member after a place off, at none the first one.
+// Removes the member after a place, or the first member for `None`.
 #[inline]
 pub(crate) fn remove(
     links: &mut RawTable<'_, RawOne>,
@@ -108,13 +108,13 @@ pub(crate) fn remove(
     ensures touched { Touches is_linked_one (lent_table links.old) (lent_table links.new) (releases member ∷ []) (Some member ∷ at ∷ []) }
     ensures extent { (lent_table links.new).extent ≡ (lent_table links.old).extent }
 {
-    let behind = links.next(member);
-    list.bypass(links, at, member, behind);
+    let after = links.next(member);
+    list.bypass(links, at, member, after);
     links.release_link(member);
 }
 
-// Puts the place where the member after another one is, at none where the first is, and says whether it could. That member is unlinked
-// then.
+// Inserts the place where the member after another place is, or where the first member is for `None`, and removes that member. It returns whether it
+// did.
 #[inline]
 pub(crate) fn replace(
     links: &mut RawTable<'_, RawOne>,
@@ -136,16 +136,16 @@ pub(crate) fn replace(
     ensures refused { result ≡ false → (links.new ≡ links.old) × (list.new ≡ list.old) }
     ensures extent { (lent_table links.new).extent ≡ (lent_table links.old).extent }
 {
-    let behind = links.next(member);
+    let after = links.next(member);
     let Some(place) = links.acquire(place) else {
         return false;
     };
-    list.replace_linked(links, at, member, place, behind);
+    list.replace_linked(links, at, member, place, after);
     links.release_link(member);
     true
 }
 
-/// The last member of the list with this front, if its places lead to an end within as many steps as the table has places.
+/// Returns the last member of the list that begins with this place, if its links lead to an end within as many steps as the table has places.
 pub fn last_from(links: &RawTable<'_, RawOne>, front: Place) -> Option<Place>
     ensures ended { (end : Place) → result ≡ Some end
         → (s : List Place) × Represents (lent_table links.now) (list_from (Some front)) s × (Some end ≡ last s) }
@@ -166,7 +166,7 @@ pub fn last_from(links: &RawTable<'_, RawOne>, front: Place) -> Option<Place>
     None
 }
 
-// Puts all of the given list into the gap after a place, and says whether it could.
+// Moves all members of the given list into the gap after a place, and returns whether it did.
 #[inline]
 pub(crate) fn splice(
     links: &mut RawTable<'_, RawOne>,
@@ -198,11 +198,12 @@ pub(crate) fn splice(
     let Some(back) = last_from(&*links, front) else {
         return false;
     };
-    list.splice_between(links, gap.before, given, Some(back), gap.behind);
+    list.splice_between(links, gap.before, given, Some(back), gap.after);
     true
 }
 
-// Cuts the list at the gap after a place, and says whether it could. It keeps what is before the cut, and the rest is handed out.
+// Cuts the list at the gap after a place, and returns whether it did. The list keeps the members before the gap, and the function returns the rest as
+// a list.
 #[inline]
 pub(crate) fn split(
     links: &mut RawTable<'_, RawOne>,
@@ -222,6 +223,6 @@ pub(crate) fn split(
     let Some(gap) = gap_after(&*links, &*list, at) else {
         return false;
     };
-    *rest = list.split_between(links, gap.before, gap.behind);
+    *rest = list.split_between(links, gap.before, gap.after);
     true
 }

@@ -1,4 +1,4 @@
-//! What the calls of singly linked lists do: edits at places that are numbers, of a list that is one word.
+//! The calls of singly linked lists. A place is a number, and a list is one word.
 //!
 //! ```text
 //! push_front(table, list, 7)        // OK
@@ -18,7 +18,7 @@ use crate::words::{RawFront, RawOne};
 use crate::{stack, whole};
 use ic_singly_linked_list::SinglyLinkedList;
 
-/// The list of its word.
+/// Returns the list that its word represents.
 #[inline]
 pub fn stack_of(words: &RawFront) -> stack::Stack
     ensures { result ≡ list_from (front_of words.now) }
@@ -26,7 +26,7 @@ pub fn stack_of(words: &RawFront) -> stack::Stack
     SinglyLinkedList::from_front(place_in(words.head))
 }
 
-/// Writes the front of the list as its word.
+/// Writes the word of the list's first place.
 #[inline]
 pub fn write_back(words: &mut RawFront, list: stack::Stack)
     ensures set { front_of words.new ≡ list.head }
@@ -35,9 +35,9 @@ pub fn write_back(words: &mut RawFront, list: stack::Stack)
     words.set(list.first());
 }
 
-/// Puts a place before all members. O(1).
+/// Inserts a place at the front. O(1).
 ///
-/// The place has to be one of the table, and not linked. Where the first member is not linked, it returns [`BROKEN`].
+/// The place must belong to the table and must not be linked. If the first member is not linked, it returns [`BROKEN`].
 #[inline]
 pub fn push_front(table: &mut [RawOne], list: &mut RawFront, place: u32) -> u32
     ensures { InsertCall table.old table.new list.old list.new result None (place_of place) }
@@ -51,7 +51,7 @@ pub fn push_front(table: &mut [RawOne], list: &mut RawFront, place: u32) -> u32
     OK
 }
 
-// Takes the first member off any list, or says why not.
+// Removes the first member of any list, or returns the status of the refusal.
 #[cold]
 #[inline(never)]
 fn pop_front_slow(table: &mut [RawOne], list: &mut RawFront, popped: &mut u32) -> u32
@@ -60,9 +60,9 @@ fn pop_front_slow(table: &mut [RawOne], list: &mut RawFront, popped: &mut u32) -
     remove_after(table, list, NONE, popped)
 }
 
-/// Takes the first member off and hands it out, or returns [`NULL`] where there is none. O(1).
+/// Removes the first member and stores its number in `popped`, or returns [`NULL`] if there is none. O(1).
 ///
-/// Where the first member is not linked, it returns [`BROKEN`].
+/// If the first member is not linked, it returns [`BROKEN`].
 #[inline]
 pub fn pop_front(table: &mut [RawOne], list: &mut RawFront, popped: &mut u32) -> u32
     ensures { PopCall table.old table.new list.old list.new result popped.old popped.new }
@@ -80,10 +80,9 @@ pub fn pop_front(table: &mut [RawOne], list: &mut RawFront, popped: &mut u32) ->
     pop_front_slow(links.entries, list, popped)
 }
 
-/// Puts a place after the member `at`, at [`NONE`] before all. O(1).
+/// Inserts a place after the member `at`, or at the front if `at` is [`NONE`]. O(1).
 ///
-/// The place has to be one of the table, and not linked. Where what stands after `at` is not linked, it returns
-/// [`BROKEN`].
+/// The place must belong to the table and must not be linked. If the place after `at` is not linked, it returns [`BROKEN`].
 #[inline]
 pub fn insert_after(table: &mut [RawOne], list: &mut RawFront, at: u32, place: u32) -> u32
     ensures { InsertCall table.old table.new list.old list.new result (place_of at) (place_of place) }
@@ -97,9 +96,10 @@ pub fn insert_after(table: &mut [RawOne], list: &mut RawFront, at: u32, place: u
     OK
 }
 
-/// Takes the member after `at` off, at [`NONE`] the first one, and hands it out, or returns [`NULL`] where there is none. O(1).
+/// Removes the member after `at`, or the first member if `at` is [`NONE`], and stores its number in `removed`, or returns [`NULL`] if there is none.
+/// O(1).
 ///
-/// Where what stands after `at` is not linked, it returns [`BROKEN`].
+/// If the place after `at` is not linked, it returns [`BROKEN`].
 #[inline]
 pub fn remove_after(table: &mut [RawOne], list: &mut RawFront, at: u32, removed: &mut u32) -> u32
     ensures { RemoveCall table.old table.new list.old list.new result (place_of at) removed.old removed.new }
@@ -109,7 +109,7 @@ pub fn remove_after(table: &mut [RawOne], list: &mut RawFront, at: u32, removed:
     let Some(gap) = stack::gap_after(&links, &edited, place_of(at)) else {
         return links.refusal_at(at);
     };
-    let Some(member) = gap.behind else {
+    let Some(member) = gap.after else {
         return NULL;
     };
     stack::remove(&mut links, &mut edited, gap.before, member);
@@ -118,11 +118,10 @@ pub fn remove_after(table: &mut [RawOne], list: &mut RawFront, at: u32, removed:
     OK
 }
 
-/// Puts a place where the member after `at` is, at [`NONE`] where the first is, and hands out that member, which is unlinked then.
-/// Returns [`NULL`] where there is none. O(1).
+/// Inserts a place where the member after `at` is, or where the first member is if `at` is [`NONE`]. It removes that member and stores its number in
+/// `replaced`. It returns [`NULL`] if there is none. O(1).
 ///
-/// The place has to be one of the table, and not linked. Where what stands after `at` is not linked, it returns
-/// [`BROKEN`].
+/// The place must belong to the table and must not be linked. If the place after `at` is not linked, it returns [`BROKEN`].
 #[inline]
 pub fn replace_after(
     table: &mut [RawOne],
@@ -138,7 +137,7 @@ pub fn replace_after(
     let Some(gap) = stack::gap_after(&links, &edited, place_of(at)) else {
         return links.refusal(at, place);
     };
-    let Some(member) = gap.behind else {
+    let Some(member) = gap.after else {
         return NULL;
     };
     if !stack::replace(&mut links, &mut edited, gap.before, member, place_of(place)) {
@@ -149,10 +148,10 @@ pub fn replace_after(
     OK
 }
 
-/// Puts all of the given list after the member `at`, at [`NONE`] before all, and leaves the given one empty.
+/// Moves all members of `given` after the member `at`, or to the front if `at` is [`NONE`], and leaves `given` empty.
 ///
-/// One reading for each of its members. Where what stands after `at` is not linked, it returns [`BROKEN`], and so it does
-/// of a given list that begins with the same member, as the list itself, or whose places lead to no end.
+/// It reads one entry of the table for each member of `given`. If the place after `at` is not linked, it returns [`BROKEN`]. It also does if both
+/// lists begin with the same member, as if `given` is the list itself, or if the links of `given` lead to no end.
 #[inline]
 pub fn splice_after(table: &mut [RawOne], list: &mut RawFront, at: u32, given: &mut RawFront) -> u32
     ensures { SpliceCall table.old table.new list.old list.new result (place_of at) given.old given.new }
@@ -168,9 +167,9 @@ pub fn splice_after(table: &mut [RawOne], list: &mut RawFront, at: u32, given: &
     OK
 }
 
-/// Hands out what stands after the member `at`, at [`NONE`] all of the list. O(1).
+/// Moves all members after the member `at` to `rest`, or all members of the list if `at` is [`NONE`]. O(1).
 ///
-/// Where `rest` is not empty, or what stands after `at` is not linked, it returns [`BROKEN`].
+/// If `rest` is not empty, or the place after `at` is not linked, it returns [`BROKEN`].
 #[inline]
 pub fn split_after(table: &mut [RawOne], list: &mut RawFront, at: u32, rest: &mut RawFront) -> u32
     ensures { SplitCall table.old table.new list.old list.new result (place_of at) rest.old rest.new }
@@ -187,9 +186,9 @@ pub fn split_after(table: &mut [RawOne], list: &mut RawFront, at: u32, rest: &mu
     OK
 }
 
-/// Takes all members off, which are unlinked then. O(n).
+/// Removes and unlinks all members. O(n).
 ///
-/// Where the places lead to no end, it returns [`BROKEN`].
+/// If the links lead to no end of the list, it returns [`BROKEN`].
 #[inline]
 pub fn clear(table: &mut [RawOne], list: &mut RawFront) -> u32
     ensures { ClearCall table.old table.new list.old list.new result }

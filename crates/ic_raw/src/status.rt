@@ -1,26 +1,26 @@
-//! What the calls return.
+//! The statuses that the calls return.
 //!
 //! ```text
 //! if (ic_list_push_back(links, places, &list, place) != IC_OK) ..
 //! ```
 
-/// The call did what it is for.
+/// The call was accepted and has made its edit or found its member.
 pub const OK: u32 = 0;
 
-/// A place is none of the table.
+/// A place that the caller names does not belong to the table, an array has fewer elements than the table has places, or there are no buckets.
 pub const OUT_OF_RANGE: u32 = 1;
 
-/// A place that has to go in is linked already.
+/// The place to insert is already linked.
 pub const LINKED: u32 = 2;
 
-/// A place that has to be a member is not linked.
+/// A place that must be a member is not linked.
 pub const NOT_LINKED: u32 = 3;
 
-/// There is no member where the call looks for one.
+/// The caller named no place where one is needed, or there is no member of the kind that the call looks for.
 pub const NULL: u32 = 4;
 
-/// The words contradict one another: what is said to be a member is none of this list.
+/// The links contradict one another or the arguments: for example, the named member is not a member of this list.
 pub const BROKEN: u32 = 5;
 
-/// The number that names no place.
+/// The number that stands for no place.
 pub const NONE: u32 = 4_294_967_295;

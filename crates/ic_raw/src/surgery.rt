@@ -1,4 +1,4 @@
-//! The surgery of a tree over a view of the table, by whoever wants to see what it writes.
+//! Inserts and removals of tree members over a view of the table, with a trait by which a caller can see which words they write.
 //!
 //! ```text
 //! search_calls::insert_by(&mut Plain, table, keys, tree, 7) // as `insert`
@@ -20,12 +20,12 @@ use ic_link_ops::Side;
 use ic_rbtree::RBTree;
 use ic_unsafe_ref::Place;
 
-/// Who puts places into a tree and takes members out, over a view of the table.
+/// An implementation of insertions and removals in a tree, over a view of the table.
 pub trait Surgery {
-    // What it tells, from one state of its own to another, of what was written between two states of the table.
+    // What the implementation, between two states of its own, has recorded about the words written between two states of the table.
     ghost Tells: { Self → Self → Table RawThree → Table RawThree → Type 0 };
 
-    /// Puts the place in, as [`RBTree::attach`] does. O(log n).
+    /// Inserts the place, as [`RBTree::attach`] does. O(log n).
     fn attach(
         &mut self,
         links: &mut RawTable<'_, RawThree>,
@@ -40,7 +40,7 @@ pub trait Surgery {
         ensures keeps_links { KeepsMarks (lent_table links.old) (lent_table links.new) }
         ensures told { Tells self.old self.new (lent_table links.old) (lent_table links.new) };
 
-    /// Takes the member out, as [`RBTree::unlink`] does. O(log n).
+    /// Removes the member, as [`RBTree::unlink`] does. O(log n).
     fn unlink(&mut self, links: &mut RawTable<'_, RawThree>, tree: &mut RBTree<()>, place: Place)
         requires { IsSafe seen_node (seen (lent_table links.old)) (root_of tree.old) (Some place ∷ []) }
         ensures taken { TakesAway seen_node (seen (lent_table links.old)) (seen (lent_table links.new)) (root_of tree.old) (root_of tree.new) place }
@@ -49,14 +49,14 @@ pub trait Surgery {
         ensures told { Tells self.old self.new (lent_table links.old) (lent_table links.new) };
 }
 
-/// The surgery alone, which tells nothing.
+/// The plain insertions and removals, which record nothing.
 #[derive(Drop)]
 pub struct Plain;
 
 impl Surgery for Plain {
     ghost Tells = { λ a b old new. Unit {0} };
 
-    #[inline]
+    #[inline(always)]
     fn attach(
         &mut self,
         links: &mut RawTable<'_, RawThree>,

@@ -25,8 +25,8 @@ use ic_unsafe_ref::Place;
 
 /// A view of the words of a table, with one element for each place.
 ///
-/// Words of 4 bytes have room for the first 536,870,911 places alone. Others are none of the table. It has the link traits that its words
-/// can keep, as `LentTable` of `ic_link_ops` has over links. Links are a generic type, which does not cross to C.
+/// Words of 4 bytes can name only the first 536,870,911 places. Later places do not belong to the table. The view implements the link traits of the
+/// collections that its words can serve. `LentTable` of `ic_link_ops` does the same over a generic type of links, which C cannot pass.
 pub struct RawTable<'a, W> {
     pub(crate) entries: &'a mut [W],
 }
@@ -40,7 +40,7 @@ impl<W> Drop for RawTable<'_, W> {
 }
 
 impl<'a, W> RawTable<'a, W> {
-    /// A view of these words. O(1).
+    /// Makes a view of these words. O(1).
     #[inline]
     pub fn new(words: &'a mut [W]) -> RawTable<'a, W>
         ensures { IsView words.entry result }
@@ -50,7 +50,7 @@ impl<'a, W> RawTable<'a, W> {
 }
 
 impl<W: Words> RawTable<'_, W> {
-    /// How many places the table has. O(1).
+    /// Returns how many places the table has. O(1).
     #[inline]
     #[tactic(auto, using(ic_link_ops::proofs::WidthLemmas::nameable_count))]
     pub fn places(&self) -> usize
@@ -59,16 +59,16 @@ impl<W: Words> RawTable<'_, W> {
         W::count_nameable(self.entries.len())
     }
 
-    /// Whether `place` is one of the table. O(1).
+    /// Returns whether `place` belongs to the table. O(1).
     #[inline]
     pub fn covers(&self, place: Place) -> bool
         ensures { IsTrue result ↔ IsCovered (nameable_table W.width W.unlinked self.now) place }
     {
-        // An index counts from 0, a word from 1: so stated, the test takes an instruction less.
+        // Indices begin at 0 and words at 1. Written like this, the test takes one instruction less.
         place.index() + 1 <= self.places()
     }
 
-    // The words of `place`.
+    // Returns the words of `place`.
     #[inline]
     #[tactic(auto, using(ic_link_ops::proofs::WidthLemmas::nameable_fits, ic_link_ops::proofs::WidthLemmas::nameable_read))]
     pub(crate) fn at(&self, place: Place) -> &W
@@ -79,7 +79,7 @@ impl<W: Words> RawTable<'_, W> {
         &entries[place.index()]
     }
 
-    // The index of the words of a place.
+    // Returns the index at which the words of a place are.
     #[inline]
     #[tactic(auto, using(ic_link_ops::proofs::WidthLemmas::nameable_fits))]
     fn slot(&self, place: Place) -> usize
@@ -100,7 +100,7 @@ impl<W: Words> RawTable<'_, W> {
         place.index()
     }
 
-    /// Whether `place` is a linked place of the table. O(1).
+    /// Returns whether `place` is a linked place of the table. O(1).
     #[inline]
     pub fn is_linked(&self, place: Place) -> bool
         ensures { result ≡ W.is_linked ((nameable_table W.width W.unlinked self.now).entry place) }
@@ -111,7 +111,7 @@ impl<W: Words> RawTable<'_, W> {
         self.at(place).is_linked()
     }
 
-    /// Whether `place` is none or a linked place of the table. O(1).
+    /// Returns whether `place` is `None` or a linked place of the table. O(1).
     #[inline]
     pub fn stands(&self, place: Option<Place>) -> bool
         ensures { (result ≡ true) ↔ IsNoneOrLinked W.is_linked (nameable_table W.width W.unlinked self.now) place }
@@ -122,7 +122,7 @@ impl<W: Words> RawTable<'_, W> {
         }
     }
 
-    /// Links `place` and gives it, if it is one of the table and not linked. O(1).
+    /// Marks `place` as linked and returns it, if it belongs to the table and is not linked. O(1).
     #[inline]
     pub fn acquire(&mut self, place: Option<Place>) -> Option<Place>
         ensures accepted { (p : Place) → place ≡ Some p → IsFree W.is_linked (nameable_table W.width W.unlinked self.old) p → result ≡ Some p }
@@ -142,7 +142,7 @@ impl<W: Words> RawTable<'_, W> {
         Some(place)
     }
 
-    /// [`OK`] where `member` is none or a linked place of the table, else its fault. O(1).
+    /// Returns [`OK`] if `member` is `None` or a linked place of the table, or else its fault. O(1).
     #[inline]
     pub fn member_fault(&self, member: Option<Place>) -> u32
         ensures fault { result ≡ member_fault W.is_linked (nameable_table W.width W.unlinked self.now) member }
@@ -161,7 +161,7 @@ impl<W: Words> RawTable<'_, W> {
         }
     }
 
-    /// [`OK`] where `place` is one of the table and not linked, else its fault. O(1).
+    /// Returns [`OK`] if `place` belongs to the table and is not linked, or else its fault. O(1).
     #[inline]
     pub fn place_fault(&self, place: Option<Place>) -> u32
         ensures fault { result ≡ place_fault W.is_linked (nameable_table W.width W.unlinked self.now) place }
@@ -176,9 +176,9 @@ impl<W: Words> RawTable<'_, W> {
         if self.is_linked(place) { LINKED } else { OK }
     }
 
-    /// Why a call at this member is refused: by its fault, or as [`BROKEN`]. O(1).
+    /// Returns why a call at this member is refused: the member's fault, or else [`BROKEN`]. O(1).
     ///
-    /// A caller that has the place keeps no number for it.
+    /// It takes a place, so that a caller that has one need not keep its number.
     #[cold]
     #[inline(never)]
     pub fn refusal_of(&self, member: Place) -> u32
@@ -192,7 +192,7 @@ impl<W: Words> RawTable<'_, W> {
         BROKEN
     }
 
-    /// Why a call at the member `at` is refused: by its fault, or as [`BROKEN`]. O(1).
+    /// Returns why a call at the member `at` is refused: the fault of `at`, or else [`BROKEN`]. O(1).
     #[cold]
     #[inline(never)]
     pub fn refusal_at(&self, at: u32) -> u32
@@ -206,7 +206,7 @@ impl<W: Words> RawTable<'_, W> {
         BROKEN
     }
 
-    /// Why a call at two members is refused: by the first fault of the two, or as [`BROKEN`]. O(1).
+    /// Returns why a call at two members is refused: the first fault of the two, or else [`BROKEN`]. O(1).
     #[cold]
     #[inline(never)]
     pub fn refusal_at_both(&self, one: u32, other: u32) -> u32
@@ -225,7 +225,7 @@ impl<W: Words> RawTable<'_, W> {
         BROKEN
     }
 
-    /// Why `place` does not go in at the member `at`: by the fault of either, or as [`BROKEN`]. O(1).
+    /// Returns why `place` is not inserted at the member `at`: the fault of `at`, else that of `place`, or else [`BROKEN`]. O(1).
     #[cold]
     #[inline(never)]
     pub fn refusal(&self, at: u32, place: u32) -> u32
@@ -245,9 +245,9 @@ impl<W: Words> RawTable<'_, W> {
     }
 }
 
-/// Why `place` does not go in at an end: by its fault, or as [`BROKEN`]. O(1).
+/// Returns why `place` is not inserted at an end: its fault, or else [`BROKEN`]. O(1).
 ///
-/// It takes the words, which stay as they are, and not the view, so that the call that is refused keeps no view in memory.
+/// It borrows the words instead of the view, so that the compiler keeps no view in memory for a refused call.
 #[cold]
 #[inline(never)]
 pub(crate) fn refusal_at_end<W: Words>(words: &mut [W], place: u32) -> u32
@@ -366,7 +366,7 @@ impl<W: NextWord> XorLinkedListOps for RawTable<'_, W> {
     ghost use Rattle.ic_link_ops.specs.XorLaws.{joins_symmetric, joins_one_other, joins_finds_other};
     ghost use Rattle.ic_raw.specs.Tables.{joins_of, other_of};
 
-    ghost Joins = { joins_of W.next_word };
+    ghost HasNeighbors = { joins_of W.next_word };
 
     ghost other = { other_of W.next_word };
 

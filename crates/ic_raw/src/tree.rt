@@ -27,14 +27,14 @@ use crate::surgery::Surgery;
 use crate::table::RawTable;
 use crate::words::RawThree;
 use ic_link_ops::{LinkOps, Side, Words};
-use ic_rbtree::{RBTree, step_within};
+use ic_rbtree::{RBTree, step_bounded};
 use ic_unsafe_ref::Place;
 
-/// A tree of the caller's.
+/// A tree that belongs to the caller.
 pub(crate) type Tree = RBTree<()>;
 
-// Whether the root is a linked place of the table, and not none. Words are compared, which takes no shift, and one test tells both that it is
-// none and that the table has no such place.
+// Returns whether the root is a linked place of the table. It compares words, which takes no shift, and one test excludes both `None` and a place
+// beyond the table.
 #[inline]
 fn has_root(links: &RawTable<'_, RawThree>, tree: &Tree) -> bool
     ensures root { result ≡ true → IsNoneOrLinked is_linked_three (lent_table links.now) (root_of tree.now) }
@@ -49,7 +49,7 @@ fn has_root(links: &RawTable<'_, RawThree>, tree: &Tree) -> bool
     links.at(root).is_linked()
 }
 
-// Whether the place is none or linked, and the root too, which a tree with a member has.
+// Returns whether the place is `None`, or is linked and the root is linked, too.
 #[inline]
 pub(crate) fn stand(links: &RawTable<'_, RawThree>, tree: &Tree, at: Option<Place>) -> bool
     ensures at { result ≡ true → IsNoneOrLinked is_linked_three (lent_table links.now) at }
@@ -68,8 +68,8 @@ pub(crate) fn stand(links: &RawTable<'_, RawThree>, tree: &Tree, at: Option<Plac
     }
 }
 
-// Whether the tree may have the member: both it and the root are linked, and it is the root if its words name no parent. So the root of another
-// tree is none of this one.
+// Returns whether the place may be a member of the tree: it and the root are linked, and it is the root if its words name no parent. This excludes
+// the root of another tree.
 #[inline]
 fn may_hold(links: &RawTable<'_, RawThree>, tree: &Tree, member: Place) -> bool
     ensures at { result ≡ true → IsNoneOrLinked is_linked_three (lent_table links.now) (Some member) }
@@ -86,7 +86,7 @@ fn may_hold(links: &RawTable<'_, RawThree>, tree: &Tree, member: Place) -> bool
     }
 }
 
-// The child of a linked place on this side.
+// Returns the child of a linked place on this side.
 #[inline]
 fn child(links: &RawTable<'_, RawThree>, place: Place, side: Side) -> Option<Place>
     requires { IsLinked is_linked_three (lent_table links.now) place }
@@ -99,7 +99,7 @@ fn child(links: &RawTable<'_, RawThree>, place: Place, side: Side) -> Option<Pla
     }
 }
 
-// Whether a place can be put in on this side of `at`: it has no child there, or is none, and the tree empty.
+// Returns whether a place can be inserted on this side of `at`: `at` has no child there, or `at` is `None` and the tree is empty.
 #[inline]
 fn is_hole(links: &RawTable<'_, RawThree>, tree: &Tree, side: Side, at: Option<Place>) -> bool
     ensures at { result ≡ true → IsNoneOrLinked is_linked_three (lent_table links.now) at }
@@ -117,7 +117,7 @@ fn is_hole(links: &RawTable<'_, RawThree>, tree: &Tree, side: Side, at: Option<P
     }
 }
 
-// Links the place and gives it, if it is one of the table and not linked. Its words name no other place then.
+// Marks the place as linked and returns it, if it belongs to the table and is not linked. Its words then name no other place.
 #[inline]
 fn acquire(links: &mut RawTable<'_, RawThree>, place: Option<Place>) -> Option<Place>
     ensures accepted { (p : Place) → place ≡ Some p → IsFree is_linked_three (lent_table links.old) p → result ≡ Some p }
@@ -139,8 +139,8 @@ fn acquire(links: &mut RawTable<'_, RawThree>, place: Option<Place>) -> Option<P
     Some(place)
 }
 
-// Puts the place in on this side of a place of the table, at none as the root, if it is one of the table and not linked, and says whether
-// it could.
+// Inserts the place on this side of a place of the table, or as the root for `None`, if it belongs to the table and is not linked. It returns whether
+// it did.
 #[inline(always)]
 pub(crate) fn put<S: Surgery>(
     surgery: &mut S,
@@ -170,7 +170,7 @@ pub(crate) fn put<S: Surgery>(
     true
 }
 
-// Puts the place in on this side of a member, at none as the only one, and says whether it could.
+// Inserts the place on this side of a member, or as the only member for `None`, and returns whether it did.
 #[inline(always)]
 pub(crate) fn insert<S: Surgery>(
     surgery: &mut S,
@@ -201,7 +201,7 @@ pub(crate) fn insert<S: Surgery>(
     put(surgery, links, tree, side, at, place)
 }
 
-// Takes the member off, and says whether it could.
+// Removes the member, and returns whether it did.
 #[inline]
 pub(crate) fn remove<S: Surgery>(
     surgery: &mut S,
@@ -230,7 +230,7 @@ pub(crate) fn remove<S: Surgery>(
     true
 }
 
-// Puts the place where the member is, which is unlinked then, and says whether it could.
+// Inserts the place where the member is, removes the member, and returns whether it did.
 #[inline]
 pub(crate) fn replace(
     links: &mut RawTable<'_, RawThree>,
@@ -264,7 +264,7 @@ pub(crate) fn replace(
     true
 }
 
-// Writes the number of the member, if there is one and it is linked, and says whether.
+// Stores the number of the member, if there is one and it is linked, and returns whether it did.
 #[inline(always)]
 fn tell(links: &RawTable<'_, RawThree>, member: Option<Place>, found: &mut u32) -> bool
     requires { IsIn (has_place (lent_table links.now)) member }
@@ -282,7 +282,7 @@ fn tell(links: &RawTable<'_, RawThree>, member: Option<Place>, found: &mut u32) 
     true
 }
 
-// Why no number is told: there is no member, or its place is not linked.
+// Returns why no number is stored: there is no member, or its place is not linked.
 #[inline]
 fn nothing_told(member: Option<Place>) -> u32
     ensures null { (result ≡ NULL) ↔ (member ≡ None) }
@@ -295,7 +295,7 @@ fn nothing_told(member: Option<Place>) -> u32
     }
 }
 
-// The same out of line, so that a walk keeps no register for a status that few calls return.
+// The same, not inlined, so that a walk uses no register for a status that calls seldom return.
 #[cold]
 #[inline(never)]
 fn nothing_found(member: Option<Place>) -> u32
@@ -306,7 +306,7 @@ fn nothing_found(member: Option<Place>) -> u32
     nothing_told(member)
 }
 
-// Hands out the number of the member, or says why not: there is none, or the place is not linked.
+// Stores the number of the member, or returns the status of the refusal: there is none, or the place is not linked.
 #[inline]
 pub(crate) fn hand_out(
     links: &RawTable<'_, RawThree>,
@@ -326,9 +326,9 @@ pub(crate) fn hand_out(
     nothing_told(member)
 }
 
-// Hands out the outermost member on the other side of this one.
+// Stores the number of the outermost member on the side opposite to this one.
 //
-// It is out of line, so that a step from a member keeps no register for it.
+// It is not inlined, so that a step from a member uses no register for it.
 #[inline(never)]
 fn step_from_none(links: &RawTable<'_, RawThree>, tree: &Tree, side: Side, found: &mut u32) -> u32
     ensures found { (cut : Cut) (member : Option Place) → Represents (lent_table links.now) (root_of tree.now) (join cut)
@@ -342,10 +342,10 @@ fn step_from_none(links: &RawTable<'_, RawThree>, tree: &Tree, side: Side, found
     if !links.stands(tree.root()) {
         return BROKEN;
     }
-    hand_out(links, step_within(links, tree.root(), None, side), found)
+    hand_out(links, step_bounded(links, tree.root(), None, side), found)
 }
 
-// Hands out the member on this side of another one, from none the outermost one on the other side.
+// Stores the number of the member on this side of another one, or for `None` of the outermost member on the opposite side.
 #[inline(always)]
 pub(crate) fn step(
     links: &RawTable<'_, RawThree>,
@@ -369,7 +369,7 @@ pub(crate) fn step(
     if !stand(links, tree, Some(member)) {
         return links.refusal_of(member);
     }
-    let beside = step_within(links, tree.root(), Some(member), side);
+    let beside = step_bounded(links, tree.root(), Some(member), side);
     if tell(links, beside, found) {
         return OK;
     }

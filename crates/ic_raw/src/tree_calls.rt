@@ -1,4 +1,4 @@
-//! What the calls of red-black trees do: edits and steps at places that are numbers, of a tree that is one word.
+//! The calls of red-black trees without keys: edits and steps. A place is a number, and a tree is one word.
 //!
 //! ```text
 //! insert_at(table, tree, Side::Left, NONE, 7) // OK: the only member
@@ -24,7 +24,7 @@ use crate::{tree, tree_clear};
 use ic_link_ops::Side;
 use ic_rbtree::RBTree;
 
-// The tree of its word.
+// Returns the tree that its word represents.
 #[inline]
 pub(crate) fn tree_of(words: &RawRoot) -> tree::Tree
     ensures { root_of result ≡ root_in words.now }
@@ -32,10 +32,10 @@ pub(crate) fn tree_of(words: &RawRoot) -> tree::Tree
     RBTree::from_root((), place_in(words.root))
 }
 
-/// Puts the place with that number in as the child on this side of the member `at`, at [`NONE`](crate::NONE) as the only member. O(log n).
+/// Inserts the place with that number as the child on this side of the member `at`, or as the only member if `at` is [`NONE`](crate::NONE). O(log n).
 ///
-/// The place has to be one of the table, and not linked. A refused edit leaves the words as they are, and returns the first fault of the two,
-/// or else [`BROKEN`](crate::BROKEN), as where the member has such a child, or at none the tree a member.
+/// The place must belong to the table and must not be linked. A refused edit leaves the words as they are, and returns the first fault of the two, or
+/// else [`BROKEN`](crate::BROKEN), for example if the member already has such a child, or if `at` is none and the tree has members.
 #[inline]
 pub fn insert_at(table: &mut [RawThree], tree: &mut RawRoot, side: Side, at: u32, place: u32) -> u32
     ensures { InsertCall table.old table.new tree.old tree.new result side (place_of at) (place_of place) }
@@ -43,7 +43,7 @@ pub fn insert_at(table: &mut [RawThree], tree: &mut RawRoot, side: Side, at: u32
     insert_at_by(&mut Plain, table, tree, side, at, place)
 }
 
-/// The same by surgery of the caller's, which sees what is written.
+/// The same call, with an implementation of [`Surgery`] of the caller's, which sees which words the edit writes.
 #[inline]
 pub fn insert_at_by<S: Surgery>(
     by: &mut S,
@@ -73,7 +73,7 @@ pub fn insert_at_by<S: Surgery>(
     OK
 }
 
-/// Takes the member `at` off, or returns [`NULL`](crate::NULL) at [`NONE`](crate::NONE). O(log n).
+/// Removes the member `at`, or returns [`NULL`](crate::NULL) if `at` is [`NONE`](crate::NONE). O(log n).
 #[inline]
 pub fn remove(table: &mut [RawThree], tree: &mut RawRoot, at: u32) -> u32
     ensures { RemoveCall table.old table.new tree.old tree.new result (place_of at) }
@@ -81,7 +81,7 @@ pub fn remove(table: &mut [RawThree], tree: &mut RawRoot, at: u32) -> u32
     remove_by(&mut Plain, table, tree, at)
 }
 
-/// The same by surgery of the caller's, which sees what is written.
+/// The same call, with an implementation of [`Surgery`] of the caller's, which sees which words the edit writes.
 #[inline]
 pub fn remove_by<S: Surgery>(by: &mut S, table: &mut [RawThree], tree: &mut RawRoot, at: u32) -> u32
     ensures call { RemoveCall table.old table.new tree.old tree.new result (place_of at) }
@@ -100,9 +100,9 @@ pub fn remove_by<S: Surgery>(by: &mut S, table: &mut [RawThree], tree: &mut RawR
     OK
 }
 
-/// Puts a place where the member `at` is, which is unlinked then, or returns [`NULL`](crate::NULL) at [`NONE`](crate::NONE). O(1).
+/// Inserts a place where the member `at` is, and removes `at`, or returns [`NULL`](crate::NULL) if `at` is [`NONE`](crate::NONE). O(1).
 ///
-/// The place has to be one of the table, and not linked.
+/// The place must belong to the table and must not be linked.
 #[inline]
 pub fn replace(table: &mut [RawThree], tree: &mut RawRoot, at: u32, place: u32) -> u32
     ensures { ReplaceCall table.old table.new tree.old tree.new result (place_of at) (place_of place) }
@@ -119,10 +119,10 @@ pub fn replace(table: &mut [RawThree], tree: &mut RawRoot, at: u32, place: u32) 
     OK
 }
 
-/// Hands out the member on this side of the member `at`, from [`NONE`](crate::NONE) the outermost one on the other side, or returns
-/// [`NULL`] where there is none. It writes nothing else. O(log n), and O(1) on average over a walk.
+/// Stores the number of the member on this side of `at` in `found`. If `at` is [`NONE`](crate::NONE), this is the outermost member on the other side.
+/// It returns [`NULL`] if there is none. It writes nothing else. O(log n), and O(1) on average over a walk.
 ///
-/// It returns the fault of the member, or [`BROKEN`](crate::BROKEN) where the words lead to no linked place.
+/// It returns the fault of the member, or [`BROKEN`](crate::BROKEN) if the links lead to a place that is not linked.
 #[inline(always)]
 pub fn step_at(table: &mut [RawThree], tree: &RawRoot, side: Side, at: u32, found: &mut u32) -> u32
     ensures { StepCall table.old table.new tree.now result side (place_of at) found.old found.new }
@@ -131,10 +131,9 @@ pub fn step_at(table: &mut [RawThree], tree: &RawRoot, side: Side, at: u32, foun
     tree::step(&links, &tree_of(tree), side, at, found)
 }
 
-/// Takes all members off, which are unlinked then. O(n).
+/// Removes and unlinks all members. O(n).
 ///
-/// Where steps from the first member on do not lead through linked places to an end, as many as the table has places at most, it
-/// returns [`BROKEN`].
+/// If steps from the first member do not lead through linked places to an end, within as many steps as the table has places, it returns [`BROKEN`].
 #[inline]
 pub fn clear(table: &mut [RawThree], tree: &mut RawRoot) -> u32
     ensures { ClearCall table.old table.new tree.old tree.new result }

@@ -1,4 +1,4 @@
-//! Trees as a whole: all their members are taken off at once.
+//! Removal of all members of a tree at once.
 //!
 //! ```text
 //! clear(&mut links, &tree) // whether it could: each member is unlinked then
@@ -21,10 +21,10 @@ use crate::table::RawTable;
 use crate::tree::Tree;
 use crate::words::RawThree;
 use ic_link_ops::Side;
-use ic_rbtree::step_within;
+use ic_rbtree::step_bounded;
 use ic_unsafe_ref::Place;
 
-// Whether the place is none, or one of the table.
+// Returns whether the place is `None` or belongs to the table.
 #[inline]
 fn has(links: &RawTable<'_, RawThree>, place: Option<Place>) -> bool
     ensures { (result ≡ true) ↔ IsIn (has_place (lent_table links.now)) place }
@@ -35,7 +35,7 @@ fn has(links: &RawTable<'_, RawThree>, place: Option<Place>) -> bool
     }
 }
 
-// What stands after a place, the first member at none. None where the place or the root is none of the table.
+// Returns the member after a place, or the first member for `None`. The outer result is `None` if the place or the root does not belong to the table.
 #[inline]
 fn next_of(links: &RawTable<'_, RawThree>, tree: &Tree, at: Option<Place>) -> Option<Place>
     ensures leads { (gap : Cut) → IsSeen (lent_table links.now) (root_of tree.now) (join gap) → IsAfter gap at → IsBefore gap result }
@@ -49,10 +49,10 @@ fn next_of(links: &RawTable<'_, RawThree>, tree: &Tree, at: Option<Place>) -> Op
     if !has(links, tree.root()) {
         return None;
     }
-    step_within(links, tree.root(), at, Side::Right)
+    step_bounded(links, tree.root(), at, Side::Right)
 }
 
-// Whether steps from the first member on lead through linked places to an end, as many as the table has places at most.
+// Returns whether steps from the first member lead through linked places to an end, within as many steps as the table has places.
 fn leads_to_end(links: &RawTable<'_, RawThree>, tree: &Tree) -> bool
     ensures shown { (s : List Place) → Represents (lent_table links.now) (root_of tree.now) s → result ≡ true }
     ensures ended { IsNoneOrLinked is_linked_three (lent_table links.now) (root_of tree.now) → result ≡ true
@@ -73,7 +73,7 @@ fn leads_to_end(links: &RawTable<'_, RawThree>, tree: &Tree) -> bool
     at.is_none()
 }
 
-// Takes the mark of a linked place off. What its words name stays, so that steps lead as before.
+// Clears the mark of a linked place. Its words name the same places as before, so that steps still find their way.
 #[inline]
 fn unmark(links: &mut RawTable<'_, RawThree>, place: Place)
     requires covered { IsCovered (lent_table links.old) place }
@@ -86,7 +86,7 @@ fn unmark(links: &mut RawTable<'_, RawThree>, place: Place)
     words.left = words.left / 2 * 2;
 }
 
-// Unlinks the places from the first member on, one after the other.
+// Unlinks the places one after the other, beginning with the first member.
 fn unmark_all(links: &mut RawTable<'_, RawThree>, tree: &Tree)
     ensures cleared { (s : List Place) → Represents (lent_table links.old) (root_of tree.now) s
         → Clears is_linked_three (lent_table links.old) (lent_table links.new) s }
@@ -108,7 +108,7 @@ fn unmark_all(links: &mut RawTable<'_, RawThree>, tree: &Tree)
     }
 }
 
-// Takes all members off, and says whether it could: steps lead from the first one to an end.
+// Removes all members, if steps lead from the first one to an end, and returns whether it did.
 pub(crate) fn clear(links: &mut RawTable<'_, RawThree>, tree: &Tree) -> bool
     ensures cleared { (s : List Place) → Represents (lent_table links.old) (root_of tree.now) s
         → (result ≡ true) × Clears is_linked_three (lent_table links.old) (lent_table links.new) s }

@@ -1,4 +1,4 @@
-//! Lists as a whole: all their members are taken off at once.
+//! Removal of all members of a list at once.
 //!
 //! ```text
 //! let made = clear_list(&mut links, &mut list);
@@ -21,7 +21,7 @@ use crate::words::{ListWords, RawOne};
 use ic_link_ops::linked_list::LinkedListOps;
 use ic_unsafe_ref::Place;
 
-// Takes all members of a singly linked list off, and says whether it could: its places lead to an end.
+// Removes all members of a singly linked list, if its links lead to an end, and returns whether it did.
 pub(crate) fn clear_stack(links: &mut RawTable<'_, RawOne>, list: &mut Stack) -> bool
     ensures cleared { (s : List Place) → singly.Represents (singly.lent_table links.old) list.old s
         → (result ≡ true) × Clears is_linked_one (singly.lent_table links.old) (singly.lent_table links.new) s }
@@ -40,8 +40,8 @@ pub(crate) fn clear_stack(links: &mut RawTable<'_, RawOne>, list: &mut Stack) ->
     true
 }
 
-// Whether the places lead from the first member to the last, each back to the one before it, within as many steps as the table has
-// places.
+// Returns whether the links lead from the first member to the last within as many steps as the table has places, and each member names the one before
+// it.
 fn leads_to_last<W: ListWords>(links: &RawTable<'_, W>, list: &List) -> bool
     ensures ended { result ≡ true → (s : List Place) × doubly.Represents W.PrevPlace (lent_table W.PrevPlace links.now) list.now s }
     ensures shown { (s : List Place) → doubly.Represents W.PrevPlace (lent_table W.PrevPlace links.now) list.now s → result ≡ true }
@@ -66,7 +66,7 @@ fn leads_to_last<W: ListWords>(links: &RawTable<'_, W>, list: &List) -> bool
     false
 }
 
-// Takes all members of a doubly linked list off, and says whether it could: its places lead from its first to its last, and back.
+// Removes all members of a doubly linked list, if its links lead from the first member to the last and back, and returns whether it did.
 pub(crate) fn clear_list<W: ListWords>(links: &mut RawTable<'_, W>, list: &mut List) -> bool
     ensures cleared { (s : List Place) → doubly.Represents W.PrevPlace (lent_table W.PrevPlace links.old) list.old s
         → (result ≡ true) × Clears W.is_linked (lent_table W.PrevPlace links.old) (lent_table W.PrevPlace links.new) s }

@@ -24,7 +24,7 @@ use ic_link_ops::{NarrowWord, NextWord, PrevPlace, Word, Words};
 use ic_unsafe_ref::Place;
 use std::cmp::min;
 
-/// What a table of singly linked or of XOR lists keeps at a place.
+/// The words of a place in a table of singly linked lists or of XOR lists.
 ///
 /// The lowest bit says whether the place is linked. The others are the word for the next place, or the exclusive or of the words for
 /// both neighbors, where a place has the word `8 * (index + 1)` and none has 0.
@@ -34,7 +34,7 @@ pub struct RawOne {
     next: u64,
 }
 
-/// What a table of doubly linked lists keeps at a place: the word of [`RawOne`], and the word for the previous place.
+/// The words of a place in a table of doubly linked lists: that of [`RawOne`], and the word for the previous place.
 #[repr(C)]
 #[derive(Clone, Copy)]
 pub struct RawTwo {
@@ -42,8 +42,8 @@ pub struct RawTwo {
     prev: u64,
 }
 
-/// What a table of doubly linked lists or of rings keeps at a place whose words have 4 bytes each: those of [`RawTwo`], which fit for each
-/// place with an index below 536,870,911. Places beyond these are out of range.
+/// The words of a place in a table of doubly linked lists or of rings with words of 4 bytes. They are those of [`RawTwo`], and can name only places
+/// with an index below 536,870,911. Later places are out of range.
 #[repr(C)]
 #[derive(Clone, Copy)]
 pub struct RawNarrowTwo {
@@ -51,9 +51,9 @@ pub struct RawNarrowTwo {
     prev: u32,
 }
 
-/// What a table of trees keeps at a place: the words for its children and for its parent.
+/// The words of a place in a table of trees: those for its children and for its parent.
 ///
-/// The lowest bit of the left child's word says whether the place is linked, and that of the parent's whether it is black.
+/// The lowest bit of the left child's word says whether the place is linked, and the lowest bit of the parent's word says whether it is black.
 #[repr(C)]
 #[derive(Clone, Copy)]
 pub struct RawThree {
@@ -88,25 +88,26 @@ pub struct RawRoot {
     pub root: u64,
 }
 
-/// Words of doubly linked lists, which tell by one comparison of a word what is linked beside their place.
+/// Words of doubly linked lists, of either width. One comparison of a word tests whether a given place is linked beside this one.
 ///
-/// The last two tests look for what a call writes. Other bits are looked at more closely, by the calls that take any words.
+/// The last two methods test for exactly the bits that a call writes. If they fail, a call tests the words again, ignoring the bits that have no
+/// meaning.
 pub trait ListWords: PrevPlace {
     ghost use Rattle.std.specs.Prelude.{◌≡◌, true};
     ghost use Rattle.ic_link_ops.specs.Prelude.{place_at};
 
-    /// Whether these are the words of a linked place, with `next` after it.
+    /// Returns whether these are the words of a linked place, with `next` after it.
     fn leads(&self, next: Option<Place>) -> bool
         ensures linked { result ≡ true → Self.is_linked self.now ≡ true }
         ensures next { result ≡ true → place_at (Self.next_word self.now) ≡ next }
         ensures leads { Self.is_linked self.now ≡ true → next ≡ place_at (Self.next_word self.now) → result ≡ true };
 
-    /// Whether these are the words of a linked place as a call writes them, with `next` after it.
+    /// Returns whether these are the words of a linked place as a call writes them, with `next` after it.
     fn is_before(&self, next: Option<Place>) -> bool
         ensures linked { result ≡ true → Self.is_linked self.now ≡ true }
         ensures next { result ≡ true → place_at (Self.next_word self.now) ≡ next };
 
-    /// Whether these are the words of a linked place as a call writes them, with `prev` before it.
+    /// Returns whether these are the words of a linked place as a call writes them, with `prev` before it.
     fn is_after(&self, prev: Option<Place>) -> bool
         ensures linked { result ≡ true → Self.is_linked self.now ≡ true }
         ensures prev { result ≡ true → Self.prev self.now ≡ prev };
@@ -380,7 +381,7 @@ impl ListWords for RawNarrowTwo {
     }
 }
 
-// Whether a word of 4 bytes is what a call writes for a place.
+// Returns whether a word of 4 bytes has exactly the bits that a call writes for a place.
 #[inline]
 fn is_word(word: u32, place: Option<Place>) -> bool
     ensures { result ≡ true → narrow_place_in word ≡ place }
@@ -388,7 +389,7 @@ fn is_word(word: u32, place: Option<Place>) -> bool
     u64::from(word) == Place::to_word(place)
 }
 
-// Whether it is what a call writes at a linked place, with `next` after it.
+// Returns whether the word has exactly the bits that a call writes at a linked place with `next` after it.
 #[inline]
 fn is_marked_word(word: u32, next: Option<Place>) -> bool
     ensures linked { result ≡ true → is_marked word ≡ true }
@@ -446,7 +447,7 @@ impl Words for RawThree {
 }
 
 impl RawFront {
-    // Writes this front.
+    // Writes the word of this first place.
     #[inline]
     #[tactic(auto, using(crate::proofs::Entries::place_kept))]
     pub(crate) fn set(&mut self, first: Option<Place>)
@@ -458,7 +459,7 @@ impl RawFront {
 }
 
 impl RawEnds {
-    // Writes this last place, and leaves the first as it is.
+    // Writes the word of this last place, and leaves that of the first as it is.
     #[inline]
     #[tactic(auto, using(crate::proofs::Entries::place_kept))]
     pub(crate) fn set_last(&mut self, last: Option<Place>)
@@ -468,7 +469,7 @@ impl RawEnds {
         self.tail = Place::to_word(last);
     }
 
-    // Writes this first place, and leaves the last as it is.
+    // Writes the word of this first place, and leaves that of the last as it is.
     #[inline]
     #[tactic(auto, using(crate::proofs::Entries::place_kept))]
     pub(crate) fn set_first(&mut self, first: Option<Place>)
@@ -478,7 +479,7 @@ impl RawEnds {
         self.head = Place::to_word(first);
     }
 
-    // Writes these ends.
+    // Writes the words of these ends.
     #[inline]
     #[tactic(auto, using(crate::proofs::Entries::place_kept))]
     pub(crate) fn set(&mut self, first: Option<Place>, last: Option<Place>)
@@ -491,7 +492,7 @@ impl RawEnds {
         };
     }
 
-    // Whether these are the ends of a list with no members.
+    // Returns whether these are the ends of a list with no members.
     #[inline]
     pub(crate) fn is_empty(&self) -> bool
         ensures { (result ≡ true) ↔ (ends_of self.now ≡ no_members) }
@@ -501,7 +502,7 @@ impl RawEnds {
 }
 
 impl RawRoot {
-    // Writes this root.
+    // Writes the word of this root.
     #[inline]
     #[tactic(auto, using(crate::proofs::Entries::place_kept))]
     pub(crate) fn set(&mut self, root: Option<Place>)

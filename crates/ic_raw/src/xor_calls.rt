@@ -1,4 +1,4 @@
-//! What the calls of XOR linked lists do: edits between neighbors that are numbers, of a list that is two words.
+//! The calls of XOR linked lists. A place is a number, a list is two words, and an edit names the neighbors between which it inserts or cuts.
 //!
 //! ```text
 //! push_back(table, list, 7)            // OK
@@ -32,7 +32,7 @@ use ic_unsafe_ref::Place;
 use ic_xor_linked_list::XorLinkedList;
 use std::mem;
 
-// The list of its two words.
+// Returns the list that its two words represent.
 #[inline]
 pub(crate) fn list_of(words: &RawEnds) -> xor_list::List
     ensures { result ≡ ends_of words.now }
@@ -40,7 +40,7 @@ pub(crate) fn list_of(words: &RawEnds) -> xor_list::List
     XorLinkedList::from_ends(place_in(words.head), place_in(words.tail))
 }
 
-// Writes the ends of the list as its two words.
+// Writes the words of the list's first and last place.
 #[inline]
 pub(crate) fn write_back(words: &mut RawEnds, list: xor_list::List)
     ensures set { ends_of words.new ≡ list }
@@ -49,7 +49,7 @@ pub(crate) fn write_back(words: &mut RawEnds, list: xor_list::List)
     words.set(list.first(), list.last());
 }
 
-// Why a place does not go in at two members: by the first fault of the three, or as [`BROKEN`].
+// Returns why a place is not inserted between two members: the first fault of the three places, or else [`BROKEN`].
 #[cold]
 #[inline(never)]
 fn refusal_with_both(links: &RawTable<'_, RawOne>, one: u32, other: u32, place: u32) -> u32
@@ -66,39 +66,39 @@ fn refusal_with_both(links: &RawTable<'_, RawOne>, one: u32, other: u32, place: 
     links.refusal(other, place)
 }
 
-// Puts the place between two neighbors, and says whether it could. Always inlined, as the edit itself is.
+// Inserts the place between two neighbors, and returns whether it did. Always inlined, as the edit itself is.
 #[inline(always)]
 fn put(
     table: &mut [RawOne],
     list: &mut RawEnds,
     before: Option<Place>,
     place: Option<Place>,
-    behind: Option<Place>,
+    after: Option<Place>,
 ) -> bool
-    ensures inserted { (cut : Cut) (p : Place) → IsAfter cut before → IsBefore cut behind → place ≡ Some p
+    ensures inserted { (cut : Cut) (p : Place) → IsAfter cut before → IsBefore cut after → place ≡ Some p
         → RepresentsList table.old list.old (join cut) → FreeIn table.old p
         → (result ≡ true) × Inserted table.old table.new list.old list.new OK cut p }
     ensures free { result ≡ true → (p : Place) × (place ≡ Some p) × FreeIn table.old p }
-    ensures links_back { result ≡ true → TellsGap (table_of table.old) (ends_of list.old) before behind }
+    ensures links_back { result ≡ true → TellsGap (table_of table.old) (ends_of list.old) before after }
     ensures before { result ≡ true → IsNoneOrLinkedIn table.old before }
-    ensures behind { result ≡ true → IsNoneOrLinkedIn table.old behind }
+    ensures after { result ≡ true → IsNoneOrLinkedIn table.old after }
     ensures touched { (p : Place) → place ≡ Some p → result ≡ true
-        → Touches is_linked_one (table_of table.old) (table_of table.new) (acquires p ∷ []) (Some p ∷ before ∷ behind ∷ []) }
-    ensures own { result ≡ true → PutIn (gap_between before behind) place (ends_of list.old) (ends_of list.new) }
+        → Touches is_linked_one (table_of table.old) (table_of table.new) (acquires p ∷ []) (Some p ∷ before ∷ after ∷ []) }
+    ensures own { result ≡ true → PutIn (gap_between before after) place (ends_of list.old) (ends_of list.new) }
     ensures words { result ≡ true → list.new ≡ words_of (ends_of list.new) }
     ensures refused { result ≡ false → (table.new ≡ table.old) × (list.new ≡ list.old) }
 {
     let mut links = RawTable::new(table);
     let mut edited = list_of(&*list);
-    if !xor_list::insert(&mut links, &mut edited, before, place, behind) {
+    if !xor_list::insert(&mut links, &mut edited, before, place, after) {
         return false;
     }
     write_back(list, edited);
     true
 }
 
-// Whether `end` is a linked place with a linked neighbor, as both ends of a list of two members or more are. Where calls know that, what they
-// test and write besides is little. What they do rests on their own tests.
+// Returns whether `end` is a linked place with a linked neighbor, as both ends of a list of two members or more are. Calls that know this have little
+// else to test and write. The proof of what they do rests on their own tests, not on this one.
 #[inline(always)]
 fn has_neighbor(table: &mut [RawOne], end: Option<Place>) -> bool
     ensures kept { table.new ≡ table.old }
@@ -116,27 +116,27 @@ fn has_neighbor(table: &mut [RawOne], end: Option<Place>) -> bool
     links.is_linked(neighbor)
 }
 
-// Puts a place between the two neighbors that these words name, one of which is none, or says why not.
+// Inserts a place between the two neighbors that these words name, of which one is none, or returns the status of the refusal.
 #[cold]
 #[inline(never)]
-fn put_slow(table: &mut [RawOne], list: &mut RawEnds, place: u32, before: u64, behind: u64) -> u32
-    ensures { PushCall table.old table.new list.old list.new result (place_in before) (place_in behind) (place_of place) }
+fn put_slow(table: &mut [RawOne], list: &mut RawEnds, place: u32, before: u64, after: u64) -> u32
+    ensures { PushCall table.old table.new list.old list.new result (place_in before) (place_in after) (place_of place) }
 {
     if !put(
         table,
         list,
         place_in(before),
         place_of(place),
-        place_in(behind),
+        place_in(after),
     ) {
         return refusal_at_end(table, place);
     }
     OK
 }
 
-/// Puts a place before all members. O(1).
+/// Inserts a place at the front. O(1).
 ///
-/// The place has to be one of the table, and not linked. Where the first member is none of the table, it returns [`BROKEN`].
+/// The place must belong to the table and must not be linked. If the first member does not belong to the table, it returns [`BROKEN`].
 #[inline]
 pub fn push_front(table: &mut [RawOne], list: &mut RawEnds, place: u32) -> u32
     ensures { PushCall table.old table.new list.old list.new result None (ends_of list.old).head (place_of place) }
@@ -149,9 +149,9 @@ pub fn push_front(table: &mut [RawOne], list: &mut RawEnds, place: u32) -> u32
     put_slow(table, list, place, 0, word)
 }
 
-/// Puts a place after all members. O(1).
+/// Inserts a place at the back. O(1).
 ///
-/// The place has to be one of the table, and not linked. Where the last member is none of the table, it returns [`BROKEN`].
+/// The place must belong to the table and must not be linked. If the last member does not belong to the table, it returns [`BROKEN`].
 #[inline]
 pub fn push_back(table: &mut [RawOne], list: &mut RawEnds, place: u32) -> u32
     ensures { PushCall table.old table.new list.old list.new result (ends_of list.old).tail None (place_of place) }
@@ -164,7 +164,7 @@ pub fn push_back(table: &mut [RawOne], list: &mut RawEnds, place: u32) -> u32
     put_slow(table, list, place, word, 0)
 }
 
-// Takes the member after `before` off, and says whether it could.
+// Removes the member after `before`, and returns whether it did.
 #[inline]
 fn take(table: &mut [RawOne], list: &mut RawEnds, before: Option<Place>, member: Place) -> bool
     ensures removed { (front back : List Place) → before ≡ last front → RepresentsList table.old list.old (front ++ member ∷ back)
@@ -188,7 +188,7 @@ fn take(table: &mut [RawOne], list: &mut RawEnds, before: Option<Place>, member:
     true
 }
 
-// Takes the last member off, and says whether it could.
+// Removes the last member, and returns whether it did.
 #[inline]
 fn take_last(table: &mut [RawOne], list: &mut RawEnds, member: Place) -> bool
     ensures removed { (front : List Place) → RepresentsList table.old list.old (front ++ member ∷ [])
@@ -211,7 +211,7 @@ fn take_last(table: &mut [RawOne], list: &mut RawEnds, member: Place) -> bool
     true
 }
 
-// Takes the first member off any list, or says why not.
+// Removes the first member of any list, or returns the status of the refusal.
 #[cold]
 #[inline(never)]
 fn pop_front_slow(table: &mut [RawOne], list: &mut RawEnds, popped: &mut u32) -> u32
@@ -227,9 +227,9 @@ fn pop_front_slow(table: &mut [RawOne], list: &mut RawEnds, popped: &mut u32) ->
     OK
 }
 
-/// Takes the first member off and hands it out, or returns [`NULL`] where there is none. O(1).
+/// Removes the first member and stores its number in `popped`, or returns [`NULL`] if there is none. O(1).
 ///
-/// Where the words tell of no such member, it returns [`BROKEN`].
+/// If the links beside the member do not lead back to it, it returns [`BROKEN`].
 #[inline]
 pub fn pop_front(table: &mut [RawOne], list: &mut RawEnds, popped: &mut u32) -> u32
     ensures { PopCall table.old table.new list.old list.new result After popped.old popped.new }
@@ -244,9 +244,9 @@ pub fn pop_front(table: &mut [RawOne], list: &mut RawEnds, popped: &mut u32) -> 
     pop_front_slow(links.entries, list, popped)
 }
 
-/// Takes the last member off and hands it out, or returns [`NULL`] where there is none. O(1).
+/// Removes the last member and stores its number in `popped`, or returns [`NULL`] if there is none. O(1).
 ///
-/// Where the words tell of no such member, it returns [`BROKEN`].
+/// If the links beside the member do not lead back to it, it returns [`BROKEN`].
 #[inline]
 pub fn pop_back(table: &mut [RawOne], list: &mut RawEnds, popped: &mut u32) -> u32
     ensures { PopCall table.old table.new list.old list.new result Before popped.old popped.new }
@@ -261,29 +261,29 @@ pub fn pop_back(table: &mut [RawOne], list: &mut RawEnds, popped: &mut u32) -> u
     OK
 }
 
-/// Puts a place between the neighbors `before` and `behind`, which are [`NONE`] beyond an end. O(1).
+/// Inserts a place between the neighbors `before` and `after`, which are [`NONE`] beyond an end. O(1).
 ///
-/// The place has to be one of the table, and not linked. Where the words tell of no gap between the two, it returns [`BROKEN`].
+/// The place must belong to the table and must not be linked. If the two are not neighbors by their links, it returns [`BROKEN`].
 #[inline]
 pub fn insert_between(
     table: &mut [RawOne],
     list: &mut RawEnds,
     before: u32,
     place: u32,
-    behind: u32,
+    after: u32,
 ) -> u32
-    ensures { InsertCall table.old table.new list.old list.new result (place_of before) (place_of behind) (place_of place) }
+    ensures { InsertCall table.old table.new list.old list.new result (place_of before) (place_of after) (place_of place) }
 {
-    let (front, new, back) = (place_of(before), place_of(place), place_of(behind));
+    let (front, new, back) = (place_of(before), place_of(place), place_of(after));
     if !put(table, list, front, new, back) {
-        return refusal_with_both(&RawTable::new(table), before, behind, place);
+        return refusal_with_both(&RawTable::new(table), before, after, place);
     }
     OK
 }
 
-/// Takes the member `at` off, before which `before` stands, or returns [`NULL`] at [`NONE`]. O(1).
+/// Removes the member `at`, whose previous member is `before`, or returns [`NULL`] if `at` is [`NONE`]. O(1).
 ///
-/// Where the words tell of no such member, it returns [`BROKEN`].
+/// If the links beside the member do not lead back to it, it returns [`BROKEN`].
 #[inline]
 pub fn remove(table: &mut [RawOne], list: &mut RawEnds, before: u32, at: u32) -> u32
     ensures { RemoveCall table.old table.new list.old list.new result (place_of before) (place_of at) }
@@ -297,10 +297,9 @@ pub fn remove(table: &mut [RawOne], list: &mut RawEnds, before: u32, at: u32) ->
     OK
 }
 
-/// Puts a place where the member `at` is, before which `before` stands, or returns [`NULL`] at [`NONE`]. The member is
-/// unlinked then. O(1).
+/// Inserts a place where the member `at` is, whose previous member is `before`, and removes `at`, or returns [`NULL`] if `at` is [`NONE`]. O(1).
 ///
-/// The place has to be one of the table, and not linked. Where the words tell of no such member, it returns [`BROKEN`].
+/// The place must belong to the table and must not be linked. If the links beside the member do not lead back to it, it returns [`BROKEN`].
 #[inline]
 pub fn replace(table: &mut [RawOne], list: &mut RawEnds, before: u32, at: u32, place: u32) -> u32
     ensures { ReplaceCall table.old table.new list.old list.new result (place_of before) (place_of at) (place_of place) }
@@ -318,35 +317,35 @@ pub fn replace(table: &mut [RawOne], list: &mut RawEnds, before: u32, at: u32, p
     OK
 }
 
-// Puts all of the given list between two neighbors, and says whether it could.
+// Moves all members of the given list between two neighbors, and returns whether it did.
 #[inline]
 fn splice(
     table: &mut [RawOne],
     list: &mut RawEnds,
     before: Option<Place>,
     given: &mut RawEnds,
-    behind: Option<Place>,
+    after: Option<Place>,
 ) -> bool
-    ensures spliced { (cut : Cut) (t : List Place) → IsAfter cut before → IsBefore cut behind → RepresentsList table.old list.old (join cut)
+    ensures spliced { (cut : Cut) (t : List Place) → IsAfter cut before → IsBefore cut after → RepresentsList table.old list.old (join cut)
         → RepresentsList table.old given.old t → IsDisjoint t (join cut)
         → (result ≡ true) × Spliced table.old table.new list.old list.new OK given.old cut t }
     ensures emptied { result ≡ true → given.new ≡ words_of no_members }
     ensures before { result ≡ true → IsNoneOrLinkedIn table.old before }
-    ensures behind { result ≡ true → IsNoneOrLinkedIn table.old behind }
-    ensures links_back { result ≡ true → TellsGap (table_of table.old) (ends_of list.old) before behind }
+    ensures after { result ≡ true → IsNoneOrLinkedIn table.old after }
+    ensures links_back { result ≡ true → TellsGap (table_of table.old) (ends_of list.old) before after }
     ensures ends { result ≡ true → TellsEnds (table_of table.old) (ends_of given.old) }
     ensures apart { result ≡ true → (p : Place) → (ends_of given.old).head ≡ Some p → (ends_of list.old).head ≢ Some p }
     ensures touched { result ≡ true
-        → Touches is_linked_one (table_of table.old) (table_of table.new) [] (before ∷ behind ∷ (ends_of given.old).head ∷ (ends_of given.old).tail ∷ []) }
+        → Touches is_linked_one (table_of table.old) (table_of table.new) [] (before ∷ after ∷ (ends_of given.old).head ∷ (ends_of given.old).tail ∷ []) }
     ensures own { (first : Place) → (ends_of given.old).head ≡ Some first → result ≡ true
-        → Turns (gap_between before behind) (Some first) (ends_of given.old).tail (ends_of list.old) (ends_of list.new) }
+        → Turns (gap_between before after) (Some first) (ends_of given.old).tail (ends_of list.old) (ends_of list.new) }
     ensures nothing { (ends_of given.old).head ≡ None → result ≡ true → (table.new ≡ table.old) × (ends_of list.new ≡ ends_of list.old) }
     ensures words { result ≡ true → list.new ≡ words_of (ends_of list.new) }
     ensures refused { result ≡ false → (table.new ≡ table.old) × (list.new ≡ list.old) × (given.new ≡ given.old) }
 {
     let mut links = RawTable::new(table);
     let mut edited = list_of(&*list);
-    if !xor_list::splice(&mut links, &mut edited, before, list_of(&*given), behind) {
+    if !xor_list::splice(&mut links, &mut edited, before, list_of(&*given), after) {
         return false;
     }
     write_back(list, edited);
@@ -354,9 +353,9 @@ fn splice(
     true
 }
 
-/// Puts all of the given list between the neighbors `before` and `behind`, and leaves the given one empty. O(1).
+/// Moves all members of `given` between the neighbors `before` and `after`, and leaves `given` empty. O(1).
 ///
-/// Where the words tell of no gap between the two or of no list that is given, and where both lists begin with the same member, it
+/// If the two are not neighbors by their links, if the ends of `given` are not those of a list, or if both lists begin with the same member, it
 /// returns [`BROKEN`].
 #[inline]
 pub fn splice_between(
@@ -364,19 +363,20 @@ pub fn splice_between(
     list: &mut RawEnds,
     before: u32,
     given: &mut RawEnds,
-    behind: u32,
+    after: u32,
 ) -> u32
-    ensures { SpliceCall table.old table.new list.old list.new result (place_of before) (place_of behind) given.old given.new }
+    ensures { SpliceCall table.old table.new list.old list.new result (place_of before) (place_of after) given.old given.new }
 {
-    if !splice(table, list, place_of(before), given, place_of(behind)) {
-        return RawTable::new(table).refusal_at_both(before, behind);
+    if !splice(table, list, place_of(before), given, place_of(after)) {
+        return RawTable::new(table).refusal_at_both(before, after);
     }
     OK
 }
 
-/// Puts all of the given list after all members, and leaves the given one empty. O(1).
+/// Moves all members of `given` to the back of the list, and leaves `given` empty. O(1).
 ///
-/// A list that begins with the same member, as the list itself, is [`BROKEN`], and so are two whose ends are none of the table.
+/// If both lists begin with the same member, as if `given` is the list itself, or if an end of one does not belong to the table, it returns
+/// [`BROKEN`].
 #[inline]
 pub fn append(table: &mut [RawOne], list: &mut RawEnds, given: &mut RawEnds) -> u32
     ensures { AppendCall table.old table.new list.old list.new result given.old given.new }
@@ -388,34 +388,34 @@ pub fn append(table: &mut [RawOne], list: &mut RawEnds, given: &mut RawEnds) -> 
     OK
 }
 
-/// Cuts the list between the neighbors `before` and `behind`, and hands out what stands after the cut. O(1).
+/// Cuts the list between the neighbors `before` and `after`, and moves the members from `after` on to `rest`. O(1).
 ///
-/// Where the words tell of no gap between the two, and where `rest` is not empty, it returns [`BROKEN`].
+/// If the two are not neighbors by their links, or if `rest` is not empty, it returns [`BROKEN`].
 #[inline]
 pub fn split_between(
     table: &mut [RawOne],
     list: &mut RawEnds,
     before: u32,
-    behind: u32,
+    after: u32,
     rest: &mut RawEnds,
 ) -> u32
-    ensures { SplitCall table.old table.new list.old list.new result (place_of before) (place_of behind) rest.old rest.new }
+    ensures { SplitCall table.old table.new list.old list.new result (place_of before) (place_of after) rest.old rest.new }
 {
     let mut links = RawTable::new(table);
     let mut edited = list_of(&*list);
     let mut part = XorLinkedList::new();
-    let (front, back) = (place_of(before), place_of(behind));
+    let (front, back) = (place_of(before), place_of(after));
     if !rest.is_empty() || !xor_list::split(&mut links, &mut edited, front, back, &mut part) {
-        return links.refusal_at_both(before, behind);
+        return links.refusal_at_both(before, after);
     }
     write_back(list, edited);
     write_back(rest, part);
     OK
 }
 
-/// Takes all members off, which are unlinked then. O(n).
+/// Removes and unlinks all members. O(n).
 ///
-/// Where the places do not lead from the first member to the last, it returns [`BROKEN`].
+/// If the links do not lead from the first member to the last, it returns [`BROKEN`].
 #[inline]
 pub fn clear(table: &mut [RawOne], list: &mut RawEnds) -> u32
     ensures { ClearCall table.old table.new list.old list.new result }
@@ -428,7 +428,7 @@ pub fn clear(table: &mut [RawOne], list: &mut RawEnds) -> u32
     OK
 }
 
-/// Turns the list round. O(1): it reads no table, and always returns [`OK`].
+/// Reverses the list. O(1): it reads no entry of the table, and always returns [`OK`].
 #[inline]
 pub fn reverse(list: &mut RawEnds) -> u32
     ensures ok { result ≡ OK }

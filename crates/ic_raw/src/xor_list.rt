@@ -5,29 +5,29 @@
 //! ```
 
 ghost use Rattle.std.specs.Prelude.{◌≡◌, ◌≢◌, ◌↔◌, ◌++◌, ◌∷◌, [], List, Option, Some, None, true, false};
-ghost use Rattle.ic_link_ops.specs.Prelude.{Place, Cut, join, first, last, IsDisjoint, IsAfter, IsBefore, IsLinked, IsUnlinked, acquires, releases};
+ghost use Rattle.ic_link_ops.specs.Prelude.{Place, Cut, join, first, last, IsDisjoint, IsAfter, IsBefore, ChangesOnly, IsLinked, IsUnlinked, acquires, releases};
 ghost use Rattle.ic_link_ops.specs.Edits.{Inserts, Removes, Replaces, Splices, Splits};
 ghost use Rattle.ic_raw.specs.Calls.{Clears};
 ghost use Rattle.ic_raw.specs.Gaps.{IsCutAt, PutIn, IsNoneOrLinked, TakenOut, Turns, gap_between};
 ghost use Rattle.ic_raw.specs.Gaps as gaps;
 ghost use Rattle.ic_raw.specs.Tables.{IsFree};
 ghost use Rattle.ic_raw.specs.Touches.{Touches};
-ghost use Rattle.ic_raw.specs.Words.{is_linked_one};
+ghost use Rattle.ic_raw.specs.Words.{is_linked_one, no_word};
 ghost use Rattle.ic_raw.specs.Singly.{lent_table};
-ghost use Rattle.ic_raw.specs.Xor.{Represents, beyond, GoesOn, Faces, TellsGap, TellsMember, TellsMemberAfter, TellsMemberBefore, TellsEnds, LeadsThrough};
+ghost use Rattle.ic_raw.specs.Xor.{Represents, beyond, GoesOn, Faces, TellsGap, TellsMember, TellsMemberAfter, TellsMemberBefore, TellsEnds, LeadsThrough, OnlyUnlinks};
 
 use crate::gap::begin_alike;
 use crate::table::RawTable;
 use crate::words::RawOne;
-use ic_link_ops::LinkOps;
 use ic_link_ops::xor_linked_list::XorLinkedListOps;
+use ic_link_ops::{LinkOps, Words};
 use ic_unsafe_ref::Place;
 use ic_xor_linked_list::XorLinkedList;
 
-/// A list of the caller's.
+/// A list that belongs to the caller.
 pub(crate) type List = XorLinkedList<()>;
 
-// Whether what stands beyond `place` is linked, or `place` is the end of the list where nothing does.
+// Returns whether the place beyond `place` is linked. If there is none, it returns whether `place` is the end of the list.
 #[inline]
 fn goes_on(
     links: &RawTable<'_, RawOne>,
@@ -43,8 +43,8 @@ fn goes_on(
     }
 }
 
-// Whether `place` is linked, and the list goes on beyond it, where `neighbor` stands on its other side. Where there is no place,
-// whether `neighbor` is the end of the list.
+// Returns whether `place` is linked and the list goes on beyond it, seen from `neighbor` on its other side. If there is no place, it returns whether
+// `neighbor` is the end of the list.
 #[inline]
 fn faces(
     links: &RawTable<'_, RawOne>,
@@ -64,106 +64,106 @@ fn faces(
     goes_on(links, end, place, links.next(place, neighbor))
 }
 
-// Whether the words tell of a gap between two places, which are none beyond an end.
+// Returns whether two places are neighbors by their links. Beyond an end of the list the place is `None`.
 #[inline]
 pub(crate) fn is_gap(
     links: &RawTable<'_, RawOne>,
     list: &List,
     before: Option<Place>,
-    behind: Option<Place>,
+    after: Option<Place>,
 ) -> bool
-    ensures links_back { result ≡ true → TellsGap (lent_table links.now) list.now before behind }
+    ensures links_back { result ≡ true → TellsGap (lent_table links.now) list.now before after }
     ensures before { result ≡ true → IsNoneOrLinked is_linked_one (lent_table links.now) before }
-    ensures behind { result ≡ true → IsNoneOrLinked is_linked_one (lent_table links.now) behind }
-    ensures shown { (cut : Cut) → Represents (lent_table links.now) list.now (join cut) → IsAfter cut before → IsBefore cut behind
+    ensures after { result ≡ true → IsNoneOrLinked is_linked_one (lent_table links.now) after }
+    ensures shown { (cut : Cut) → Represents (lent_table links.now) list.now (join cut) → IsAfter cut before → IsBefore cut after
         → result ≡ true }
 {
-    faces(links, list.first(), before, behind) && faces(links, list.last(), behind, before)
+    faces(links, list.first(), before, after) && faces(links, list.last(), after, before)
 }
 
-// Whether the words tell of a member between two places, which are none beyond an end.
+// Returns whether, by the links, there is a member between two places. Beyond an end of the list the place is `None`.
 #[inline]
 fn is_between(
     links: &RawTable<'_, RawOne>,
     list: &List,
     before: Option<Place>,
     member: Place,
-    behind: Option<Place>,
+    after: Option<Place>,
 ) -> bool
-    ensures links_back { result ≡ true → TellsMember (lent_table links.now) list.now before member behind }
+    ensures links_back { result ≡ true → TellsMember (lent_table links.now) list.now before member after }
     ensures before { result ≡ true → IsNoneOrLinked is_linked_one (lent_table links.now) before }
-    ensures behind { result ≡ true → IsNoneOrLinked is_linked_one (lent_table links.now) behind }
+    ensures after { result ≡ true → IsNoneOrLinked is_linked_one (lent_table links.now) after }
     ensures shown { (front back : List Place) → Represents (lent_table links.now) list.now (front ++ member ∷ back)
-        → before ≡ last front → behind ≡ first back → result ≡ true }
+        → before ≡ last front → after ≡ first back → result ≡ true }
 {
     let at = Some(member);
-    faces(links, list.first(), before, at) && faces(links, list.last(), behind, at)
+    faces(links, list.first(), before, at) && faces(links, list.last(), after, at)
 }
 
-// Puts the place into the gap between two places, and says whether it could. Always inlined: a call of it takes an insertion between
-// neighbors some 40 instructions more.
+// Inserts the place into the gap between two places, and returns whether it did. It is always inlined, because a call would make an insertion between
+// neighbors some 40 instructions longer.
 #[inline(always)]
 pub(crate) fn insert(
     links: &mut RawTable<'_, RawOne>,
     list: &mut List,
     before: Option<Place>,
     place: Option<Place>,
-    behind: Option<Place>,
+    after: Option<Place>,
 ) -> bool
-    ensures inserted { (cut : Cut) (p : Place) → Represents (lent_table links.old) list.old (join cut) → IsAfter cut before → IsBefore cut behind
+    ensures inserted { (cut : Cut) (p : Place) → Represents (lent_table links.old) list.old (join cut) → IsAfter cut before → IsBefore cut after
         → place ≡ Some p → IsFree is_linked_one (lent_table links.old) p
         → (result ≡ true) × Inserts Represents (lent_table links.old) (lent_table links.new) list.new cut p }
     ensures free { result ≡ true → (p : Place) × (place ≡ Some p) × IsFree is_linked_one (lent_table links.old) p }
-    ensures links_back { result ≡ true → TellsGap (lent_table links.old) list.old before behind }
+    ensures links_back { result ≡ true → TellsGap (lent_table links.old) list.old before after }
     ensures touched { (p : Place) → place ≡ Some p → result ≡ true
-        → Touches is_linked_one (lent_table links.old) (lent_table links.new) (acquires p ∷ []) (Some p ∷ before ∷ behind ∷ []) }
-    ensures own { result ≡ true → PutIn (gap_between before behind) place list.old list.new }
+        → Touches is_linked_one (lent_table links.old) (lent_table links.new) (acquires p ∷ []) (Some p ∷ before ∷ after ∷ []) }
+    ensures own { result ≡ true → PutIn (gap_between before after) place list.old list.new }
     ensures before { result ≡ true → IsNoneOrLinked is_linked_one (lent_table links.old) before }
-    ensures behind { result ≡ true → IsNoneOrLinked is_linked_one (lent_table links.old) behind }
+    ensures after { result ≡ true → IsNoneOrLinked is_linked_one (lent_table links.old) after }
     ensures refused { result ≡ false → (links.new ≡ links.old) × (list.new ≡ list.old) }
     ensures extent { (lent_table links.new).extent ≡ (lent_table links.old).extent }
 {
-    if !is_gap(&*links, &*list, before, behind) {
+    if !is_gap(&*links, &*list, before, after) {
         return false;
     }
     let Some(place) = links.acquire(place) else {
         return false;
     };
-    list.insert_linked(links, before, place, behind);
+    list.insert_linked(links, before, place, after);
     true
 }
 
-// Takes the member out from between two places, and says whether it could.
+// Removes the member between two places, and returns whether it did.
 #[inline]
 fn take_out(
     links: &mut RawTable<'_, RawOne>,
     list: &mut List,
     before: Option<Place>,
     member: Place,
-    behind: Option<Place>,
+    after: Option<Place>,
 ) -> bool
     requires { IsLinked is_linked_one (lent_table links.old) member }
     ensures removed { (front back : List Place) → Represents (lent_table links.old) list.old (front ++ member ∷ back)
-        → before ≡ last front → behind ≡ first back
+        → before ≡ last front → after ≡ first back
         → (result ≡ true) × Removes Represents (lent_table links.old) (lent_table links.new) list.new (gaps.before member front back)
         × IsUnlinked is_linked_one (lent_table links.new) member }
-    ensures links_back { result ≡ true → TellsMember (lent_table links.old) list.old before member behind }
+    ensures links_back { result ≡ true → TellsMember (lent_table links.old) list.old before member after }
     ensures touched { result ≡ true
-        → Touches is_linked_one (lent_table links.old) (lent_table links.new) (releases member ∷ []) (Some member ∷ before ∷ behind ∷ []) }
-    ensures own { result ≡ true → TakenOut (gap_between before behind) list.old list.new }
+        → Touches is_linked_one (lent_table links.old) (lent_table links.new) (releases member ∷ []) (Some member ∷ before ∷ after ∷ []) }
+    ensures own { result ≡ true → TakenOut (gap_between before after) list.old list.new }
     ensures before { result ≡ true → IsNoneOrLinked is_linked_one (lent_table links.old) before }
     ensures refused { result ≡ false → (links.new ≡ links.old) × (list.new ≡ list.old) }
     ensures extent { (lent_table links.new).extent ≡ (lent_table links.old).extent }
 {
-    if !is_between(&*links, &*list, before, member, behind) {
+    if !is_between(&*links, &*list, before, member, after) {
         return false;
     }
-    list.bypass(links, before, member, behind);
+    list.bypass(links, before, member, after);
     links.release_link(member);
     true
 }
 
-// Takes the member after `before` off, and says whether it could.
+// Removes the member after `before`, and returns whether it did.
 #[inline]
 pub(crate) fn remove(
     links: &mut RawTable<'_, RawOne>,
@@ -186,11 +186,11 @@ pub(crate) fn remove(
     if !links.is_linked(member) {
         return false;
     }
-    let behind = links.next(member, before);
-    take_out(links, list, before, member, behind)
+    let after = links.next(member, before);
+    take_out(links, list, before, member, after)
 }
 
-// Takes the first member off, where two are after it. Else it changes nothing.
+// Removes the first member, if two are after it. Otherwise it changes nothing.
 #[inline]
 pub(crate) fn pop_before_others(links: &mut RawTable<'_, RawOne>, list: &mut List) -> Option<Place>
     ensures removed { (p q : Place) (s : List Place) → result ≡ Some q → Represents (lent_table links.old) list.old (p ∷ s)
@@ -229,7 +229,7 @@ pub(crate) fn pop_before_others(links: &mut RawTable<'_, RawOne>, list: &mut Lis
     Some(first)
 }
 
-// Takes the last member off, and says whether it could.
+// Removes the last member, and returns whether it did.
 #[inline]
 pub(crate) fn remove_last(links: &mut RawTable<'_, RawOne>, list: &mut List, member: Place) -> bool
     ensures removed { (front : List Place) → Represents (lent_table links.old) list.old (front ++ member ∷ [])
@@ -250,7 +250,7 @@ pub(crate) fn remove_last(links: &mut RawTable<'_, RawOne>, list: &mut List, mem
     take_out(links, list, before, member, None)
 }
 
-// Puts the place where the member after `before` is, which is unlinked then, and says whether it could.
+// Inserts the place where the member after `before` is, removes that member, and returns whether it did.
 #[inline]
 pub(crate) fn replace(
     links: &mut RawTable<'_, RawOne>,
@@ -277,19 +277,19 @@ pub(crate) fn replace(
     if !links.is_linked(member) {
         return false;
     }
-    let behind = links.next(member, before);
-    if !is_between(&*links, &*list, before, member, behind) {
+    let after = links.next(member, before);
+    if !is_between(&*links, &*list, before, member, after) {
         return false;
     }
     let Some(place) = links.acquire(place) else {
         return false;
     };
-    list.replace_linked(links, before, member, place, behind);
+    list.replace_linked(links, before, member, place, after);
     links.release_link(member);
     true
 }
 
-// Whether the words tell of a list between both ends.
+// Returns whether the links at both ends are those of a list: each end is linked and nothing is beyond it, or both ends are `None`.
 #[inline]
 fn has_ends(links: &RawTable<'_, RawOne>, list: &List) -> bool
     ensures links_back { result ≡ true → TellsEnds (lent_table links.now) list.now }
@@ -301,73 +301,73 @@ fn has_ends(links: &RawTable<'_, RawOne>, list: &List) -> bool
     faces(links, last, first, None) && faces(links, first, last, None)
 }
 
-// Puts all of the given list into the gap between two places, and says whether it could.
+// Moves all members of the given list into the gap between two places, and returns whether it did.
 #[inline]
 pub(crate) fn splice(
     links: &mut RawTable<'_, RawOne>,
     list: &mut List,
     before: Option<Place>,
     given: List,
-    behind: Option<Place>,
+    after: Option<Place>,
 ) -> bool
     ensures spliced { (cut : Cut) (t : List Place) → Represents (lent_table links.old) list.old (join cut) → IsAfter cut before
-        → IsBefore cut behind → Represents (lent_table links.old) given t → IsDisjoint t (join cut)
+        → IsBefore cut after → Represents (lent_table links.old) given t → IsDisjoint t (join cut)
         → (result ≡ true) × Splices Represents (lent_table links.old) (lent_table links.new) list.new cut t }
-    ensures links_back { result ≡ true → TellsGap (lent_table links.old) list.old before behind }
+    ensures links_back { result ≡ true → TellsGap (lent_table links.old) list.old before after }
     ensures ends { result ≡ true → TellsEnds (lent_table links.old) given }
     ensures apart { result ≡ true → (p : Place) → given.head ≡ Some p → list.old.head ≢ Some p }
     ensures touched { result ≡ true
-        → Touches is_linked_one (lent_table links.old) (lent_table links.new) [] (before ∷ behind ∷ given.head ∷ given.tail ∷ []) }
+        → Touches is_linked_one (lent_table links.old) (lent_table links.new) [] (before ∷ after ∷ given.head ∷ given.tail ∷ []) }
     ensures own { (first : Place) → given.head ≡ Some first → result ≡ true
-        → Turns (gap_between before behind) (Some first) given.tail list.old list.new }
+        → Turns (gap_between before after) (Some first) given.tail list.old list.new }
     ensures nothing { given.head ≡ None → result ≡ true → (links.new ≡ links.old) × (list.new ≡ list.old) }
     ensures before { result ≡ true → IsNoneOrLinked is_linked_one (lent_table links.old) before }
-    ensures behind { result ≡ true → IsNoneOrLinked is_linked_one (lent_table links.old) behind }
+    ensures after { result ≡ true → IsNoneOrLinked is_linked_one (lent_table links.old) after }
     ensures refused { result ≡ false → (links.new ≡ links.old) × (list.new ≡ list.old) }
     ensures extent { (lent_table links.new).extent ≡ (lent_table links.old).extent }
 {
     if begin_alike(&*list, &given) {
         return false;
     }
-    if !is_gap(&*links, &*list, before, behind) {
+    if !is_gap(&*links, &*list, before, after) {
         return false;
     }
     if !has_ends(&*links, &given) {
         return false;
     }
     let end = given.last();
-    list.splice_between(links, before, given, end, behind);
+    list.splice_between(links, before, given, end, after);
     true
 }
 
-// Cuts the list at the gap between two places, and says whether it could. The list keeps what is before the cut, and the rest is
-// handed out.
+// Cuts the list at the gap between two places, and returns whether it did. The list keeps the members before the gap, and the function returns the
+// rest as a list.
 #[inline]
 pub(crate) fn split(
     links: &mut RawTable<'_, RawOne>,
     list: &mut List,
     before: Option<Place>,
-    behind: Option<Place>,
+    after: Option<Place>,
     rest: &mut List,
 ) -> bool
-    ensures split { (cut : Cut) → Represents (lent_table links.old) list.old (join cut) → IsAfter cut before → IsBefore cut behind
+    ensures split { (cut : Cut) → Represents (lent_table links.old) list.old (join cut) → IsAfter cut before → IsBefore cut after
         → (result ≡ true) × Splits Represents (lent_table links.old) (lent_table links.new) list.new rest.new cut.front cut.back }
-    ensures links_back { result ≡ true → TellsGap (lent_table links.old) list.old before behind }
-    ensures touched { result ≡ true → Touches is_linked_one (lent_table links.old) (lent_table links.new) [] (before ∷ behind ∷ []) }
-    ensures own { result ≡ true → IsCutAt (gap_between before behind) list.old list.new rest.new }
+    ensures links_back { result ≡ true → TellsGap (lent_table links.old) list.old before after }
+    ensures touched { result ≡ true → Touches is_linked_one (lent_table links.old) (lent_table links.new) [] (before ∷ after ∷ []) }
+    ensures own { result ≡ true → IsCutAt (gap_between before after) list.old list.new rest.new }
     ensures before { result ≡ true → IsNoneOrLinked is_linked_one (lent_table links.old) before }
-    ensures behind { result ≡ true → IsNoneOrLinked is_linked_one (lent_table links.old) behind }
+    ensures after { result ≡ true → IsNoneOrLinked is_linked_one (lent_table links.old) after }
     ensures refused { result ≡ false → (links.new ≡ links.old) × (list.new ≡ list.old) × (rest.new ≡ rest.old) }
     ensures extent { (lent_table links.new).extent ≡ (lent_table links.old).extent }
 {
-    if !is_gap(&*links, &*list, before, behind) {
+    if !is_gap(&*links, &*list, before, after) {
         return false;
     }
-    *rest = list.split_between(links, before, behind);
+    *rest = list.split_between(links, before, after);
     true
 }
 
-// Whether the places lead from the first member to the last, within as many steps as the table has places.
+// Returns whether the links lead from the first member to the last within as many steps as the table has places.
 fn leads_to_last(links: &RawTable<'_, RawOne>, list: &List) -> bool
     ensures ended { result ≡ true → (s : List Place) × LeadsThrough (lent_table links.now) list.now s }
     ensures shown { (s : List Place) → Represents (lent_table links.now) list.now s → result ≡ true }
@@ -392,9 +392,20 @@ fn leads_to_last(links: &RawTable<'_, RawOne>, list: &List) -> bool
     false
 }
 
-// Unlinks the places from the first member on, one after the other.
+// Unlinks the place. Afterwards its word is that of a place that no call has linked.
+#[inline]
+fn unlink(links: &mut RawTable<'_, RawOne>, place: Place)
+    requires linked { IsLinked is_linked_one (lent_table links.old) place }
+    ensures frame { ChangesOnly (lent_table links.old) (lent_table links.new) place }
+    ensures word { (lent_table links.new).entry place ≡ no_word }
+{
+    links.entries[place.index()] = RawOne::unlinked();
+}
+
+// Unlinks the places one after the other, beginning with the first member.
 fn release_all(links: &mut RawTable<'_, RawOne>, list: &List)
     ensures cleared { (s : List Place) → Represents (lent_table links.old) list.now s → Clears is_linked_one (lent_table links.old) (lent_table links.new) s }
+    ensures marks { OnlyUnlinks (lent_table links.old) (lent_table links.new) }
     ensures extent { (lent_table links.new).extent ≡ (lent_table links.old).extent }
 {
     let mut prev = None;
@@ -408,18 +419,19 @@ fn release_all(links: &mut RawTable<'_, RawOne>, list: &List)
             return;
         }
         at = links.next(member, prev);
-        links.release_link(member);
+        unlink(links, member);
         prev = Some(member);
         left -= 1;
     }
 }
 
-// Takes all members off, and says whether it could: the places lead from the first to the last.
+// Removes all members, if the links lead from the first to the last, and returns whether it did.
 pub(crate) fn clear(links: &mut RawTable<'_, RawOne>, list: &List) -> bool
     ensures cleared { (s : List Place) → Represents (lent_table links.old) list.now s
         → (result ≡ true) × Clears is_linked_one (lent_table links.old) (lent_table links.new) s }
     ensures ended { result ≡ true → (s : List Place) × LeadsThrough (lent_table links.old) list.now s }
     ensures refused { result ≡ false → links.new ≡ links.old }
+    ensures marks { OnlyUnlinks (lent_table links.old) (lent_table links.new) }
     ensures extent { (lent_table links.new).extent ≡ (lent_table links.old).extent }
 {
     if !leads_to_last(&*links, list) {

@@ -1,9 +1,10 @@
 pub mod Totals
 pub mod Subtrees
 pub mod Writes
-pub mod Renewing
+pub mod Recomputing
 pub mod Searches
 pub mod Overlaps
 pub mod Viewed
+pub mod Ends
 pub mod Edits
 pub mod Notes

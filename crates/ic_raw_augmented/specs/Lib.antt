@@ -1,5 +1,6 @@
 pub mod Find
 pub mod Subtrees
+pub mod Ends
 pub mod SumCalls
 pub mod Sums
 pub mod Noting

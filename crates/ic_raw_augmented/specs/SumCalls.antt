@@ -1,5 +1,5 @@
--- WHAT THE CALLS OF TREES WITH SUMS DO: each record is the whole contract of a call. It says first what the call does to a tree that the table
--- represents, if its sums are right, and then what holds whatever the words say.
+-- WHAT THE CALLS OF TREES WITH SUMS DO: each record is the whole contract of a call. The first fields say what the call does to a tree that the table
+-- represents, if its sums are right. The others hold whatever the words contain.
 use Rattle.std.specs.Prelude.{◌≡◌, ◌≢◌, ◌↔◌, ◌⊎◌, ◌≤◌, ◌∷◌, ◌++◌, ℕ, List, [], Option, Some, None, length, map, filter}
 use Rattle.std.specs.Ordering.{nat_cmp}
 use Rattle.ic_link_ops.specs.Prelude.{Place, Cut, join, first, IsAfter}
@@ -14,27 +14,29 @@ use Rattle.ic_raw.specs.Tree.{Represents, RepresentsTree, IsNoneOrLinkedIn, faul
 use Rattle.ic_raw_augmented.specs.declared.sums.Kind.{Kind}
 use Rattle.ic_raw_augmented.specs.declared.sums.Kind.TheVariants.{Greatest}
 use Rattle.ic_raw_augmented.specs.declared.sums.RawSum.{RawSum}
+use Rattle.ic_raw_augmented.specs.Ends.{EndsAbove, FindEnds, OverlapEnds}
 use Rattle.ic_raw_augmented.specs.Find.{IsFirstBeyond, overlaps}
-use Rattle.ic_raw_augmented.specs.Sums.{IsSummed, IsSummedBut, KeepsValues, StaysBeside, is_there, sums_fault, sum_below, total, value_at}
+use Rattle.ic_raw_augmented.specs.Sums.{IsSummed, IsSummedBut, KeepsValues, StaysBeside, is_there, sums_fault, total, value_at}
 
--- `old`, `new`: the words of the table before the call and after it. `status`: what the call returns
+-- `old`, `new`: the words of the table before the call and after it. `status`: the status that the call returns
 module _ (kind : Kind) (sums : List RawSum) (old new : List RawThree) (status : ℕ) where
-  -- THE FIRST MEMBER BEYOND A BOUND IS HANDED OUT, of those after `at`, from none of all, in words that said `was`
+  -- THE FIRST MEMBER BEYOND A BOUND IS FOUND, among the members after `at`, or among all if `at` is none, and its number replaces `was`
   pub record FindCall (tree : RawRoot) (at : Option Place) (bound was number : ℕ) : Type 0 where
     pub found : (cut : Cut) → length old ≤ length sums → IsAfter cut at → RepresentsTree old tree (join cut) → IsSummed kind (table_of old) sums (join cut)
         → HandsOut (IsFirstBeyond kind (value_at sums) [] bound cut.back) status number
     pub reached : status ≡ OK → HandsOutReached (table_of old) (root_in tree) (at ∷ []) number
-    pub ended : at ≡ None → status ≡ NULL → sum_below sums (root_in tree) ≤ bound
+    pub ended : status ≡ NULL → FindEnds (table_of old) sums (root_in tree) at bound
     pub refused : status ≢ OK → number ≡ was
     pub same : new ≡ old
     pub looked : (status ≡ OK) ⊎ (status ≡ NULL) → (length old ≤ length sums) × IsNoneOrLinkedIn old at × IsNoneOrLinkedIn old (root_in tree)
     pub why : status ≢ OK → status ≢ NULL → status ≡ refusal (fault_at old at ∷ sums_fault sums (length old) ∷ [])
     pub is_status : IsStatus status
 
-  -- WHAT THE VALUES BEFORE A MEMBER MAKE TOGETHER IS HANDED OUT, in words that said `was`
+  -- THE COMBINED VALUES OF THE MEMBERS BEFORE A MEMBER ARE FOUND, and replace `was`
   pub record BeforeCall (at : Option Place) (was sum : ℕ) : Type 0 where
     pub links_back : (root : Option Place) (front back : List Place) (p : Place) → at ≡ Some p → length old ≤ length sums → Represents (table_of old) root (front ++ p ∷ back)
         → IsSummed kind (table_of old) sums (front ++ p ∷ back) → IsAccepted status (sum ≡ total kind (value_at sums) front)
+    pub ended : status ≡ OK → EndsAbove (table_of old) at
     pub null : (status ≡ NULL) ↔ (at ≡ None)
     pub refused : status ≢ OK → sum ≡ was
     pub same : new ≡ old
@@ -42,25 +44,27 @@ module _ (kind : Kind) (sums : List RawSum) (old new : List RawThree) (status : 
     pub why : status ≢ OK → status ≢ NULL → status ≡ refusal (fault_at old at ∷ sums_fault sums (length old) ∷ [])
     pub is_status : IsStatus status
 
--- THE FIRST INTERVAL THAT OVERLAPS [from, to) IS HANDED OUT, of those after `at`, from none of all, in words that said `was`. Each starts at its
--- place's start and ends at its value
+-- THE FIRST INTERVAL THAT OVERLAPS [from, to) IS FOUND, among the members after `at`, or among all if `at` is none, and its number replaces `was`.
+-- The interval of a place starts at its start and ends at its value
 module _ (starts : List ℕ) (sums : List RawSum) (old new : List RawThree) (status : ℕ) where
   pub record OverlapCall (tree : RawRoot) (at : Option Place) (from to was number : ℕ) : Type 0 where
     pub found : (cut : Cut) → length old ≤ length starts → length old ≤ length sums → IsAfter cut at → RepresentsTree old tree (join cut)
         → IsSummed Greatest (table_of old) sums (join cut) → IsSorted nat_cmp (map (key_of starts) cut.back)
         → IsFound (first (filter (overlaps (key_of starts) (value_at sums) from to) cut.back)) status number
     pub reached : status ≡ OK → HandsOutReached (table_of old) (root_in tree) (at ∷ []) number
+    pub ended : status ≡ NULL → OverlapEnds (table_of old) sums (root_in tree) at starts from to
     pub refused : status ≢ OK → number ≡ was
     pub same : new ≡ old
     pub looked : (status ≡ OK) ⊎ (status ≡ NULL) → (length old ≤ length starts) × (length old ≤ length sums) × IsNoneOrLinkedIn old at × IsNoneOrLinkedIn old (root_in tree)
     pub why : status ≢ OK → status ≢ NULL → status ≡ refusal (fault_at old at ∷ keys_fault starts (length old) ∷ sums_fault sums (length old) ∷ [])
     pub is_status : IsStatus status
 
--- `sums`, `sums'`: before the call and after it
+-- `sums`, `sums'`: the sums before the call and after it
 module _ (kind : Kind) (sums sums' : List RawSum) (old new : List RawThree) (status : ℕ) where
-  -- THE SUMS ARE JOINED ANEW from the member `at` up, at none those of the whole table: of each tree they are right if they were at all other members
+  -- THE SUMS ARE COMPUTED AGAIN from the member `at` up, or in the whole table if `at` is none. The sums of a tree are right then if they were right
+  -- at all its other members
   pub record RenewCall (at : Option Place) : Type 0 where
-    pub renewed : (root : Option Place) (s : List Place) → length old ≤ length sums → IsNoneOrLinkedIn old at → Represents (table_of old) root s
+    pub recomputed : (root : Option Place) (s : List Place) → length old ≤ length sums → IsNoneOrLinkedIn old at → Represents (table_of old) root s
         → IsSummedBut kind (table_of old) sums s (is_there at) → IsAccepted status (IsSummed kind (table_of old) sums' s)
     pub opened : length old ≤ length sums → IsNoneOrLinkedIn old at → status ≡ OK
     pub values : KeepsValues sums sums'

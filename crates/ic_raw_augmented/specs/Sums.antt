@@ -1,4 +1,4 @@
--- What the values of a tree's members make together, and the sums that a caller keeps beside the table.
+-- The combined values of a tree's members, and the sums that a caller keeps beside the table.
 use Rattle.std.specs.Prelude.{◌≡◌, ◌+◌, ◌-◌, ◌^◌, ◌<◌, ◌||◌, ℕ, suc, Bool, true, false, cond, nat_eq, nat_lt, min, max, Option, Some, None, List, [], ◌∷◌, length, slice_index_or}
 use Rattle.ic_link_ops.specs.Prelude.{Place, index_of, IsMember, Table}
 use Rattle.ic_link_ops.specs.Walk.{is_end}
@@ -13,21 +13,21 @@ use Rattle.ic_raw_augmented.specs.declared.sums.Kind.{Kind}
 use Rattle.ic_raw_augmented.specs.declared.sums.Kind.TheVariants.{Sum, Greatest}
 use Rattle.ic_raw_augmented.specs.declared.sums.RawSum.{RawSum}
 
--- the kind with that number
+-- the kind of sums with that number
 abbrev pub kind_of : ℕ → Kind
 kind_of number = cond (nat_eq number 0) Sum Greatest
 
--- what two numbers make together: their sum, which stays at the greatest number that a word keeps, or the greater of them
+-- two numbers combined: their sum, which is at most the greatest number of a 64-bit word, or the greater of the two
 abbrev pub combined : Kind → ℕ → ℕ → ℕ
 combined Sum a b = min (a + b) (2 ^ 64 - 1)
 combined Greatest a b = max a b
 
--- WHAT THE VALUES of s MAKE TOGETHER: 0 if there are none
+-- THE VALUES of s COMBINED: 0 if s is empty
 abbrev pub total : Kind → (value : Place → ℕ) → List Place → ℕ
 total kind value [] = 0
 total kind value (p ∷ s) = combined kind (value p) (total kind value s)
 
--- what the caller keeps at a place, 0 beyond the last
+-- the value and the sum at a place, both 0 beyond the last place
 abbrev pub kept_at : List RawSum → Place → RawSum
 kept_at sums p = slice_index_or sums (index_of p) (record { value = 0; sum = 0 })
 
@@ -37,12 +37,12 @@ value_at sums p = (kept_at sums p).value
 abbrev pub sum_at : List RawSum → Place → ℕ
 sum_at sums p = (kept_at sums p).sum
 
--- the sum at an end, 0 at none
+-- the sum at the root of a subtree, or 0 if the subtree is empty
 abbrev pub sum_below : List RawSum → Option Place → ℕ
 sum_below sums None = 0
 sum_below sums (Some p) = sum_at sums p
 
--- what the value of p and the sums of its two children make together, as the words are read
+-- the value of p combined with the sums of its two children, as the words are read
 abbrev pub joined_at : Kind → Table RawThree → List RawSum → Place → ℕ
 joined_at kind t sums p =
     combined kind (sum_below sums (seen_node ((seen t).entry p)).left)
@@ -52,29 +52,29 @@ joined_at kind t sums p =
 abbrev pub IsRightAt : Kind → Table RawThree → List RawSum → Place → Type 0
 IsRightAt kind t sums p = sum_at sums p ≡ joined_at kind t sums p
 
--- THE SUMS ARE RIGHT at each member of s, so that at each stands what the values of its subtree make together
+-- THE SUMS ARE RIGHT at each member of s, so that the sum of each is the combination of the values of its subtree
 abbrev pub IsSummed : Kind → Table RawThree → List RawSum → List Place → Type 0
 IsSummed kind t sums s = (q : Place) → IsMember q s → IsRightAt kind t sums q
 
--- they are, but maybe where `but` is so
+-- the sums are right at each member of s, except perhaps at places for which `but` is true
 abbrev pub IsSummedBut : Kind → Table RawThree → List RawSum → List Place → (but : Place → Bool) → Type 0
 IsSummedBut kind t sums s but = (q : Place) → IsMember q s → but q ≡ false → IsRightAt kind t sums q
 
--- at this place, at none everywhere
+-- true at this place only, or everywhere if there is none
 abbrev pub is_there : Option Place → Place → Bool
 is_there None q = true
 is_there (Some p) q = is_end (Some p) q
 
--- ONLY SUMS ARE WRITTEN: there are as many, and each value stays
+-- ONLY SUMS ARE WRITTEN: there are as many as before, and each value is the same
 pub record KeepsValues (old new : List RawSum) : Type 0 where
   pub count : length new ≡ length old
   pub values : (q : Place) → value_at new q ≡ value_at old q
 
--- each sum beside these places stays: they are in each set out of which no link leads as the words are read, if this end is
+-- only sums of certain places change: those in each set that has this end and out of which, as the words are read, no link leads
 abbrev pub StaysBeside : Table RawThree → List RawSum → List RawSum → Place → Type 0
 StaysBeside t old new p = (S : Place → Bool) → IsClosed seen_node (seen t) None S → S p ≡ true → (q : Place) → S q ≡ false → sum_at new q ≡ sum_at old q
 
--- THE FAULT OF SUMS: there are fewer of them than places
+-- THE FAULT OF SUMS: `OUT_OF_RANGE` if there are fewer sums than places
 abbrev pub sums_fault : (sums : List RawSum) → (places : ℕ) → ℕ
 sums_fault sums places = cond (nat_lt (length sums) places) OUT_OF_RANGE OK
 
@@ -83,19 +83,19 @@ abbrev pub IsSummedTree : Kind → Table RawThree → List RawSum → Tree → T
 IsSummedTree kind t sums leaf = Unit {0}
 IsSummedTree kind t sums (fork c a p b) = IsRightAt kind t sums p × IsSummedTree kind t sums a × IsSummedTree kind t sums b
 
--- fewer members stand above the place than there are turns left, in whatever tree it stands
+-- in any tree that has the place, fewer members are above it than there are turns left
 abbrev pub IsNear : Table RawThree → (turns : ℕ) → Place → Type 0
 IsNear t turns p = (fs : List Frame) (u : Tree) → IsSubtree seen_node (seen t) fs u → top u ≡ Some p → length fs < turns
 
--- whether `above` names p for a child, as the words are read
+-- whether `above` names p as a child, as the words are read
 abbrev pub is_child_of : Table RawThree → (above p : Place) → Bool
 is_child_of t above p = is_end (seen_node ((seen t).entry above)).left p || is_end (seen_node ((seen t).entry above)).right p
 
--- whether the index of a place is at least that
+-- whether the index of a place is at least this number
 abbrev pub is_from : ℕ → Place → Bool
 is_from i q = nat_lt i (suc (index_of q))
 
--- the root of the subtree that begins after a place: its right child, as the words are read, and from none the root of all
+-- the root of the subtree that begins after a place: its right child, as the words are read, or, for none, the root of the whole tree
 abbrev pub next_end : Table RawThree → (root at : Option Place) → Option Place
 next_end t root None = root
 next_end t root (Some p) = (seen_node ((seen t).entry p)).right

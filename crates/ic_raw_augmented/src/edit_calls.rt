@@ -1,4 +1,4 @@
-//! Calls for C that edit a tree, and keep its sums right.
+//! Calls for C that edit a tree and keep its sums right.
 //!
 //! ```text
 //! insert(table, keys, sums, Kind::Sum, tree, 7) // OK: in the order of keys[0], keys[1] ..
@@ -14,13 +14,13 @@ ghost use Rattle.ic_raw_augmented.specs.EditCalls.{SumsInsertCall, SumsPutCall, 
 ghost use Rattle.ic_raw_augmented.specs.Sums.{IsSummed, IsSummedBut, KeepsValues};
 ghost use Rattle.ic_raw_augmented.specs.Written.{is_noted};
 
-use crate::renew::renew_written;
+use crate::recompute::recompute_written;
 use crate::sums::{Kind, RawSum};
 use crate::written::Written;
 use ic_link_ops::Side;
 use ic_raw::{OK, OUT_OF_RANGE, RawRoot, RawTable, RawThree, place_of, search_calls, tree_calls};
 
-// Joins the sums anew where an edit has written, if it was accepted.
+// Makes the sums right again at the places whose children an edit has written, if the edit was accepted.
 fn settle(table: &mut [RawThree], sums: &mut [RawSum], kind: Kind, written: &Written, status: u32)
     requires enough { length table.old ≤ length sums.old }
     ensures right { status ≡ OK → (root : Option Place) (s : List Place) → Represents (table_of table.old) root s
@@ -33,13 +33,14 @@ fn settle(table: &mut [RawThree], sums: &mut [RawSum], kind: Kind, written: &Wri
         return;
     }
     let links = RawTable::new(table);
-    renew_written(&links, sums, kind, written);
+    recompute_written(&links, sums, kind, written);
 }
 
-/// Puts a place in after all members with no greater key than its own, as [`search_calls::insert`] does, and joins the sums anew that change. O(log n).
+/// Inserts a place by its key, after all members whose key is not greater, as [`search_calls::insert`] does, and updates the sums that this changes.
+/// O(log n).
 ///
-/// The place has to be one of the table, and not linked, and there has to be a key and a sum for each place of the table. If the sums of a tree were
-/// right at its members, they are right after it. If there are fewer sums than places, it returns [`OUT_OF_RANGE`].
+/// The place must belong to the table and must not be linked, and there must be a key and a sum for each place of the table. If the sums of a tree
+/// were right at its members, they are right after it. If there are fewer sums than places, it returns [`OUT_OF_RANGE`].
 pub fn insert(
     table: &mut [RawThree],
     keys: &[u64],
@@ -59,11 +60,11 @@ pub fn insert(
     status
 }
 
-/// Puts a place in as the child on this side of the member `at`, at [`NONE`](ic_raw::NONE) as the only member, as [`tree_calls::insert_at`] does, and
-/// joins the sums anew that change. O(log n).
+/// Inserts a place as the child on this side of the member `at`, or as the only member if `at` is [`NONE`](ic_raw::NONE), as
+/// [`tree_calls::insert_at`] does, and updates the sums that this changes. O(log n).
 ///
-/// The place has to be one of the table, and not linked, and there has to be a sum for each place of the table. If the sums of a tree were right at
-/// its members, they are right after it. If there are fewer sums than places, it returns [`OUT_OF_RANGE`].
+/// The place must belong to the table and must not be linked, and there must be a sum for each place of the table. If the sums of a tree were right
+/// at its members, they are right after it. If there are fewer sums than places, it returns [`OUT_OF_RANGE`].
 pub fn insert_at(
     table: &mut [RawThree],
     sums: &mut [RawSum],
@@ -84,11 +85,11 @@ pub fn insert_at(
     status
 }
 
-/// Takes the member `at` off, as [`tree_calls::remove`] does, and joins the sums anew that change, or returns [`NULL`](ic_raw::NULL) at
-/// [`NONE`](ic_raw::NONE). O(log n).
+/// Removes the member `at`, as [`tree_calls::remove`] does, and updates the sums that this changes, or returns [`NULL`](ic_raw::NULL) if
+/// `at` is [`NONE`](ic_raw::NONE). O(log n).
 ///
-/// There has to be a sum for each place of the table. If the sums of a tree were right at its members, they are right after it. If there are
-/// fewer sums than places, it returns [`OUT_OF_RANGE`].
+/// There must be a sum for each place of the table. If the sums of a tree were right at its members, they are right after it. If there are fewer sums
+/// than places, it returns [`OUT_OF_RANGE`].
 pub fn remove(
     table: &mut [RawThree],
     sums: &mut [RawSum],

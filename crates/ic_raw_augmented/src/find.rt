@@ -20,18 +20,19 @@ ghost use Rattle.ic_raw.specs.Seen.{has_place, seen, seen_node};
 ghost use Rattle.ic_raw.specs.Tree.{lent_table};
 ghost use Rattle.ic_raw.specs.WholeTree.{IsSeen};
 ghost use Rattle.ic_raw_augmented.specs.declared.sums.Kind.TheVariants.{Greatest};
+ghost use Rattle.ic_raw_augmented.specs.Ends.{EndsAbove, FindEnds, OverlapEnds};
 ghost use Rattle.ic_raw_augmented.specs.Find.{IsFirstBeyond, overlaps};
-ghost use Rattle.ic_raw_augmented.specs.Sums.{IsSummed, IsSummedTree, next_end, sum_below, total, value_at};
+ghost use Rattle.ic_raw_augmented.specs.Sums.{IsSummed, IsSummedTree, next_end, total, value_at};
 
-use crate::renew::TURNS;
+use crate::recompute::TURNS;
 use crate::sums::{Kind, RawSum, sum_below, value_at};
 use ic_link_ops::Side;
 use ic_raw::{RawTable, RawThree};
 use ic_rbtree::NodeStore;
 use ic_unsafe_ref::Place;
 
-// The first member of the subtree at a place at which the values up to it make more than the bound, where those before the subtree make `done`
-// together. It is `None` if the sums are wrong, or the way down is longer than that of any tree.
+// Returns the first member of the subtree at a place at which the values up to it, combined with `done` for those before the subtree, exceed the
+// bound. The result is `None` if the sums are wrong, or the way down is longer than in any valid tree.
 fn first_below(
     links: &RawTable<'_, RawThree>,
     sums: &[RawSum],
@@ -66,7 +67,8 @@ fn first_below(
     None
 }
 
-// The same among the members after the subtree at a place, where the values between make `done` together, `Some(None)` if all make no more.
+// Returns the same among the members after the subtree at a place, with `done` for the values before these, or `Some(None)` if all values together do
+// not exceed the bound.
 fn first_above(
     links: &RawTable<'_, RawThree>,
     sums: &[RawSum],
@@ -79,6 +81,7 @@ fn first_above(
     ensures found { (fs : List Frame) (t : Tree) (s : List Place) → IsSubtree seen_node (seen (lent_table links.now)) fs t → top t ≡ Some place
         → IsSummedTree kind (lent_table links.now) sums.now (plug fs t) → length fs < 67 → done ≡ total kind (value_at sums.now) s → done ≤ bound
         → (position : Option Place) × (result ≡ Some position) × IsFirstBeyond kind (value_at sums.now) s bound (after fs) position }
+    ensures ended { result ≡ Some None → EndsAbove (lent_table links.now) (Some place) }
     ensures within { (S : Place → Bool) → IsClosed seen_node (seen (lent_table links.now)) None S → S place ≡ true → IfSome result (λ position. IsIn S position) }
 {
     let mut place = place;
@@ -106,7 +109,7 @@ fn first_above(
     None
 }
 
-// The root of the subtree that begins after `at`: its right child, and from none the root of all.
+// Returns the root of the subtree that begins after `at`: its right child, or the root of the whole tree for `None`.
 #[inline]
 fn next_end(links: &RawTable<'_, RawThree>, root: Option<Place>, at: Option<Place>) -> Option<Place>
     requires { IsIn (has_place (lent_table links.now)) at }
@@ -118,8 +121,8 @@ fn next_end(links: &RawTable<'_, RawThree>, root: Option<Place>, at: Option<Plac
     }
 }
 
-// The first member after `at`, from none the first of all, at which the values of the members after `at` up to it make more than the bound,
-// `Some(None)` if all make no more. It is `None` if the words lead to no end.
+// Returns the first member after `at`, or of all members for `None`, at which the combined values of the members after `at` up to it exceed the
+// bound. It is `Some(None)` if there is no such member, and `None` if the links lead to no end.
 pub(crate) fn find(
     links: &RawTable<'_, RawThree>,
     sums: &[RawSum],
@@ -132,7 +135,7 @@ pub(crate) fn find(
     requires at { IsIn (has_place (lent_table links.now)) at }
     ensures found { (cut : Cut) → IsSeen (lent_table links.now) root (join cut) → IsAfter cut at → IsSummed kind (lent_table links.now) sums.now (join cut)
         → (position : Option Place) × (result ≡ Some position) × IsFirstBeyond kind (value_at sums.now) [] bound cut.back position }
-    ensures ended { at ≡ None → result ≡ Some None → sum_below sums.now root ≤ bound }
+    ensures ended { result ≡ Some None → FindEnds (lent_table links.now) sums.now root at bound }
     ensures within { (S : Place → Bool) → IsClosed seen_node (seen (lent_table links.now)) root S → IsIn S at → IfSome result (λ position. IsIn S position) }
 {
     let below = next_end(links, root, at);
@@ -148,7 +151,7 @@ pub(crate) fn find(
     first_above(links, sums, kind, place, done, bound)
 }
 
-// The first member after `at` whose interval overlaps `[from, to)`. The end of each interval is the value at its place.
+// Returns the first member after `at` whose interval overlaps `[from, to)`. The end of each interval is the value at its place.
 pub(crate) fn overlap(
     links: &RawTable<'_, RawThree>,
     sums: &[RawSum],
@@ -164,6 +167,7 @@ pub(crate) fn overlap(
     ensures found { (cut : Cut) → IsSeen (lent_table links.now) root (join cut) → IsAfter cut at → IsSummed Greatest (lent_table links.now) sums.now (join cut)
         → IsSorted nat_cmp (map (key_of starts.now) cut.back)
         → result ≡ Some (first (filter (overlaps (key_of starts.now) (value_at sums.now) from to) cut.back)) }
+    ensures ended { result ≡ Some None → OverlapEnds (lent_table links.now) sums.now root at starts.now from to }
     ensures within { (S : Place → Bool) → IsClosed seen_node (seen (lent_table links.now)) root S → IsIn S at → IfSome result (λ position. IsIn S position) }
 {
     let position = find(links, sums, Kind::Greatest, root, at, from)?;
@@ -176,8 +180,8 @@ pub(crate) fn overlap(
     Some(None)
 }
 
-// What the values of the members before the subtree at a place make together, and after them `done`. It is `None` if the way up is longer than that
-// of any tree.
+// Returns the combined values of the members before the subtree at a place, followed by `done`. The result is `None` if the way up is longer than in
+// any valid tree.
 fn sum_above(
     links: &RawTable<'_, RawThree>,
     sums: &[RawSum],
@@ -186,9 +190,10 @@ fn sum_above(
     done: u64,
 ) -> Option<u64>
     requires { has_place (lent_table links.now) place ≡ true }
-    ensures { (fs : List Frame) (t : Tree) (s : List Place) → IsSubtree seen_node (seen (lent_table links.now)) fs t → top t ≡ Some place
+    ensures made { (fs : List Frame) (t : Tree) (s : List Place) → IsSubtree seen_node (seen (lent_table links.now)) fs t → top t ≡ Some place
         → IsSummedTree kind (lent_table links.now) sums.now (plug fs t) → length fs < 67 → done ≡ total kind (value_at sums.now) s
         → result ≡ Some (total kind (value_at sums.now) (before fs ++ s)) }
+    ensures ended { IfSome result (λ sum. EndsAbove (lent_table links.now) (Some place)) }
 {
     let mut place = place;
     let mut done = done;
@@ -205,7 +210,7 @@ fn sum_above(
     None
 }
 
-// What the values of the members before this one make together. It is `None` if the words lead to no end.
+// Returns the combined values of the members before this one, or `None` if the links lead to no end.
 pub(crate) fn sum_before(
     links: &RawTable<'_, RawThree>,
     sums: &[RawSum],
@@ -213,8 +218,9 @@ pub(crate) fn sum_before(
     member: Place,
 ) -> Option<u64>
     requires { has_place (lent_table links.now) member ≡ true }
-    ensures { (root : Option Place) (front back : List Place) → IsSeen (lent_table links.now) root (front ++ member ∷ back)
+    ensures made { (root : Option Place) (front back : List Place) → IsSeen (lent_table links.now) root (front ++ member ∷ back)
         → IsSummed kind (lent_table links.now) sums.now (front ++ member ∷ back) → result ≡ Some (total kind (value_at sums.now) front) }
+    ensures ended { IfSome result (λ sum. EndsAbove (lent_table links.now) (Some member)) }
 {
     let done = sum_below(sums, links.left(member));
     sum_above(links, sums, kind, member, done)

@@ -8,14 +8,13 @@
 //! renew(table, sums, Kind::Sum, 7)                                    // OK: after the value of 7 was changed
 //! ```
 //!
-//! Nothing requires anything of its arguments. Each call returns a status as those of `ic_raw` do, and leaves all as it was if that is not
-//! `OK`.
+//! No call requires anything of its arguments. Each returns a status as the calls of `ic_raw` do, and changes nothing if the status is not `OK`.
 #![tactic(auto)]
 
 pub mod edit_calls;
 mod find;
 mod noting;
-mod renew;
+mod recompute;
 pub mod sum_calls;
 mod sums;
 mod written;

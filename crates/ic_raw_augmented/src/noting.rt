@@ -1,4 +1,4 @@
-//! The nodes of a table while an edit writes them, of which those are noted whose children it writes.
+//! A view of a table, for an edit, that records the nodes whose children the edit writes.
 //!
 //! ```text
 //! let mut written = Written::new();

@@ -1,4 +1,4 @@
-//! What the calls of trees with sums do, that read a tree, and that join its sums anew.
+//! The calls of trees with sums that search a tree, and those that compute its sums again.
 //!
 //! ```text
 //! find(table, sums, Kind::Sum, tree, NONE, 3, &mut found)      // OK: the member at position 3, if each value is 1
@@ -19,19 +19,20 @@ ghost use Rattle.ic_raw.specs.Tables.{member_fault};
 ghost use Rattle.ic_raw.specs.Tree.{Represents, lent_table, root_in};
 ghost use Rattle.ic_raw.specs.Words.{is_linked_three, place_of};
 ghost use Rattle.ic_raw_augmented.specs.declared.sums.Kind.TheVariants.{Greatest};
+ghost use Rattle.ic_raw_augmented.specs.Ends.{EndsAbove, FindEnds, OverlapEnds};
 ghost use Rattle.ic_raw_augmented.specs.Find.{IsFirstBeyond, overlaps};
 ghost use Rattle.ic_raw_augmented.specs.SumCalls.{BeforeCall, FindCall, OverlapCall, RenewCall};
-ghost use Rattle.ic_raw_augmented.specs.Sums.{IsSummed, sum_below, sums_fault, total, value_at};
+ghost use Rattle.ic_raw_augmented.specs.Sums.{IsSummed, sums_fault, total, value_at};
 
 use crate::find as searches;
-use crate::renew::{renew_all, renew_up};
+use crate::recompute::{recompute_all, recompute_up};
 use crate::sums::{Kind, RawSum};
 use ic_raw::{
     BROKEN, NULL, OK, OUT_OF_RANGE, RawRoot, RawTable, RawThree, number_of, place_in, place_of,
 };
 use ic_unsafe_ref::Place;
 
-// Whether there is a sum for each place, and both ends are none or linked.
+// Returns whether there is a sum for each place, and both ends are `None` or linked.
 #[inline]
 fn is_searchable(
     links: &RawTable<'_, RawThree>,
@@ -51,7 +52,7 @@ fn is_searchable(
     links.stands(at) && links.stands(root)
 }
 
-// Why a tree is not searched: by the fault of the member or of the sums, or as [`BROKEN`].
+// Returns why a tree is not searched: the fault of the member, else that of the sums, or else [`BROKEN`].
 #[cold]
 #[inline(never)]
 fn refusal(links: &RawTable<'_, RawThree>, sums: &[RawSum], at: u32) -> u32
@@ -69,7 +70,7 @@ fn refusal(links: &RawTable<'_, RawThree>, sums: &[RawSum], at: u32) -> u32
     BROKEN
 }
 
-// The same, if a start is missing for a place, by that fault.
+// Returns the same, or the fault of the starts if there are fewer of them than places.
 #[cold]
 #[inline(never)]
 fn refusal_of_starts(
@@ -95,7 +96,7 @@ fn refusal_of_starts(
     BROKEN
 }
 
-// Hands out the first member beyond a bound, of those after `at`.
+// Stores the number of the first member after `at` beyond a bound.
 #[inline]
 fn look(
     links: &RawTable<'_, RawThree>,
@@ -110,7 +111,7 @@ fn look(
         → Represents (lent_table links.now) (root_in tree.now) (join cut) → IsSummed kind (lent_table links.now) sums.now (join cut)
         → HandsOut (IsFirstBeyond kind (value_at sums.now) [] bound cut.back) result found.new }
     ensures reached { result ≡ OK → HandsOutReached (lent_table links.now) (root_in tree.now) (place_of at ∷ []) found.new }
-    ensures ended { place_of at ≡ None → result ≡ NULL → sum_below sums.now (root_in tree.now) ≤ bound }
+    ensures ended { result ≡ NULL → FindEnds (lent_table links.now) sums.now (root_in tree.now) (place_of at) bound }
     ensures refused { result ≢ OK → found.new ≡ found.old }
     ensures looked { (result ≡ OK) ⊎ (result ≡ NULL) → ((lent_table links.now).extent.places ≤ length sums.now)
         × IsNoneOrLinked is_linked_three (lent_table links.now) (place_of at) × IsNoneOrLinked is_linked_three (lent_table links.now) (root_in tree.now) }
@@ -135,7 +136,7 @@ fn look(
     OK
 }
 
-// Hands out the first interval that overlaps `[from, to)`, of those after `at`.
+// Stores the number of the first member after `at` whose interval overlaps `[from, to)`.
 #[inline]
 fn look_overlap(
     links: &RawTable<'_, RawThree>,
@@ -152,6 +153,7 @@ fn look_overlap(
         → IsSummed Greatest (lent_table links.now) sums.now (join cut) → IsSorted nat_cmp (map (key_of starts.now) cut.back)
         → IsFound (first (filter (overlaps (key_of starts.now) (value_at sums.now) from to) cut.back)) result found.new }
     ensures reached { result ≡ OK → HandsOutReached (lent_table links.now) (root_in tree.now) (place_of at ∷ []) found.new }
+    ensures ended { result ≡ NULL → OverlapEnds (lent_table links.now) sums.now (root_in tree.now) (place_of at) starts.now from to }
     ensures refused { result ≢ OK → found.new ≡ found.old }
     ensures looked { (result ≡ OK) ⊎ (result ≡ NULL) → ((lent_table links.now).extent.places ≤ length starts.now)
         × ((lent_table links.now).extent.places ≤ length sums.now)
@@ -180,7 +182,7 @@ fn look_overlap(
     OK
 }
 
-// Hands out what the values of the members before a place make together.
+// Stores the combined values of the members before a place.
 #[inline]
 fn look_before(
     links: &RawTable<'_, RawThree>,
@@ -192,6 +194,7 @@ fn look_before(
     ensures links_back { (root : Option Place) (front back : List Place) (p : Place) → place_of at ≡ Some p → (lent_table links.now).extent.places ≤ length sums.now
         → Represents (lent_table links.now) root (front ++ p ∷ back) → IsSummed kind (lent_table links.now) sums.now (front ++ p ∷ back)
         → IsAccepted result (sum.new ≡ total kind (value_at sums.now) front) }
+    ensures ended { result ≡ OK → EndsAbove (lent_table links.now) (place_of at) }
     ensures null { result ≡ NULL → place_of at ≡ None }
     ensures none { place_of at ≡ None → result ≡ NULL }
     ensures refused { result ≢ OK → sum.new ≡ sum.old }
@@ -213,10 +216,10 @@ fn look_before(
     OK
 }
 
-/// Hands out the first member after the member `at`, from [`NONE`](ic_raw::NONE) the first of all, at which what the values of the members after
-/// `at` up to it make together is greater than `bound`, or returns [`NULL`] if that of all is not. It writes nothing else. O(log n).
+/// Stores in `found` the number of the first member after `at`, or of all members if `at` is [`NONE`](ic_raw::NONE), at which the combined values of
+/// the members after `at` up to it exceed `bound`. It returns [`NULL`] if there is no such member. It writes nothing else. O(log n).
 ///
-/// There has to be a sum for each place of the table. If the sums of the tree are not right, it may hand out another member, or return [`BROKEN`].
+/// There must be a sum for each place of the table. If the sums of the tree are not right, it may find another member, or return [`BROKEN`].
 #[inline]
 pub fn find(
     table: &mut [RawThree],
@@ -233,10 +236,10 @@ pub fn find(
     look(&links, sums, kind, tree, at, bound, found)
 }
 
-/// Hands out what the values of the members before the member `at` make together, or returns [`NULL`] at [`NONE`](ic_raw::NONE). It writes nothing
-/// else. O(log n).
+/// Stores the combined values of the members before `at` in `sum`, or returns [`NULL`] if `at` is [`NONE`](ic_raw::NONE). It writes nothing else.
+/// O(log n).
 ///
-/// There has to be a sum for each place of the table. If the words lead from the member to no root, it returns [`BROKEN`].
+/// There must be a sum for each place of the table. If the links lead from the member to no root, it returns [`BROKEN`].
 #[inline]
 pub fn before(table: &mut [RawThree], sums: &[RawSum], kind: Kind, at: u32, sum: &mut u64) -> u32
     ensures { BeforeCall kind sums.now table.old table.new result (place_of at) sum.old sum.new }
@@ -245,12 +248,12 @@ pub fn before(table: &mut [RawThree], sums: &[RawSum], kind: Kind, at: u32, sum:
     look_before(&links, sums, kind, at, sum)
 }
 
-/// Hands out the first member after the member `at`, from [`NONE`](ic_raw::NONE) the first of all, whose interval overlaps `[from, to)`, or returns
-/// [`NULL`] if there is none. The interval starts at the start of its place and ends at its value, which it does not contain. It writes nothing else.
-/// O(log n).
+/// Stores in `found` the number of the first member after `at`, or of all members if `at` is [`NONE`](ic_raw::NONE), whose interval overlaps `[from,
+/// to)`, or returns [`NULL`] if there is none. The interval starts at the start of its place and ends at its value, which it does not contain. It
+/// writes nothing else. O(log n).
 ///
-/// There has to be a start and a sum for each place of the table. The sums are those of [`Kind::Greatest`], and from one member to the next the
-/// starts must not fall.
+/// There must be a start and a sum for each place of the table. The sums must be those of [`Kind::Greatest`], and the starts must not decrease from
+/// one member to the next.
 #[inline]
 pub fn overlap(
     table: &mut [RawThree],
@@ -268,10 +271,10 @@ pub fn overlap(
     look_overlap(&links, starts, sums, tree, at, from, to, found)
 }
 
-/// Joins the sum at the member `at` anew, and those above it as far as they change, at [`NONE`](ic_raw::NONE) all sums of the table. O(log n), at
-/// none O(p log p) for p places.
+/// Computes the sum at the member `at` and the sums above it again, after its value has changed. If `at` is [`NONE`](ic_raw::NONE), it computes all
+/// sums of the table. O(log n), and for all sums O(p log p) for p places.
 ///
-/// There has to be a sum for each place of the table.
+/// There must be a sum for each place of the table.
 pub fn renew(table: &mut [RawThree], sums: &mut [RawSum], kind: Kind, at: u32) -> u32
     ensures { RenewCall kind sums.old sums.new table.old table.new result (place_of at) }
 {
@@ -281,9 +284,9 @@ pub fn renew(table: &mut [RawThree], sums: &mut [RawSum], kind: Kind, at: u32) -
         return refusal(&links, &*sums, at);
     }
     let Some(member) = from else {
-        renew_all(&links, sums, kind);
+        recompute_all(&links, sums, kind);
         return OK;
     };
-    renew_up(&links, sums, kind, member);
+    recompute_up(&links, sums, kind, member);
     OK
 }

@@ -1,4 +1,4 @@
-//! Sums beside the places of a table, as a caller keeps them, and what two of them make together.
+//! The sums that a caller keeps beside the places of a table, and how two of them are combined.
 //!
 //! ```text
 //! struct ic_sum { uint64_t value, sum; };
@@ -14,28 +14,28 @@ use ic_raw::{RawTable, RawThree};
 use ic_rbtree::NodeStore;
 use ic_unsafe_ref::Place;
 
-/// What a caller keeps at a place beside its link: a value of the caller's, and what the values of the place and of all members below it
-/// make together, which the calls write.
+/// What a caller keeps for each place beside its link: a value, which the caller writes, and the combination of the values of the place and of all
+/// members below it, which the calls write.
 #[repr(C)]
 #[derive(Clone, Copy)]
 pub struct RawSum {
-    /// The caller writes it, and calls leave it as it is.
+    /// The value of the place. The caller writes it, and no call changes it.
     pub value: u64,
-    /// Calls write it.
+    /// The combined values of the place and of all members below it. The calls write it.
     pub sum: u64,
 }
 
-/// What values make together.
+/// How values are combined.
 #[derive(Clone, Copy)]
 pub enum Kind {
-    /// Their sum, at most `u64::MAX`. With the value 1 at each place it counts members.
+    /// They are added, up to at most `u64::MAX`. With the value 1 at each place, the sum counts members.
     Sum,
-    /// The greatest of them.
+    /// The greatest of them is taken.
     Greatest,
 }
 
 impl Kind {
-    /// The kind with that number: 0 for [`Kind::Sum`], and any other for [`Kind::Greatest`]. O(1).
+    /// Returns the kind with that number: [`Kind::Sum`] for 0, and [`Kind::Greatest`] for any other. O(1).
     #[inline]
     pub fn of(number: u32) -> Kind
         ensures { result ≡ kind_of number }
@@ -47,7 +47,7 @@ impl Kind {
         }
     }
 
-    // What two numbers make together.
+    // Returns two numbers combined.
     #[inline]
     pub(crate) fn combine(self, a: u64, b: u64) -> u64
         ensures { result ≡ combined self a b }
@@ -59,7 +59,7 @@ impl Kind {
     }
 }
 
-// The greater of two numbers.
+// Returns the greater of two numbers.
 #[inline]
 fn greater(a: u64, b: u64) -> u64
     ensures { result ≡ max a b }
@@ -67,7 +67,7 @@ fn greater(a: u64, b: u64) -> u64
     if a < b { b } else { a }
 }
 
-// The value at a place, 0 beyond the last.
+// Returns the value at a place, or 0 beyond the last place.
 #[inline]
 pub(crate) fn value_at(sums: &[RawSum], place: Place) -> u64
     ensures { result ≡ value_at sums.now place }
@@ -80,7 +80,7 @@ pub(crate) fn value_at(sums: &[RawSum], place: Place) -> u64
     }
 }
 
-// The sum at an end, 0 at none.
+// Returns the sum at the root of a subtree, or 0 if the subtree is empty.
 #[inline]
 pub(crate) fn sum_below(sums: &[RawSum], end: Option<Place>) -> u64
     ensures { result ≡ sum_below sums.now end }
@@ -108,7 +108,7 @@ pub(crate) fn set_sum(sums: &mut [RawSum], place: Place, sum: u64)
     kept.sum = sum;
 }
 
-// What the value of a place and the sums of its two children make together.
+// Returns the value of a place combined with the sums of its two children.
 #[inline]
 pub(crate) fn joined(
     links: &RawTable<'_, RawThree>,

@@ -1,9 +1,9 @@
-//! The places whose children an edit has written, noted by the nodes over which its surgery goes.
+//! The places whose children an edit has written. The nodes over which the edit runs record them.
 //!
 //! ```text
 //! let mut written = Written::of(None);
 //! let status = tree_calls::remove_by(&mut written, table, tree, 7);
-//! renew_written(&links, sums, kind, &written); // joins the sums anew from each of them up
+//! recompute_written(&links, sums, kind, &written); // joins the sums anew from each of them up
 //! ```
 
 ghost use Rattle.std.specs.Prelude.{◌≡◌, Option, Some, true};
@@ -12,21 +12,22 @@ ghost use Rattle.ic_raw_augmented.specs.Written.{is_noted};
 
 use ic_unsafe_ref::Place;
 
-// An edit of a tree writes children at no more places, one of them more than once: 10 at an insertion, and 13 at a removal.
+// Room for the places at which one edit of a tree writes children: at most 10 at an insertion and 13 at a removal, of which one may occur more than
+// once.
 const ROOM: usize = 14;
 
 /// Places whose children were written, in the order of the writes.
 #[derive(Drop)]
 pub struct Written {
-    // The word of each, 0 for none.
+    // The word of each place, 0 for none.
     pub(crate) words: [u64; 14],
     count: usize,
-    // There was no room for one, which may be any.
+    // Whether there was no room for a place, which may be any place.
     pub(crate) is_full: bool,
 }
 
 impl Written {
-    /// With this place, or with none. O(1).
+    /// Makes a record with this place, or with none. O(1).
     #[inline]
     pub(crate) fn of(place: Option<Place>) -> Written
         ensures { (q : Place) → place ≡ Some q → is_noted result q ≡ true }
@@ -42,7 +43,7 @@ impl Written {
         written
     }
 
-    /// Notes the place. O(1).
+    /// Records the place. O(1).
     #[inline]
     pub(crate) fn note(&mut self, place: Place)
         ensures here { is_noted self.new place ≡ true }

@@ -63,7 +63,7 @@ pub record Reverses (t u : Table RawOne) (s : List Place) (back at : Option Plac
   pub rest : List Place
   pub parts : s ≡ reverse ahead ++ rest
   pub turned : Represents u (list_from back) ahead
-  pub behind : Represents u (list_from at) rest
+  pub after : Represents u (list_from at) rest
   pub few : length rest ≤ left
   pub frame : ChangesOnlyIn t u s
 
@@ -73,7 +73,7 @@ reverse_none {s = s} shown few = record {
   rest = s;
   parts = refl;
   turned = record { distinct = tt; chain = tt; head = refl; tail = refl };
-  behind = shown;
+  after = shown;
   few = few;
   frame = record { extent = refl; others = λ q out. refl };
 }
@@ -83,19 +83,19 @@ pub reverse_more : {t u v : Table RawOne} {s : List Place} {back : Option Place}
     → Reverses t v s (Some p) next (left - 1)
 reverse_more {t} {u} {v} {s} {back} {p} next {left} distinct k only set next_is =
     let r = drop 1 k.rest in
-    let is : k.rest ≡ p ∷ r = first_is k.rest k.behind.head in
+    let is : k.rest ≡ p ∷ r = first_is k.rest k.after.head in
     let whole : s ≡ reverse k.ahead ++ p ∷ r = k.parts ∙ ap (λ (l : List Place). reverse k.ahead ++ l) is in
-    let here : Represents u (list_from (Some p)) (p ∷ r) = subst (λ (l : List Place). Represents u (list_from (Some p)) l) is k.behind in
+    let here : Represents u (list_from (Some p)) (p ∷ r) = subst (λ (l : List Place). Represents u (list_from (Some p)) l) is k.after in
     let out : IsAbsent p (reverse k.ahead) = absent_left p (reverse k.ahead) r (distinct_middle (reverse k.ahead) r p (subst IsDistinct whole distinct)) in
     let away : IsAbsent p k.ahead = subst (IsAbsent p) (reverse-reverse k.ahead) (absent_reverse p (reverse k.ahead) out) in
-    let less = fewer k.rest p k.behind.head in
+    let less = fewer k.rest p k.after.head in
     let few = k.few in
     record {
       ahead = p ∷ k.ahead;
       rest = r;
       parts = whole ∙ sym (append_assoc (reverse k.ahead) (p ∷ []) r) ∙ ap (λ (l : List Place). l ++ r) (sym (reverse_cons p k.ahead));
       turned = turned_represents only k.ahead set k.turned away;
-      behind = subst (λ (o : Option Place). Represents v (list_from o) r) (sym next_is) (turned_rest only r here);
+      after = subst (λ (o : Option Place). Represents v (list_from o) r) (sym next_is) (turned_rest only r here);
       few = omega (arith, less, few);
       frame = record {
         extent = only.extent ∙ k.frame.extent;
@@ -104,11 +104,11 @@ reverse_more {t} {u} {v} {s} {back} {p} next {left} distinct k only set next_is 
     }
 
 pub reverse_over : {t u : Table RawOne} {s : List Place} {back at : Option Place} {left : ℕ} → Reverses t u s back at left → left ≤ 0 → at ≡ None
-reverse_over k over = let few = k.few in k.behind.head ∙ none_left k.rest (omega (arith, few, over))
+reverse_over k over = let few = k.few in k.after.head ∙ none_left k.rest (omega (arith, few, over))
 
 pub reverse_done : {t u : Table RawOne} {s : List Place} {back at : Option Place} {left : ℕ} → Reverses t u s back at left → at ≡ None → Represents u (list_from back) (reverse s)
 reverse_done {u = u} {s} {back} k none =
-    let nothing : k.rest ≡ [] = nothing_first k.rest (sym none ∙ k.behind.head) in
+    let nothing : k.rest ≡ [] = nothing_first k.rest (sym none ∙ k.after.head) in
     let all : s ≡ reverse k.ahead = k.parts ∙ ap (λ (l : List Place). reverse k.ahead ++ l) nothing ∙ append-nil (reverse k.ahead) in
     subst (λ (l : List Place). Represents u (list_from back) l) (sym (reverse-reverse k.ahead) ∙ ap (λ (l : List Place). reverse l) (sym all)) k.turned
 
@@ -151,7 +151,7 @@ pub record SpreadsTo (hashes : List ℕ) (t u : RawTable RawOne) (b c : List Raw
   pub done : List Place
   pub rest : List Place
   pub parts : r ≡ done ++ rest
-  pub behind : Represents (lent_table u) (list_from at) rest
+  pub after : Represents (lent_table u) (list_from at) rest
   pub few : length rest ≤ left
   pub frame : ChangesOnlyIn (lent_table t) (lent_table u) r
   pub holds : (chains : ℕ → List Place) → HoldsChains (raw_entries t) b chains → ((i : ℕ) → i < length b → IsDisjoint (chains i) r)
@@ -165,7 +165,7 @@ spread_none t {r = r} shown few = record {
   done = [];
   rest = r;
   parts = refl;
-  behind = shown;
+  after = shown;
   few = few;
   frame = record { extent = refl; others = λ q out. refl };
   holds = λ chains h apart. (h, apart);
@@ -177,13 +177,13 @@ module _ {hashes : List ℕ} {t u : RawTable RawOne} (v : RawTable RawOne) {b c 
     (set : successor_at successor (lent_table v) p ≡ record { linked = true; next = front_of (bucket_at c i) })
     (next_is : next ≡ (successor_at successor (lent_table u) p).next) (slot : i ≡ slot_for hashes (length c) p) (fits : i < length c) where
   rest_is : k.rest ≡ p ∷ drop 1 k.rest
-  rest_is = first_is k.rest k.behind.head
+  rest_is = first_is k.rest k.after.head
 
   whole : r ≡ k.done ++ p ∷ drop 1 k.rest
   whole = k.parts ∙ ap (λ (l : List Place). k.done ++ l) rest_is
 
   here : Represents (lent_table u) (list_from (Some p)) (p ∷ drop 1 k.rest)
-  here = subst (λ (l : List Place). Represents (lent_table u) (list_from (Some p)) l) rest_is k.behind
+  here = subst (λ (l : List Place). Represents (lent_table u) (list_from (Some p)) l) rest_is k.after
 
   slot_b : i ≡ slot_for hashes (length b) p
   slot_b = slot ∙ ap (λ (n : ℕ). key_of hashes p % n) count
@@ -244,13 +244,13 @@ module _ {hashes : List ℕ} {t u : RawTable RawOne} (v : RawTable RawOne) {b c 
   -- ONE MEMBER MORE
   pub spread_more : SpreadsTo hashes t v b (slice_set c i (word_of_front (Some p))) r next (left - 1)
   spread_more =
-      let less = fewer k.rest p k.behind.head in
+      let less = fewer k.rest p k.after.head in
       let few = k.few in
       record {
         done = k.done ++ p ∷ [];
         rest = drop 1 k.rest;
         parts = whole ∙ sym (append_assoc k.done (p ∷ []) (drop 1 k.rest));
-        behind = subst (λ (o : Option Place). Represents (lent_table v) (list_from o) (drop 1 k.rest)) (sym next_is) (turned_rest only (drop 1 k.rest) here);
+        after = subst (λ (o : Option Place). Represents (lent_table v) (list_from o) (drop 1 k.rest)) (sym next_is) (turned_rest only (drop 1 k.rest) here);
         few = omega (arith, less, few);
         frame = record {
           extent = only.extent ∙ k.frame.extent;
@@ -269,12 +269,12 @@ module _ {hashes : List ℕ} {t u : RawTable RawOne} (v : RawTable RawOne) {b c 
 
 pub spread_over_now : {hashes : List ℕ} {t u : RawTable RawOne} {b c : List RawFront} {r : List Place} {at : Option Place} {left : ℕ} → SpreadsTo hashes t u b c r at left → left ≤ 0
     → at ≡ None
-spread_over_now k over = let few = k.few in k.behind.head ∙ none_left k.rest (omega (arith, few, over))
+spread_over_now k over = let few = k.few in k.after.head ∙ none_left k.rest (omega (arith, few, over))
 
 pub spread_done : {hashes : List ℕ} {t u : RawTable RawOne} {b c : List RawFront} {r : List Place} {at : Option Place} {left : ℕ} → SpreadsTo hashes t u b c r at left → at ≡ None
     → Spreads hashes t u b c r
 spread_done {hashes} {t} {u} {b} {c} {r} k none =
-    let nothing : k.rest ≡ [] = nothing_first k.rest (sym none ∙ k.behind.head) in
+    let nothing : k.rest ≡ [] = nothing_first k.rest (sym none ∙ k.after.head) in
     let all : k.done ≡ r = sym (k.parts ∙ ap (λ (l : List Place). k.done ++ l) nothing ∙ append-nil k.done) in
     record {
       holds = λ chains h apart. subst (λ (d : List Place). HoldsChains (raw_entries u) c (spread_over hashes (length b) chains d)) all (k.holds chains h apart).0;
@@ -284,7 +284,7 @@ spread_done {hashes} {t} {u} {b} {c} {r} k none =
 
 -- the member to which the walk has come is linked
 pub represented_linked : {u : Table RawOne} {p : Place} (rest : List Place) → Represents u (list_from (Some p)) rest → is_linked_one (u.entry p) ≡ true
-represented_linked {u} {p} rest behind = (subst (λ (l : List Place). Represents u (list_from (Some p)) l) (first_is rest behind.head) behind).chain.0.linked
+represented_linked {u} {p} rest after = (subst (λ (l : List Place). Represents u (list_from (Some p)) l) (first_is rest after.head) after).chain.0.linked
 
 -- the first member of a list is linked
 stand_front : {t : Table RawOne} {list : Front} (s : List Place) → Represents t list s → IsNoneOrLinked is_linked_one t list.head

@@ -1,4 +1,4 @@
--- The first and the last member of a red-black tree, in words that a caller keeps beside that of the tree.
+-- The first and the last member of a red-black tree, in words that a caller keeps beside the word of the tree.
 use Rattle.std.specs.Prelude.{◌≡◌, ◌≢◌, ◌⊎◌, List, Option, Some, None}
 use Rattle.ic_link_ops.specs.Prelude.{Place, word_of, Table, IsLinked}
 use Rattle.ic_link_ops.specs.Frames.{across}
@@ -11,33 +11,33 @@ use Rattle.ic_raw.specs.Seen.{seen, seen_node, StepEndsIn}
 use Rattle.ic_raw.specs.Words.{place_in, is_linked_three}
 use Rattle.ic_raw_keyed.specs.declared.ends.RawTreeEnds.{RawTreeEnds}
 
--- the end on a side, by its word: the first member on the left, the last one on the right
+-- the member at an end, by its word: the first one for the left side, the last one for the right
 abbrev pub end_in : Side → RawTreeEnds → Option Place
 end_in Left ends = place_in ends.first
 end_in Right ends = place_in ends.last
 
--- the words of these ends, as a call writes them: none is 0
+-- the words of these ends, as a call writes them: 0 for none
 abbrev pub words_of : (first last : Option Place) → RawTreeEnds
 words_of first last = record { first = word_of first; last = word_of last }
 
--- the words of both ends are as a call writes them
+-- the words of both ends have exactly the bits that a call writes
 abbrev pub IsWritten : RawTreeEnds → Type 0
 IsWritten ends = ends ≡ words_of (place_in ends.first) (place_in ends.last)
 
--- THE WORDS SAY THE ENDS of s: its first member and its last one, none if it has none
+-- THE WORDS NAME THE ENDS of s: its first and its last member, or none if it is empty
 abbrev pub SaysEnds : RawTreeEnds → List Place → Type 0
 SaysEnds ends s = (side : Side) → end_in side ends ≡ end_on side s
 
--- an end once a place is in the tree: as it was, or that place, from which no step leads on to this side, as the words are read
+-- an end after a place was inserted: as it was before, or that place if, as the words are read, no step leads from it further to this side
 abbrev pub EndWith : Table RawThree → (root : Option Place) → Side → (place was is : Option Place) → Type 0
 EndWith t root side place was is = (is ≡ was) ⊎ ((is ≡ place) × StepEndsIn t root side place)
 
--- where a step inwards leads from the end `out` on a side, as the words are read: to another linked place, or to none
+-- the place to which a step inwards leads from the end `out` on a side, as the words are read: another linked place, or none
 abbrev pub IsNextEnd : Table RawThree → (root : Option Place) → Side → (out : Place) → Option Place → Type 0
 IsNextEnd t root side out None = StepEndsIn t root (across side) (Some out)
 IsNextEnd t root side out (Some q) = StepsTo seen_node (seen t) root (across side) (Some out) q × IsLinked is_linked_three t q × (q ≢ out)
 
--- AN END ONCE THE MEMBER `out` IS OUT of the tree: as it was, and if that was the end, the next one inwards
+-- AN END AFTER THE MEMBER `out` WAS REMOVED: as it was before, or the next member inwards if `out` was that end
 pub record LosesEnd (t : Table RawThree) (root : Option Place) (side : Side) (out : Place) (was is : Option Place) : Type 0 where
   pub next : was ≡ Some out → IsNextEnd t root side out is
   pub other : was ≢ Some out → is ≡ was

@@ -1,4 +1,4 @@
--- Chains of a hash table whose members move to the buckets of another array.
+-- Moves of the members of a hash table's chains to the buckets of another array.
 use Rattle.std.specs.Prelude.{◌≡◌, ◌⊎◌, ℕ, ◌%◌, eqb, cond, Some, List, [], ◌∷◌, length}
 use Rattle.ic_link_ops.specs.Prelude.{Place, IsMember, Table}
 use Rattle.ic_raw.specs.declared.words.RawFront.{RawFront}
@@ -9,20 +9,20 @@ use Rattle.ic_raw.specs.Keys.{key_of}
 use Rattle.ic_raw.specs.Singly.{front_of, word_of_front}
 use Rattle.ic_raw.specs.Words.{is_linked_one}
 
--- the number of the bucket, of so many, where the hash of a place leads
+-- the number of the bucket to which the hash of a place leads, among `count` buckets
 abbrev pub slot_for : (hashes : List ℕ) → (count : ℕ) → Place → ℕ
 slot_for hashes count p = key_of hashes p % count
 
--- those of s whose hash leads to bucket i, of so many, in their order
+-- the places of s whose hash leads to bucket i among `count` buckets, in their order
 abbrev pub leading_to : (hashes : List ℕ) → (count i : ℕ) → List Place → List Place
 leading_to hashes count i [] = []
 leading_to hashes count i (p ∷ s) = cond (eqb (slot_for hashes count p) i) (p ∷ leading_to hashes count i s) (leading_to hashes count i s)
 
--- the bucket where the hash of a place leads begins with none, or with a linked place
+-- the bucket to which the hash of a place leads is empty, or begins with a linked place
 abbrev pub LeadsToLinked : Table RawOne → (hashes : List ℕ) → List RawFront → Place → Type 0
 LeadsToLinked t hashes buckets p = IsNoneOrLinked is_linked_one t (front_of (bucket_at buckets (slot_for hashes (length buckets) p)))
 
--- a bucket's word is as it was, or names a member of s whose hash leads there, as a call writes it
+-- a bucket's word is as it was, or has exactly the bits that a call writes for a member of s whose hash leads to this bucket
 abbrev pub StaysOrGets : (hashes : List ℕ) → (buckets buckets' : List RawFront) → List Place → ℕ → Type 0
 StaysOrGets hashes buckets buckets' s i =
     (bucket_at buckets' i ≡ bucket_at buckets i)

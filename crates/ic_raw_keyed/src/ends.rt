@@ -26,7 +26,7 @@ pub struct RawTreeEnds {
     pub last: u64,
 }
 
-// Whether the end is that place. Words are compared.
+// Returns whether the end is that place. It compares words.
 #[inline]
 pub(crate) fn is_at(end: Option<Place>, place: Place) -> bool
     ensures { result ≡ is_end end place }
@@ -34,7 +34,7 @@ pub(crate) fn is_at(end: Option<Place>, place: Place) -> bool
     Place::to_word(end) == Place::to_word(Some(place))
 }
 
-// The end once `new` stands in the place of the member `out`.
+// Returns the end after `new` has replaced the member `out`.
 #[inline]
 fn end_for(out: Place, new: Option<Place>, end: Option<Place>) -> Option<Place>
     ensures { (p : Place) → new ≡ Some p → result ≡ end_for out p end }
@@ -43,7 +43,7 @@ fn end_for(out: Place, new: Option<Place>, end: Option<Place>) -> Option<Place>
 }
 
 impl RawTreeEnds {
-    // The words of these ends.
+    // Returns the words of these ends.
     #[inline]
     #[tactic(auto, using(ic_raw::proofs::Entries::place_kept))]
     pub(crate) fn of(first: Option<Place>, last: Option<Place>) -> RawTreeEnds
@@ -57,7 +57,7 @@ impl RawTreeEnds {
         }
     }
 
-    // The end on this side: the first member on the left, the last one on the right.
+    // Returns the end on this side: the first member for the left, the last one for the right.
     #[inline]
     pub(crate) fn end(&self, side: Side) -> Option<Place>
         ensures { result ≡ end_in side self.now }
@@ -68,7 +68,7 @@ impl RawTreeEnds {
         }
     }
 
-    // The ends once `new` is in the tree on this side of the member `at`, at none as the only member.
+    // Returns the ends after `new` was inserted on this side of the member `at`, or as the only member for `None`.
     #[inline]
     pub(crate) fn with(&self, side: Side, at: Option<Place>, new: Option<Place>) -> RawTreeEnds
         ensures own { (p : Place) → new ≡ Some p → (d : Side) → end_in d result ≡ end_with d at side p (end_in d self.now) }
@@ -85,7 +85,7 @@ impl RawTreeEnds {
         }
     }
 
-    // The ends once `new` stands in the place of the member `out`.
+    // Returns the ends after `new` has replaced the member `out`.
     #[inline]
     pub(crate) fn replaced(&self, out: Place, new: Option<Place>) -> RawTreeEnds
         ensures own { (p : Place) → new ≡ Some p → (d : Side) → end_in d result ≡ end_for out p (end_in d self.now) }

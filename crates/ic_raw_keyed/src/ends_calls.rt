@@ -1,4 +1,4 @@
-//! What the calls of red-black trees do that keep their first and their last member, in two words beside that of the tree.
+//! The calls of red-black trees that keep their first and their last member, in two words beside the word of the tree.
 //!
 //! ```text
 //! insert(table, keys, tree, ends, 7)       // OK: in the order of keys[0], keys[1] ..
@@ -26,10 +26,10 @@ use ic_raw::{
     BROKEN, NULL, OK, RawRoot, RawTable, RawThree, number_of, place_in, place_of, search_calls,
     tree_calls,
 };
-use ic_rbtree::step_within;
+use ic_rbtree::step_bounded;
 use ic_unsafe_ref::Place;
 
-// Whether the place is none, or one of the table.
+// Returns whether the place is `None` or belongs to the table.
 #[inline]
 fn has(links: &RawTable<'_, RawThree>, place: Option<Place>) -> bool
     ensures { (result ≡ true) ↔ IsIn (has_place (lent_table links.now)) place }
@@ -40,7 +40,8 @@ fn has(links: &RawTable<'_, RawThree>, place: Option<Place>) -> bool
     }
 }
 
-// What stands beside a place on this side, as the words are read. `None` if links come to an end, or the place or the root is none of the table.
+// Returns the member beside a place on this side, as the words are read. The result is `None` if the links come to an end, or if the place or the
+// root does not belong to the table.
 #[inline]
 fn beside(table: &mut [RawThree], tree: &RawRoot, side: Side, at: Place) -> Option<Place>
     ensures leads { (cut : Cut) → RepresentsTree table.old tree.now (join cut) → IsBeside side cut (Some at) → IsBeside (across side) cut result }
@@ -57,13 +58,13 @@ fn beside(table: &mut [RawThree], tree: &RawRoot, side: Side, at: Place) -> Opti
     if !has(&links, root) {
         return None;
     }
-    step_within(&links, root, Some(at), side)
+    step_bounded(&links, root, Some(at), side)
 }
 
-/// Inserts a place as the child on this side of the member `at`, at [`NONE`](ic_raw::NONE) as the only member. O(log n).
+/// Inserts a place as the child on this side of the member `at`, or as the only member if `at` is [`NONE`](ic_raw::NONE). O(log n).
 ///
-/// The place has to be one of the table, and not linked. A refused edit leaves the words as they are, and returns the first fault of the two
-/// places, or else [`BROKEN`], as if the member has such a child, or at none the tree a member.
+/// The place must belong to the table and must not be linked. A refused edit leaves the words as they are, and returns the first fault of the two
+/// places, or else [`BROKEN`], for example if the member already has such a child, or if `at` is none and the tree has members.
 #[inline]
 pub fn insert_at(
     table: &mut [RawThree],
@@ -83,7 +84,7 @@ pub fn insert_at(
     status
 }
 
-// The end on this side once a place is in the tree: that place, if no step leads on from it.
+// Returns the end on this side after a place was inserted: that place, if no step leads further from it.
 #[inline]
 fn end_with(
     table: &mut [RawThree],
@@ -104,10 +105,10 @@ fn end_with(
     }
 }
 
-/// Inserts a place by its key, after all members with no greater key than its own. O(log n).
+/// Inserts a place by its key, after all members whose key is not greater. O(log n).
 ///
-/// The place has to be one of the table, and not linked, and there has to be a key for each place of the table. Two steps from the place find out
-/// whether it is the first member now, or the last one.
+/// The place must belong to the table and must not be linked, and there must be a key for each place of the table. It makes two steps from the place
+/// to find out whether it is now the first or the last member.
 #[inline]
 pub fn insert(
     table: &mut [RawThree],
@@ -131,7 +132,7 @@ pub fn insert(
     status
 }
 
-// The side across.
+// Returns the opposite side.
 #[inline]
 fn inwards(side: Side) -> Side
     ensures { result ≡ across side }
@@ -142,7 +143,7 @@ fn inwards(side: Side) -> Side
     }
 }
 
-// Whether the place is none, or a linked place of the table.
+// Returns whether the place is `None`, or a linked place of the table.
 #[inline]
 fn stands(table: &mut [RawThree], place: Option<Place>) -> bool
     ensures stands { (result ≡ true) ↔ IsNoneOrLinkedIn table.old place }
@@ -151,8 +152,8 @@ fn stands(table: &mut [RawThree], place: Option<Place>) -> bool
     RawTable::new(table).stands(place)
 }
 
-// The end on this side once the member is out: as it is, or if it is that member, the place to which a step inwards leads. `None` if it leads
-// to no other linked place, and not to none.
+// Returns the end on this side after the member was removed: as it is, or, if it is that member, the place to which a step inwards leads. The result
+// is `None` if that step leads to the member itself or to a place that is not linked.
 #[inline]
 fn end_without(
     table: &mut [RawThree],
@@ -181,7 +182,7 @@ fn end_without(
     Some(next)
 }
 
-// The words of the ends once the member is out. `None` if the words of the table lead to no other end.
+// Returns the words of the ends after the member was removed, or `None` if the links lead to no other end.
 #[inline]
 fn ends_without(
     table: &mut [RawThree],
@@ -206,7 +207,7 @@ fn ends_without(
     Some(RawTreeEnds::of(first, last))
 }
 
-/// Removes the member `at`, or returns [`NULL`] at [`NONE`](ic_raw::NONE). O(log n).
+/// Removes the member `at`, or returns [`NULL`] if `at` is [`NONE`](ic_raw::NONE). O(log n).
 ///
 /// If the member is an end, a step from it finds the next one. It returns [`BROKEN`] if the links lead from there to a place that is not linked,
 /// or to the member itself.
@@ -228,9 +229,9 @@ pub fn remove(table: &mut [RawThree], tree: &mut RawRoot, ends: &mut RawTreeEnds
     status
 }
 
-/// Removes the member `at`, and inserts a place where it was, or returns [`NULL`] at [`NONE`](ic_raw::NONE). O(1).
+/// Removes the member `at`, and inserts a place where it was, or returns [`NULL`] if `at` is [`NONE`](ic_raw::NONE). O(1).
 ///
-/// The place has to be one of the table, and not linked.
+/// The place must belong to the table and must not be linked.
 #[inline]
 pub fn replace(
     table: &mut [RawThree],
@@ -252,10 +253,10 @@ pub fn replace(
     status
 }
 
-/// Removes the first member and hands it out, or returns [`NULL`] if the ends say that there is none. O(log n), and O(1) on average for the step to
-/// the next member.
+/// Removes the first member and stores its number in `popped`, or returns [`NULL`] if the word of the first member is none. O(log n), and O(1) on
+/// average for the step to the next member.
 ///
-/// It returns [`BROKEN`] if the first member is not linked, or the words lead from it to no other linked place.
+/// It returns [`BROKEN`] if the first member is not linked, or if the links lead from it to a place that is not linked or back to itself.
 #[inline]
 pub fn pop_first(
     table: &mut [RawThree],

@@ -1,4 +1,4 @@
-//! The members of a chain, as they move to other buckets, over a view of the table.
+//! Moves of the members of a chain to other buckets, over a view of the table.
 //!
 //! ```text
 //! let back = reverse(&mut links, front);       // so that those of one bucket keep their order
@@ -19,7 +19,7 @@ use ic_link_ops::singly_linked_list::SinglyLinkedListOps;
 use ic_raw::{RawFront, RawOne, RawTable, place_in};
 use ic_unsafe_ref::Place;
 
-// The number of the bucket, of so many, where the hash of a place leads.
+// Returns the number of the bucket to which the hash of a place leads.
 #[inline]
 fn slot_for(hashes: &[u64], count: usize, place: Place) -> usize
     requires keys { index_of place < length hashes.now }
@@ -30,7 +30,7 @@ fn slot_for(hashes: &[u64], count: usize, place: Place) -> usize
     (hashes[place.index()] % count as u64) as usize
 }
 
-// The first member of a bucket.
+// Returns the first member of a bucket.
 #[inline]
 fn front_at(buckets: &[RawFront], slot: usize) -> Option<Place>
     requires { slot < length buckets.now }
@@ -39,7 +39,7 @@ fn front_at(buckets: &[RawFront], slot: usize) -> Option<Place>
     place_in(buckets[slot].head)
 }
 
-// Has a bucket begin with this member.
+// Makes this member the first of a bucket.
 #[inline]
 fn set_front(buckets: &mut [RawFront], slot: usize, first: Place)
     requires { slot < length buckets.old }
@@ -50,7 +50,7 @@ fn set_front(buckets: &mut [RawFront], slot: usize, first: Place)
     };
 }
 
-// Turns a linked place to what is after it now, and gives what was.
+// Sets the place after a linked place, and returns the one that was there before.
 #[inline]
 fn turn(links: &mut RawTable<'_, RawOne>, place: Place, after: Option<Place>) -> Option<Place>
     requires { IsLinked is_linked_one (lent_table links.old) place }
@@ -64,7 +64,7 @@ fn turn(links: &mut RawTable<'_, RawOne>, place: Place, after: Option<Place>) ->
     next
 }
 
-// Whether the places from `front` on lead to an end, and the bucket of each begins with none or a linked place.
+// Returns whether the links from `front` on lead to an end, and the bucket of each place on the way is empty or begins with a linked place.
 pub(crate) fn can_move(
     links: &RawTable<'_, RawOne>,
     hashes: &[u64],
@@ -96,7 +96,7 @@ pub(crate) fn can_move(
     current.is_none()
 }
 
-// Turns a list round, and gives its first member then.
+// Reverses a list, and returns its new first member.
 pub(crate) fn reverse(links: &mut RawTable<'_, RawOne>, front: Option<Place>) -> Option<Place>
     requires { (s : List Place) × Represents (lent_table links.old) (list_from front) s }
     ensures reversed { (s : List Place) → Represents (lent_table links.old) (list_from front) s

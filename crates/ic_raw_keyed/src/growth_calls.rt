@@ -9,11 +9,11 @@ ghost use Rattle.ic_raw_keyed.specs.GrowthCalls.{MoveChainCall};
 use crate::growth::{can_move, reverse, spread};
 use ic_raw::{BROKEN, OK, OUT_OF_RANGE, RawFront, RawOne, RawTable, place_in};
 
-/// Moves all members of a chain, each to the front of bucket `hash % buckets` of another array, and leaves the chain empty. Each place stays linked,
-/// and the members that come into one bucket keep their order. Three readings for each member.
+/// Moves each member of a chain to the front of bucket `hash % buckets` of another array, and leaves the chain empty. Each place stays linked, and
+/// members that go to the same bucket keep their order. It reads three entries of the table for each member.
 ///
-/// There has to be a hash for each place of the table, and a bucket. It returns [`BROKEN`] if the words of the chain lead to no end, or out of the
-/// table, or the bucket of a member begins with a place that is not linked.
+/// There must be a hash for each place of the table, and at least one bucket. It returns [`BROKEN`] if the links of the chain lead to no end or out
+/// of the table, or if the bucket of a member begins with a place that is not linked.
 pub fn move_chain(
     table: &mut [RawOne],
     hashes: &[u64],

@@ -1,4 +1,5 @@
-//! Calls for C that stand on `ic_raw`: of red-black trees that keep their first member and their last one, and the one by which a hash table grows.
+//! Calls for C that are built on `ic_raw`: those of red-black trees that keep their first and their last member, and the call by which a hash table
+//! grows.
 //!
 //! ```text
 //! ends_calls::insert(table, keys, tree, ends, 7)       // OK, and `ends` says the first member and the last one
@@ -6,8 +7,7 @@
 //! growth_calls::move_chain(table, hashes, &mut old[3], new) // OK: the members of old[3] are in the buckets of `new`
 //! ```
 //!
-//! Nothing requires anything of its arguments. Each call returns a status as those of `ic_raw` do, and leaves all as it was if that is not
-//! `OK`.
+//! No call requires anything of its arguments. Each returns a status as the calls of `ic_raw` do, and changes nothing if the status is not `OK`.
 #![tactic(auto)]
 
 mod ends;

@@ -19,12 +19,12 @@ apart_at (x ∷ front) p back u apart = apart_at front p back u apart.1
 
 -- the neighbors of p are turned to each other, and then p is put where the other list is cut
 pub transferred : {W : Type 0} (words : LinkWords W) {Names : Type 0} {old mid new : Table W} {list list' given given' : Ends} (cut : Cut) (front : List Place) (p : Place) (back : List Place)
-    {b a before behind : Option Place} → b ≡ last front → a ≡ first back → IsAfter cut before → IsBefore cut behind
+    {b a before following : Option Place} → b ≡ last front → a ≡ first back → IsAfter cut before → IsBefore cut following
     → Represents words old list (join cut) → Represents words old given (front ++ p ∷ back) → IsDisjoint (front ++ p ∷ back) (join cut)
     → ((front back : List Place) → Represents words old given (front ++ p ∷ back) → b ≡ last front → a ≡ first back → Represents words mid given' (front ++ back))
     → mid.extent ≡ old.extent → ((q : Place) → b ≢ Some q → (Names → a ≢ Some q) → mid.entry q ≡ old.entry q)
-    → ((front back : List Place) → Represents words mid list (front ++ back) → before ≡ last front → behind ≡ first back → IsAbsent p (front ++ back) → Represents words new list' (front ++ p ∷ back))
-    → new.extent ≡ mid.extent → ((q : Place) → before ≢ Some q → q ≢ p → (Names → behind ≢ Some q) → new.entry q ≡ mid.entry q)
+    → ((front back : List Place) → Represents words mid list (front ++ back) → before ≡ last front → following ≡ first back → IsAbsent p (front ++ back) → Represents words new list' (front ++ p ∷ back))
+    → new.extent ≡ mid.extent → ((q : Place) → before ≢ Some q → q ≢ p → (Names → following ≢ Some q) → new.entry q ≡ mid.entry q)
     → Transfers words old new list' given' cut front p back
 transferred words {old = old} {mid} {new} {list} {given' = given'} cut front p back is_b is_a after ahead shown given apart off extent others put extent' others' =
     let out = apart_at front p back (join cut) apart in

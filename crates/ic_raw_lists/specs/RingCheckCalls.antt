@@ -10,7 +10,7 @@ use Rattle.ic_raw_lists.specs.RingOrders.{RepresentsRing}
 
 -- `old`, `new`: the words of the table before the call and after it
 module _ (old new : List RawTwo) (status : ℕ) where
-  -- THE MEMBERS OF A HEAD ARE COUNTED, without the head, if the words represent a ring with it, in words that said `was`
+  -- THE MEMBERS OF A HEAD ARE COUNTED, not counting the head, if the words represent a ring with it, and their number replaces `was`
   pub record RingCheckCall (head : Option Place) (was members : ℕ) : Type 0 where
     pub shown : status ≡ OK → IsRepresented (RepresentsRing old head) members
     pub not_represented : status ≢ OK → RepresentsNone (RepresentsRing old head)

@@ -1,4 +1,4 @@
--- What the contracts for every kind of lists see of a singly linked one.
+-- The words of a singly linked list, as the contracts that serve every kind of lists need them.
 use Rattle.ic_link_ops.specs.SinglyLinkedList.{Front}
 use Rattle.ic_raw.specs.declared.words.RawFront.{RawFront}
 use Rattle.ic_raw.specs.Singly.{word_of_front}

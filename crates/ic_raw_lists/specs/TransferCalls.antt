@@ -12,22 +12,23 @@ use Rattle.ic_raw.specs.Gaps.{IsApart, IsBeside, PutIn, TakenOut}
 use Rattle.ic_raw.specs.LinkWords.{LinkWords, table_of, fault_at}
 use Rattle.ic_raw.specs.Touches.{Touches, sides}
 
--- p stands where the list is cut, and the given list has what stood on both sides of it; nothing but entries of members of both is changed
+-- p is inserted at the cut of the list, and the given list keeps the members that were on both sides of p. Only entries of members of the two lists
+-- have changed
 pub record Transfers {W : Type 0} (link : LinkWords W) (old new : Table W) (list given : Ends) (cut : Cut) (front : List Place) (p : Place) (back : List Place) : Type 0 where
   pub shows : Represents link new list (insert cut p)
   pub keeps : Represents link new given (front ++ back)
   pub frame : ChangesOnlyIn old new (insert cut p ++ (front ++ back))
 
--- `link`: what the words of a place say. `old`, `new`: those of the table before the call and after it. `list`, `list'`, `given`, `given'`: those of
--- the lists. `status`: what the call returns
+-- `link`: how the words of a place are read. `old`, `new`: the words of the table before the call and after it. `list`, `list'`, `given`, `given'`:
+-- the words of the two lists before and after. `status`: the status that the call returns
 module _ {W : Type 0} (link : LinkWords W) (old new : List W) (list list' : RawEnds) (status : ℕ) where
-  -- p moves from a list that shares no member to where this one is cut
+  -- p moves from a list that shares no member with this one to the position at which this one is cut
   abbrev pub Transferred : (given given' : RawEnds) → Cut → (front : List Place) → Place → (back : List Place) → Type 0
   Transferred given given' cut front p back =
       RepresentsList link old list (join cut) → RepresentsList link old given (front ++ p ∷ back) → IsDisjoint (front ++ p ∷ back) (join cut)
       → IsAccepted status (Transfers link (table_of link old) (table_of link new) (ends_of list') (ends_of given') cut front p back)
 
-  -- A MEMBER OF THE GIVEN LIST MOVES INTO THE GAP on this side of the member `at`, at none into the outermost one
+  -- A MEMBER OF THE GIVEN LIST MOVES INTO THE GAP on this side of the member `at`, or to an end of the list if `at` is none
   pub record TransferCall (side : Side) (at : Option Place) (given given' : RawEnds) (place : Option Place) : Type 0 where
     pub moved : (cut : Cut) (front back : List Place) (p : Place) → IsBeside side cut at → place ≡ Some p → Transferred given given' cut front p back
     pub null : (status ≡ NULL) ↔ (place ≡ None)
@@ -35,7 +36,7 @@ module _ {W : Type 0} (link : LinkWords W) (old new : List W) (list list' : RawE
     pub links_back : status ≡ OK → TellsGap link side (table_of link old) (ends_of list) at
     pub member : status ≡ OK → IsNoneOrLinkedIn link old place
     pub before : status ≡ OK → TellsGap link Before (table_of link old) (ends_of given) place
-    pub behind : status ≡ OK → TellsGap link After (table_of link old) (ends_of given) place
+    pub after : status ≡ OK → TellsGap link After (table_of link old) (ends_of given) place
     pub apart : status ≡ OK → (p : Place) → (ends_of given).head ≡ Some p → (ends_of list).head ≢ Some p
     pub away : (p : Place) → place ≡ Some p → status ≡ OK → IsApart (gap_from link side (table_of link old) (ends_of list) at) p
     pub linked : KeepsLinked link.is_linked (table_of link old) (table_of link new)

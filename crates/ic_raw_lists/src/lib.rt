@@ -6,8 +6,8 @@
 //! ring_check_calls::check(table, 64, &mut members)                      // OK, or BROKEN where the words represent no ring with this head
 //! ```
 //!
-//! Each module has what the calls for C do in the module of `ic_ffi` with the same name. Nothing requires anything of its arguments. Each
-//! function tests what it reads and writes by, returns a status of `ic_raw`, and leaves all as it was where that is not `OK`.
+//! Each module contains the calls of the module of `ic_ffi` with the same name. No function requires anything of its arguments. Each tests every link
+//! that it follows or changes, returns a status of `ic_raw`, and changes nothing if the status is not `OK`.
 #![tactic(auto)]
 
 pub mod ring_check_calls;

@@ -1,4 +1,4 @@
-//! The check of a ring: whether the words represent one with a head, and of how many members.
+//! The check of a ring: it tests that the words represent a ring with a head, and counts its members.
 //!
 //! ```text
 //! check(table, 64, &mut members) // OK, or BROKEN where the words represent no ring with this head
@@ -11,10 +11,11 @@ use crate::ring_walk::count_members;
 use ic_raw::number::place_of;
 use ic_raw::{NULL, OK, RawTable, RawTwo};
 
-/// Hands out how many members a head has, without itself, or returns [`BROKEN`](ic_raw::BROKEN) where the words represent no ring with it. O(n).
+/// Checks that the words represent a ring with this head, and stores the number of its members, not counting the head, in `members`, or returns
+/// [`BROKEN`](ic_raw::BROKEN) if they do not represent one. O(n).
 ///
-/// It writes nothing else. It returns [`NULL`] where `head` is [`NONE`](ic_raw::NONE). Where it returns [`OK`], each call does what it says of a
-/// ring that is represented.
+/// It writes nothing else. It returns [`NULL`] if `head` is [`NONE`](ic_raw::NONE). If it returns [`OK`], every other call does with this ring what
+/// its own comment says.
 #[inline]
 pub fn check(table: &mut [RawTwo], head: u32, members: &mut u64) -> u32
     ensures { RingCheckCall table.old table.new result (place_of head) members.old members.new }

@@ -1,4 +1,4 @@
-//! A walk around a ring of whose words nobody vouches.
+//! A walk around a ring whose words may be anything.
 //!
 //! ```text
 //! let Some(members) = count_members(&links, head, None) else { .. }; // the links lead around no circle back to the head
@@ -13,8 +13,8 @@ use ic_raw::ring::beside;
 use ic_raw::{RawTable, RawTwo, Side};
 use ic_unsafe_ref::Place;
 
-// How many members the words represent for the ring with this head, `None` if they represent no such ring, or one in which the place `apart` is. At
-// most as many steps as the table has places.
+// Returns how many members the ring with this head has, or `None` if the words represent no such ring, or one that contains the place `apart`. It
+// makes at most as many steps as the table has places.
 pub(crate) fn count_members(
     links: &RawTable<'_, RawTwo>,
     head: Place,

@@ -1,4 +1,4 @@
-//! A member of one doubly linked list that goes into another one: what is tested of both, and the edit over a view of the table.
+//! Moves of a member of one doubly linked list into another one: what is tested of both lists, and the edit over a view of the table.
 //!
 //! ```text
 //! let Some((from, to)) = gaps_to_transfer(&links, &list, Side::After, at, &given, member) else { .. };
@@ -20,8 +20,9 @@ use ic_raw::list::{List, beside, gap_at};
 use ic_raw::{Gap, ListWords, RawTable, Side};
 use ic_unsafe_ref::Place;
 
-// The places on both sides of a member of the given list, and the gap beside one of the list, where the member is to go. None where the words
-// tell of no such member, or of no such gap, or of a gap that the member is beside, or where both lists begin with the same member.
+// Returns the places on both sides of a member of the given list, and the gap beside a member of the list to which it is to go. The result is `None`
+// if the links beside the member do not lead back to it, if those on the two sides of the gap do not lead to each other, if the member is beside the
+// gap, or if both lists begin with the same member.
 #[inline]
 pub(crate) fn gaps_to_transfer<W: ListWords>(
     links: &RawTable<'_, W>,
@@ -39,7 +40,7 @@ pub(crate) fn gaps_to_transfer<W: ListWords>(
     ensures to { (from to : Gap) → result ≡ Some (from, to) → StandBeside W.is_linked (lent_table W.PrevPlace links.now) to }
     ensures member { (from to : Gap) → result ≡ Some (from, to) → IsNoneOrLinked W.is_linked (lent_table W.PrevPlace links.now) (Some member) }
     ensures before { (from to : Gap) → result ≡ Some (from, to) → TellsGap W.PrevPlace Before (lent_table W.PrevPlace links.now) given.now (Some member) }
-    ensures behind { (from to : Gap) → result ≡ Some (from, to) → TellsGap W.PrevPlace After (lent_table W.PrevPlace links.now) given.now (Some member) }
+    ensures after { (from to : Gap) → result ≡ Some (from, to) → TellsGap W.PrevPlace After (lent_table W.PrevPlace links.now) given.now (Some member) }
     ensures from { (from to : Gap) → result ≡ Some (from, to) → StandBeside W.is_linked (lent_table W.PrevPlace links.now) from }
     ensures sides { (from to : Gap) → result ≡ Some (from, to)
         → (from ≡ around W.PrevPlace (lent_table W.PrevPlace links.now) given.now (Some member)) × (to ≡ gap_from W.PrevPlace side (lent_table W.PrevPlace links.now) list.now at) }
@@ -61,7 +62,7 @@ pub(crate) fn gaps_to_transfer<W: ListWords>(
     Some((from, to))
 }
 
-// Moves a member of the given list, which is between these two places, into a gap of the list that it is not beside. It stays linked.
+// Moves a member of the given list from between these two places into a gap of the list that is not beside it. The member stays linked.
 #[inline]
 pub(crate) fn relocate<W: ListWords>(
     links: &mut RawTable<'_, W>,
@@ -84,6 +85,6 @@ pub(crate) fn relocate<W: ListWords>(
     ensures given { TakenOut from given.old given.new }
     ensures extent { (lent_table W.PrevPlace links.new).extent ≡ (lent_table W.PrevPlace links.old).extent }
 {
-    given.bypass(links, from.before, member, from.behind);
-    list.insert_linked(links, to.before, member, to.behind);
+    given.bypass(links, from.before, member, from.after);
+    list.insert_linked(links, to.before, member, to.after);
 }

@@ -1,4 +1,4 @@
-//! What the call does that moves a member of one doubly linked list into another one of the same table.
+//! The call that moves a member of one doubly linked list into another one of the same table.
 //!
 //! ```text
 //! transfer_at(table, list, Side::After, NONE, given, 7) // OK: 7 is the first member of `list`, and no longer one of `given`
@@ -12,11 +12,11 @@ use ic_raw::list_calls::{list_of, write_back};
 use ic_raw::number::place_of;
 use ic_raw::{ListWords, NULL, OK, RawEnds, RawTable, Side};
 
-/// Moves the member `place` of the given list into the gap on this side of the member `at` of the list, at [`NONE`](ic_raw::NONE) to the end
-/// that the side means. It stays linked. O(1).
+/// Moves the member `place` of the given list into the gap on this side of the member `at` of the list, or to the end that the side means if `at` is
+/// [`NONE`](ic_raw::NONE). The member stays linked during the call. O(1).
 ///
-/// It returns [`NULL`] where `place` is [`NONE`](ic_raw::NONE), and else the first fault of the two, or [`BROKEN`](ic_raw::BROKEN), as for lists
-/// that begin with the same member. A refused call leaves the words as they are.
+/// It returns [`NULL`] if `place` is [`NONE`](ic_raw::NONE), else the first fault of the two places, or else [`BROKEN`](ic_raw::BROKEN), for example
+/// if both lists begin with the same member. A refused call changes no word.
 #[inline]
 pub fn transfer_at<W: ListWords>(
     table: &mut [W],

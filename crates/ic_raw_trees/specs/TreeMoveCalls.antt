@@ -1,5 +1,5 @@
 -- WHAT THE CALLS DO THAT MAKE ONE RED-BLACK TREE OF TWO, AND TWO OF ONE: each record is the whole contract of a call. A call is accepted exactly if
--- the table represents its trees, and its place fits. So links that represent no tree are never edited.
+-- the table represents its trees, and its place fits. So a call never edits links that represent no tree.
 use Rattle.std.specs.Prelude.{◌≡◌, ◌≢◌, ◌↔◌, ◌++◌, ◌∷◌, ℕ, List, [], Option, Some, None}
 use Rattle.ic_link_ops.specs.Prelude.{Place, Cut, KeepsLinked, LinksAlso, HasMember}
 use Rattle.ic_link_ops.specs.Edits.{Inserts, Splits}
@@ -11,13 +11,14 @@ use Rattle.ic_raw.specs.Answers.{IsStatus, IsAccepted, refusal}
 use Rattle.ic_raw.specs.Tree.{Represents, RepresentsTree, FreeIn, IsWritten, root_in, word_of_root, table_of, fault_at, fault_of}
 use Rattle.ic_raw.specs.Words.{is_linked_three}
 
--- THE WORDS SHOW TWO TREES that share no member: the front for the one, and the back for the other
+-- THE WORDS REPRESENT TWO TREES that share no member: the first has the members `front`, and the second `back`
 abbrev pub RepresentsBoth : List RawThree → (tree given : RawRoot) → Cut → Type 0
 RepresentsBoth words tree given = RepresentsParts Represents (table_of words) (root_in tree) (root_in given)
 
--- `old`, `new`: the words of the table before the call and after it. `tree`, `tree'`: that of the tree. `status`: what the call returns
+-- `old`, `new`: the words of the table before the call and after it. `tree`, `tree'`: the word of the tree before and after. `status`: the status
+-- that the call returns
 module _ (old new : List RawThree) (tree tree' : RawRoot) (status : ℕ) where
-  -- ALL MEMBERS OF ANOTHER TREE COME AFTER those of this one. `given`, `given'`: its word
+  -- ALL MEMBERS OF ANOTHER TREE MOVE AFTER those of this one. `given`, `given'`: the word of the other tree
   pub record AppendCall (given given' : RawRoot) : Type 0 where
     pub appended : (gap : Cut) → RepresentsBoth old tree given gap → IsAccepted status (Appends Represents (table_of old) (table_of new) (root_in tree') gap)
     pub shown : status ≡ OK → (gap : Cut) × RepresentsBoth old tree given gap
@@ -28,7 +29,7 @@ module _ (old new : List RawThree) (tree tree' : RawRoot) (status : ℕ) where
     pub why : status ≢ OK → status ≡ BROKEN
     pub is_status : IsStatus status
 
-  -- A PLACE COMES AFTER all members of this tree, and all of another one after the place
+  -- A PLACE IS INSERTED AFTER all members of this tree, and all members of another one move after it
   pub record JoinCall (place : Option Place) (given given' : RawRoot) : Type 0 where
     pub joined : (gap : Cut) (p : Place) → place ≡ Some p → RepresentsBoth old tree given gap → FreeIn old p
         → IsAccepted status (Inserts Represents (table_of old) (table_of new) (root_in tree') gap p)
@@ -42,8 +43,8 @@ module _ (old new : List RawThree) (tree tree' : RawRoot) (status : ℕ) where
     pub why : status ≢ OK → status ≡ refusal (fault_of old place ∷ [])
     pub is_status : IsStatus status
 
-  -- THE TREE IS CUT before the member `at`: it keeps what is before, and `at` and all after it are handed out, in a word that says no member. `rest`,
-  -- `rest'`: this word
+  -- THE TREE IS CUT before the member `at`: it keeps the members before `at`, and `at` and all members after it become the tree `rest`, which has to
+  -- be empty before. `rest`, `rest'`: the word of that tree
   pub record SplitCall (at : Option Place) (rest rest' : RawRoot) : Type 0 where
     pub split : (front back : List Place) (p : Place) → at ≡ Some p → RepresentsTree old tree (front ++ p ∷ back) → root_in rest ≡ None
         → IsAccepted status (Splits Represents (table_of old) (table_of new) (root_in tree') (root_in rest') front (p ∷ back))

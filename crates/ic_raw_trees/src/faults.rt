@@ -12,7 +12,7 @@ ghost use Rattle.ic_raw.specs.Tree.{fault_at, fault_of};
 use ic_raw::{RawTable, RawThree};
 use ic_unsafe_ref::Place;
 
-// The fault of a place that is to go in.
+// Returns the fault of a place to insert.
 pub(crate) fn place_fault(table: &mut [RawThree], place: Place) -> u32
     ensures fault { result ≡ fault_of table.old (Some place) }
     ensures named { result ≢ NULL }
@@ -21,7 +21,7 @@ pub(crate) fn place_fault(table: &mut [RawThree], place: Place) -> u32
     RawTable::new(table).place_fault(Some(place))
 }
 
-// The fault of a place that has to be a member.
+// Returns the fault of a place that must be a member.
 pub(crate) fn member_fault(table: &mut [RawThree], member: Place) -> u32
     ensures fault { result ≡ fault_at table.old (Some member) }
     ensures named { result ≢ NULL }

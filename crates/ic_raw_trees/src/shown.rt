@@ -23,10 +23,10 @@ use ic_raw::{MarkedTree, RawRoot, place_in};
 use ic_rbtree::{KeyAdapter, RBTree};
 use ic_unsafe_ref::Place;
 
-// No path down a tree has more members: a path of v in a tree of n members has 2^v <= (n + 1)^2, and there are fewer than 2^33 places.
+// The most members on a path down a tree. A path of v members in a tree of n members has 2^v <= (n + 1)^2, and there are fewer than 2^33 places.
 const LONGEST_PATH: usize = 66;
 
-/// The adapter of a tree whose edits look at no key. A tree needs one to be cut at a member.
+/// The adapter of a tree whose edits compare no keys. The type of a tree needs an adapter, even to split it at a member.
 #[derive(Clone, Copy)]
 pub(crate) struct Unkeyed;
 
@@ -42,10 +42,10 @@ impl KeyAdapter for Unkeyed {
     }
 }
 
-/// A tree of the caller's.
+/// A tree that belongs to the caller.
 pub(crate) type Tree = RBTree<Unkeyed>;
 
-// The tree of its word.
+// Returns the tree that its word represents.
 #[inline]
 pub(crate) fn tree_of(words: &RawRoot) -> Tree
     ensures { root_of result ≡ root_in words.now }
@@ -53,7 +53,7 @@ pub(crate) fn tree_of(words: &RawRoot) -> Tree
     RBTree::from_root(Unkeyed, place_in(words.root))
 }
 
-// Writes the root of a tree.
+// Writes the word of a tree's root.
 #[inline]
 #[tactic(auto, using(ic_raw::proofs::Entries::place_kept))]
 pub(crate) fn write_back(words: &mut RawRoot, tree: &Tree)
@@ -63,7 +63,7 @@ pub(crate) fn write_back(words: &mut RawRoot, tree: &Tree)
     words.root = Place::to_word(tree.root());
 }
 
-// Whether it is that place. Words are compared.
+// Returns whether this is that place. It compares words.
 #[inline]
 fn is_at(end: Option<Place>, place: Place) -> bool
     ensures { result ≡ is_end end place }
@@ -71,7 +71,7 @@ fn is_at(end: Option<Place>, place: Place) -> bool
     Place::to_word(end) == Place::to_word(Some(place))
 }
 
-// Whether no place is the root of both trees.
+// Returns whether the roots of both trees are different places, or one tree has no root.
 fn are_apart(one: Option<Place>, given: Option<Place>) -> bool
     ensures { IsTrue result ↔ AreApart one given }
 {
@@ -81,14 +81,14 @@ fn are_apart(one: Option<Place>, given: Option<Place>) -> bool
     }
 }
 
-// Whether the words represent a tree.
+// Returns whether the words represent a tree.
 fn is_tree(links: &MarkedTree<'_>, tree: &Tree) -> bool
     ensures { IsTrue result ↔ RepresentsSome node (marked_table links.now) (root_of tree.now) }
 {
     check_tree(tree, links).is_some()
 }
 
-// Whether the words represent two trees that share no member. Trees with different roots share none.
+// Returns whether the words represent two trees that share no member. Trees with different roots share none.
 pub(crate) fn represents_both(links: &MarkedTree<'_>, tree: &Tree, given: &Tree) -> bool
     ensures { IsTrue result ↔ RepresentsPartsSome Represents (marked_table links.now) (root_of tree.now) (root_of given.now) }
 {
@@ -101,7 +101,7 @@ pub(crate) fn represents_both(links: &MarkedTree<'_>, tree: &Tree, given: &Tree)
     is_tree(links, given)
 }
 
-// Whether `parent` is linked, and has the place as a child.
+// Returns whether `parent` is linked, and has the place as a child.
 fn has_child(links: &MarkedTree<'_>, parent: Place, place: Place) -> bool
     ensures { IsTrue result ↔ HasChild node (marked_table links.now) parent place }
 {
@@ -111,7 +111,7 @@ fn has_child(links: &MarkedTree<'_>, parent: Place, place: Place) -> bool
     is_at(links.left(parent), place) || is_at(links.right(parent), place)
 }
 
-// Whether parents lead from a linked place to the root of a tree that is represented, each of them with the one below as a child.
+// Returns whether the parents of a linked place lead to the root of a tree, and each of them has the one below as a child.
 fn climbs_to_root(links: &MarkedTree<'_>, tree: &Tree, place: Place) -> bool
     requires linked { IsLinked is_linked_three (marked_table links.now) place }
     requires shown { RepresentsSome node (marked_table links.now) (root_of tree.now) }
@@ -132,7 +132,7 @@ fn climbs_to_root(links: &MarkedTree<'_>, tree: &Tree, place: Place) -> bool
     false
 }
 
-// Whether the words represent a tree of which the place is a member.
+// Returns whether the words represent a tree of which the place is a member.
 pub(crate) fn has_member(links: &MarkedTree<'_>, tree: &Tree, place: Place) -> bool
     ensures { IsTrue result ↔ HasMember (Represents (marked_table links.now) (root_of tree.now)) place }
 {

@@ -157,9 +157,9 @@ module _ {E : Type 0} (n : E → Node) where
       }
 
   -- which is as low as can be
-  pub built_lowest : {v w : Table E} {root next o : Option Place} {m : ℕ} {s r : List Place} {behind : Option Place} → BecomesTree n v w root next m s behind → o ≡ root
+  pub built_lowest : {v w : Table E} {root next o : Option Place} {m : ℕ} {s r : List Place} {after : Option Place} → BecomesTree n v w root next m s after → o ≡ root
       → (h : Represents n w o r) → IsLowest h.tree
-  built_lowest {v} {w} {root} {next} {o} {m} {s} {r} {behind} b is h =
+  built_lowest {v} {w} {root} {next} {o} {m} {s} {r} {after} b is h =
       subst IsLowest (one_tree n w.entry None b.tree h.tree b.entries h.held.entries (sym b.root_is ∙ (sym is ∙ h.starts))) b.lowest
 
   -- THE VINE of a tree

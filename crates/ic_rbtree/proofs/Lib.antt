@@ -16,6 +16,7 @@ pub mod Nearest
 pub mod Outermost
 pub mod KeptHeads
 pub mod EndsKept
+pub mod NextInPlace
 pub mod Removing
 pub mod Beside
 pub mod SidedEdits

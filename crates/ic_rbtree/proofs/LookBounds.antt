@@ -93,10 +93,10 @@ module _ {P V : Type 0} (order : P → V → Ordering) (count : P → ℕ) (obje
   -- THE LOOKS OF AN INSERT that ends after the last member,
   pub looks_after : (k : Kept) (s : List Place) (o : Option Place) {old new : P} → o ≡ last_kept k → TellsEnds k s → after_there (compared (order old) objects) o ≡ true
       → count new ≡ count old + looks_there o → order new ≡ order old → InsertLooks order count k objects old new s
-  looks_after (alone root) s None kept ends behind counted same = cc
-  looks_after (alone root) s (Some p) kept ends behind counted same = absurd (none_not p (sym kept))
-  looks_after (ended e) s None kept ends behind counted same = cc
-  looks_after (ended e) s (Some p) kept ends behind counted same = record { looks = 1; counted = counted; few = few_last s (Some p) (kept ∙ ends.1); at_last = λ _. refl; order_is = same }
+  looks_after (alone root) s None kept ends after counted same = cc
+  looks_after (alone root) s (Some p) kept ends after counted same = absurd (none_not p (sym kept))
+  looks_after (ended e) s None kept ends after counted same = cc
+  looks_after (ended e) s (Some p) kept ends after counted same = record { looks = 1; counted = counted; few = few_last s (Some p) (kept ∙ ends.1); at_last = λ _. refl; order_is = same }
 
   -- and of one that descends
   pub looks_below : (k : Kept) (s : List Place) (o : Option Place) {old mid new : P} → o ≡ last_kept k → TellsEnds k s → after_there (compared (order old) objects) o ≡ false

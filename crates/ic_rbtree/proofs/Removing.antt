@@ -1,8 +1,9 @@
 -- A member is removed: found by the sequence, taken out, and released.
-use Rattle.std.proofs.Common.{◌≡◌, inl, inr, true, Option, Some, None, List, [], ◌∷◌, ◌++◌, refl, sym, ap, ◌∙◌, subst, arith, append-nil, append_assoc, drop}
+use Rattle.std.proofs.Common.{◌≡◌, ◌<◌, Bool, inl, inr, true, false, Option, Some, None, List, [], ◌∷◌, ◌++◌, refl, sym, ap, ◌∙◌, subst, arith, append-nil, append_assoc, drop, length}
 use Rattle.std.proofs.lemmas.List.{append_cancel_left}
 use Rattle.ic_link_ops.specs.Prelude.{Place, Cut, join, first, IsAbsent, IsDistinct, Table, ChangesOnly}
 use Rattle.ic_link_ops.specs.declared.color.Color.{Color}
+use Rattle.ic_link_ops.specs.declared.side.Side.{Side}
 use Rattle.ic_link_ops.specs.declared.side.Side.TheVariants.{Left, Right}
 use Rattle.ic_link_ops.specs.Edits.{Removes}
 use Rattle.ic_link_ops.specs.Trees.{Tree, leaf, fork, top, in_order}
@@ -15,13 +16,15 @@ use Rattle.ic_link_ops.specs.Times.{one_at, times, times_in}
 use Rattle.ic_link_ops.proofs.Times.{one_at_self, apart, times_order, times_distinct, times_absent, absent_times, times_append}
 use Rattle.ic_link_ops.proofs.RepresentedTrees.{holds_once}
 use Rattle.ic_link_ops.proofs.RepresentedTrees.{represents_beside}
+use Rattle.ic_rbtree.specs.Height.{turns}
 use Rattle.ic_rbtree.specs.Pieces.{Piece, loose, ClimbState, Represented}
 use Rattle.ic_rbtree.specs.Sides.{IsOutermostWithin}
-use Rattle.ic_rbtree.specs.Transplants.{Parts, only, IsLone, both_of, SplicesOut, TakesPlace}
+use Rattle.ic_rbtree.specs.Transplants.{Parts, only, IsLone, both_of, IsRightOrShort, SplicesOut, TakesPlace}
 use Rattle.ic_rbtree.proofs.Zipper.{go_down, go_top}
 use Rattle.ic_rbtree.proofs.InsertionShapes.{right_plug}
 use Rattle.ic_rbtree.proofs.RemovalShapes.{shape_open}
-use Rattle.ic_rbtree.proofs.Low.{represented_low}
+use Rattle.ic_rbtree.proofs.Low.{represented_low, frames_low}
+use Rattle.ic_rbtree.proofs.NextInPlace.{way, short_placed, length_same}
 use Rattle.ic_rbtree.proofs.Transplants.{order_only}
 
 -- the sequence of a tree around one of its members
@@ -97,11 +100,22 @@ module _ {E : Type 0} (n : E → Node) where
         pick (fork c a q b) leaf e = inr refl
         pick (fork c a q b) (fork k l r m) e = absurd (none_not r (sym e))
 
-    pub lone_taken : {w : Table E} {new_root : Option Place} (o : Option Place) → o ≡ both_of (n (v.entry p)).left (n (v.entry p)).right → o ≡ None
-        → SplicesOut n v w root new_root p → Represented n base w new_root (front ++ back) (loose p ∷ ps)
-    lone_taken {w} {new_root} o eo none taken =
-        let one = lone o eo none in
-        subst (λ (s : List Place). Represented n base w new_root s (loose p ∷ ps)) (joined x.fs x.a x.b one x.front_is x.back_is) (taken base x.fs (parts x.c x.a x.b) ps x.stands one x.right)
+    -- what is left of the tree without it
+    abbrev pub Remains : Table E → Option Place → Bool → Option Place → Side → Type 0
+    Remains w new_root short up d =
+        (fs : List Frame) × (t : Tree) × (length fs < turns)
+        × IsRightOrShort n w new_root short up d (record { base = base; sequence = front ++ back; frames = fs; subtree = t; pieces = loose p ∷ ps })
+
+    pub lone_taken : {w : Table E} {new_root up : Option Place} {short : Bool} {d : Side} (o : Option Place) → o ≡ both_of (n (v.entry p)).left (n (v.entry p)).right → o ≡ None
+        → SplicesOut n v w root new_root p short up d → Remains w new_root short up d
+    lone_taken {w} {new_root} {up} {short} {d} o eo none taken =
+        let one = lone o eo none in (
+          x.fs,
+          only x.a x.b,
+          frames_low n x.stands x.right,
+          subst (λ (s : List Place). IsRightOrShort n w new_root short up d (record { base = base; sequence = s; frames = x.fs; subtree = only x.a x.b; pieces = loose p ∷ ps }))
+              (joined x.fs x.a x.b one x.front_is x.back_is) (taken base x.fs (parts x.c x.a x.b) ps x.stands one x.right),
+        )
       where
         joined : (fs : List Frame) (a b : Tree) → IsLone a b → before fs ++ in_order a ≡ front → in_order b ++ after fs ≡ back → before fs ++ (in_order (only a b) ++ after fs) ≡ front ++ back
         joined fs a b one ef eb =
@@ -130,7 +144,8 @@ module _ {E : Type 0} (n : E → Node) where
           pub m : Tree
           pub stands : ClimbState n base v root gs (fork k leaf z m) ps
           pub right : IsRight (plug gs (fork k leaf z m))
-          pub behind : back ≡ z ∷ (in_order m ++ after gs)
+          pub back_is : back ≡ z ∷ (in_order m ++ after gs)
+          pub start : before gs ≡ front ++ p ∷ []
           pub order : before gs ++ (in_order m ++ after gs) ≡ front ++ p ∷ (in_order m ++ after gs)
 
         pub next : Next
@@ -150,18 +165,32 @@ module _ {E : Type 0} (n : E → Node) where
               m = l.b;
               stands = go_into root l.gs (fork l.c leaf z l.b) ps (subst (λ (t : Tree). ClimbState n base v root [] t ps) (sym l.same) (go_top n right_stands));
               right = subst (λ (t : Tree). IsRight t) (sym l.same) x.right;
-              behind = cc;
+              back_is = cc;
+              start = start;
               order = glued rest;
             }
 
-        pub next_out : {w : Table E} {new_root : Option Place} → SplicesOut n v w root new_root z → Represented n base w new_root (front ++ p ∷ (in_order next.m ++ after next.gs)) (loose z ∷ ps)
-        next_out {w} {new_root} taken =
-            subst (λ (s : List Place). Represented n base w new_root s (loose z ∷ ps)) next.order (taken base next.gs (parts next.k leaf next.m) ps next.stands (inl refl) next.right)
+        next_out : {w : Table E} {new_root up : Option Place} {short : Bool} {d : Side} → SplicesOut n v w root new_root z short up d → short ≡ false
+            → Represented n base w new_root (front ++ p ∷ (in_order next.m ++ after next.gs)) (loose z ∷ ps)
+        next_out {w} {new_root} taken e =
+            subst (λ (s : List Place). Represented n base w new_root s (loose z ∷ ps)) next.order
+            ((taken base next.gs (parts next.k leaf next.m) ps next.stands (inl refl) next.right).0 e)
 
-        pub place_taken : {w u : Table E} {root1 root2 : Option Place} → SplicesOut n v w root root1 z → TakesPlace n w u root1 root2 p z → Represented n base u root2 (front ++ back) (loose p ∷ ps)
-        place_taken {w} {u} {root1} {root2} taken swapped =
-            let y = spot front p (in_order next.m ++ after next.gs) (next_out taken) in
-            subst (λ (s : List Place). Represented n base u root2 (front ++ s) (loose p ∷ ps)) (sym next.behind) (placed z y swapped)
+        -- it comes in the place of p, and above the gap stands what stood there, or it does where p stood there
+        pub place_taken : {w u : Table E} {root1 root2 up up' : Option Place} {short : Bool} {d : Side} → SplicesOut n v w root root1 z short up d → TakesPlace n w u root1 root2 p z
+            → (up ≡ Some p → up' ≡ Some z) → ((up ≡ Some p → ⊥) → up' ≡ up) → Remains u root2 short up' d
+        place_taken {w} {u} {root1} {root2} {up} {up'} {short} {d} taken swapped moved kept =
+            let k = way next.gs front p next.start in
+            let fs : List Frame = k.low ++ frame Right k.c z k.a ∷ k.high in
+            let few : length fs < turns = omega (arith, frames_low n next.stands next.right, length_same k.high k.c p z k.a k.low, ap length k.is) in (
+              fs,
+              next.m,
+              few,
+              subst (λ (s : List Place). IsRightOrShort n u root2 short up' d (record { base = base; sequence = front ++ s; frames = fs; subtree = next.m; pieces = loose p ∷ ps })) (sym next.back_is) (
+                λ e. placed z (spot front p (in_order next.m ++ after next.gs) (next_out taken e)) swapped,
+                λ e. short_placed n next.gs front p z next.m k ((taken base next.gs (parts next.k leaf next.m) ps next.stands (inl refl) next.right).1 e) swapped moved kept,
+              ),
+            )
 
   -- INTO THE PIECES, and out of them
   -- the represented tree stands at the root

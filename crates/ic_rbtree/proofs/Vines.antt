@@ -145,7 +145,7 @@ module _ {E : Type 0} (n : E → Node) where
   vine_beside v w r a s d keeps = chain_frame (IsFollowed (along n)) v.entry w.entry None r a s d keeps.others
 
   -- A VINE, CUT IN TWO HALVES at a member
-  module _ {v : Table E} {first : Option Place} {count height : ℕ} {s : List Place} {behind : Option Place} (x : IsVineOf n v first count height s behind)
+  module _ {v : Table E} {first : Option Place} {count height : ℕ} {s : List Place} {after : Option Place} (x : IsVineOf n v first count height s after)
       {before lower : ℕ} (some : 1 ≤ count) (half : before ≡ (count - 1) / 2) (low : lower ≡ height - 1) where
     abbrev pub halves : (a : List Place) × (p : Place) × (b : List Place) × (s ≡ a ++ p ∷ b) × (length a ≡ before)
     halves = split_at before s (omega (arith, some, half, x.counted))
@@ -153,8 +153,8 @@ module _ {E : Type 0} (n : E → Node) where
     sizes : Halved count height before lower
     sizes = halved count height before lower some half low x.enough x.few
 
-    cut : IsVine n v.entry halves.0 (Some halves.1) × ((n (v.entry halves.1)).linked ≡ true) × ((n (v.entry halves.1)).right ≡ first_or halves.2 behind) × IsVine n v.entry halves.2 behind
-    cut = vine_cut v.entry halves.0 halves.1 halves.2 behind (subst (λ z. IsVine n v.entry z behind) halves.3 x.vine)
+    cut : IsVine n v.entry halves.0 (Some halves.1) × ((n (v.entry halves.1)).linked ≡ true) × ((n (v.entry halves.1)).right ≡ first_or halves.2 after) × IsVine n v.entry halves.2 after
+    cut = vine_cut v.entry halves.0 halves.1 halves.2 after (subst (λ z. IsVine n v.entry z after) halves.3 x.vine)
 
     parts : Apart halves.0 halves.1 halves.2
     parts = apart_at halves.0 halves.1 halves.2 (subst IsDistinct halves.3 x.distinct)
@@ -163,7 +163,7 @@ module _ {E : Type 0} (n : E → Node) where
     front_half = record {
       vine = cut.0;
       distinct = parts.front;
-      starts = x.starts ∙ ap (λ (z : List Place). first_or z behind) halves.3 ∙ first_or-append halves.0 (halves.1 ∷ halves.2) behind;
+      starts = x.starts ∙ ap (λ (z : List Place). first_or z after) halves.3 ∙ first_or-append halves.0 (halves.1 ∷ halves.2) after;
       counted = sym halves.4;
       enough = sizes.enough;
       few = sizes.few;
@@ -181,18 +181,18 @@ module _ {E : Type 0} (n : E → Node) where
       place_linked = ap (λ (e : E). (n e).linked) entry_same ∙ subst (λ z. (n (v.entry z)).linked ≡ true) at_place cut.1
 
       -- the other half follows on the member between them
-      pub back_half : {next : Option Place} → next ≡ (n (v1.entry place)).right → IsVineOf n v1 next (count - 1 - before) lower halves.2 behind
+      pub back_half : {next : Option Place} → next ≡ (n (v1.entry place)).right → IsVineOf n v1 next (count - 1 - before) lower halves.2 after
       back_half read = record {
-        vine = vine_beside v v1 halves.2 behind halves.0 parts.back_front g.frame cut.3;
+        vine = vine_beside v v1 halves.2 after halves.0 parts.back_front g.frame cut.3;
         distinct = parts.back;
-        starts = read ∙ ap (λ (e : E). (n e).right) entry_same ∙ subst (λ z. (n (v.entry z)).right ≡ first_or halves.2 behind) at_place cut.2;
+        starts = read ∙ ap (λ (e : E). (n e).right) entry_same ∙ subst (λ z. (n (v.entry z)).right ≡ first_or halves.2 after) at_place cut.2;
         counted = omega (arith, x.counted, ap length halves.3, length-append halves.0 (halves.1 ∷ halves.2), halves.4);
         enough = sizes.enough_after;
         few = sizes.few_after;
       }
 
       -- AND BOTH TREES HANG BELOW IT
-      module _ {v2 : Table E} {right rest : Option Place} (h : BecomesTree n v1 v2 right rest lower halves.2 behind) where
+      module _ {v2 : Table E} {right rest : Option Place} (h : BecomesTree n v1 v2 right rest lower halves.2 after) where
         whole : s ≡ halves.0 ++ place ∷ halves.2
         whole = subst (λ z. s ≡ halves.0 ++ z ∷ halves.2) at_place halves.3
 
@@ -271,7 +271,7 @@ module _ {E : Type 0} (n : E → Node) where
                 nothing_black h.tree (omega (arith, sizes_are.1, one)),
               )
 
-          pub hung_below : BecomesTree n v v5 (Some place) rest height s behind
+          pub hung_below : BecomesTree n v v5 (Some place) rest height s after
           hung_below = record {
             tree = fork c g.tree place h.tree;
             entries = hung.are.0;
@@ -287,16 +287,16 @@ module _ {E : Type 0} (n : E → Node) where
           }
 
   -- NO MEMBERS make the empty tree
-  pub none_left : {v : Table E} {first : Option Place} {count height : ℕ} {s : List Place} {behind : Option Place} → IsVineOf n v first count height s behind → count ≡ 0
-      → BecomesTree n v v None first height s behind
-  none_left {v} {first} {count} {height} {s} {behind} x none =
+  pub none_left : {v : Table E} {first : Option Place} {count height : ℕ} {s : List Place} {after : Option Place} → IsVineOf n v first count height s after → count ≡ 0
+      → BecomesTree n v v None first height s after
+  none_left {v} {first} {count} {height} {s} {after} x none =
       let bare = nothing_is s (omega (arith, x.counted, none)) in
       let low : height ≡ 0 = flat height (omega (arith, x.enough, none)) in
       record {
         tree = leaf;
         entries = tt;
         root_is = refl;
-        next_is = x.starts ∙ ap (λ (z : List Place). first_or z behind) bare;
+        next_is = x.starts ∙ ap (λ (z : List Place). first_or z after) bare;
         order = sym bare;
         blacks_are = sym low;
         even = tt;
@@ -329,9 +329,9 @@ module _ {E : Type 0} (n : E → Node) where
     pub right_part : {right : Option Place} → right ≡ (n (v.entry place)).right → IsTreeOf n v right (Some place) opened.1
     right_part read = record { entries = entries.2; distinct = parts_below.back; root_is = read ∙ entries.0.right }
 
-    module _ {v1 : Table E} {next behind : Option Place} (r : BecomesVine n v v1 next (in_order opened.1) behind) where
-      pub next_named : IsNamed n v1 behind → IsNamed n v1 next
-      next_named named q e = vine_named v1 (in_order opened.1) behind r.vine named q (sym r.first_is ∙ e)
+    module _ {v1 : Table E} {next after : Option Place} (r : BecomesVine n v v1 next (in_order opened.1) after) where
+      pub next_named : IsNamed n v1 after → IsNamed n v1 next
+      next_named named q e = vine_named v1 (in_order opened.1) after r.vine named q (sym r.first_is ∙ e)
 
       module _ {v2 : Table E} (set2 : n (v2.entry place) ≡ record (n (v1.entry place)) { right = next }) (only2 : ChangesOnly v1 v2 place) where
         pub left_part : {left : Option Place} → left ≡ (n (v.entry place)).left → IsTreeOf n v2 left (Some place) opened.0
@@ -359,22 +359,22 @@ module _ {E : Type 0} (n : E → Node) where
               let o = absent_right q (in_order opened.0) (place ∷ in_order opened.1) out in
               l.frame.others q (absent_left q (in_order opened.0) (place ∷ in_order opened.1) out) ∙ (only2.others q o.0 ∙ r.frame.others q o.1)
 
-          laid_parts : BecomesVine n v w first (in_order opened.0 ++ place ∷ in_order opened.1) behind
+          laid_parts : BecomesVine n v w first (in_order opened.0 ++ place ∷ in_order opened.1) after
           laid_parts = record {
-            vine = vine_glue w.entry (in_order opened.0) place (in_order opened.1) behind l.vine linked_still
+            vine = vine_glue w.entry (in_order opened.0) place (in_order opened.1) after l.vine linked_still
                 (ap (λ (e : E). (n e).right) at_same ∙ (ap (λ (e : Node). e.right) set2 ∙ r.first_is))
-                (vine_beside v2 w (in_order opened.1) behind (in_order opened.0) parts_below.back_front l.frame
-                (vine_beside v1 v2 (in_order opened.1) behind (place ∷ []) back_alone (record { extent = only2.extent; others = λ q out. only2.others q out.0 }) r.vine));
-            first_is = l.first_is ∙ sym (first_or-append (in_order opened.0) (place ∷ in_order opened.1) behind);
+                (vine_beside v2 w (in_order opened.1) after (in_order opened.0) parts_below.back_front l.frame
+                (vine_beside v1 v2 (in_order opened.1) after (place ∷ []) back_alone (record { extent = only2.extent; others = λ q out. only2.others q out.0 }) r.vine));
+            first_is = l.first_is ∙ sym (first_or-append (in_order opened.0) (place ∷ in_order opened.1) after);
             frame = record { extent = l.frame.extent ∙ (only2.extent ∙ r.frame.extent); others = whole_frame };
           } where
             back_alone : IsDisjoint (in_order opened.1) (place ∷ [])
             back_alone = disjoint_sym (place ∷ []) (in_order opened.1) (parts_below.not_back, tt)
 
-          pub laid_out : BecomesVine n v w first (in_order t) behind
-          laid_out = subst (λ z. BecomesVine n v w first z behind) order laid_parts
+          pub laid_out : BecomesVine n v w first (in_order t) after
+          laid_out = subst (λ z. BecomesVine n v w first z after) order laid_parts
 
-  pub laid_nothing : {v : Table E} {root up : Option Place} {t : Tree} (behind : Option Place) → IsTreeOf n v root up t → root ≡ None → BecomesVine n v v behind (in_order t) behind
-  laid_nothing {v} {root} {up} {t} behind x is =
-      subst (λ z. BecomesVine n v v behind (in_order z) behind) (sym (top_leaf t (sym x.root_is ∙ is)))
+  pub laid_nothing : {v : Table E} {root up : Option Place} {t : Tree} (after : Option Place) → IsTreeOf n v root up t → root ≡ None → BecomesVine n v v after (in_order t) after
+  laid_nothing {v} {root} {up} {t} after x is =
+      subst (λ z. BecomesVine n v v after (in_order z) after) (sym (top_leaf t (sym x.root_is ∙ is)))
       (record { vine = tt; first_is = refl; frame = record { extent = refl; others = λ q out. refl } })

@@ -1,4 +1,4 @@
--- Where a key stands in a sequence of members.
+-- The position of a key in a sequence of members.
 use Rattle.std.specs.Prelude.{◌≡◌, ◌≢◌, Bool, cond, Option, Some, None, List, [], ◌∷◌, ◌++◌}
 use Rattle.std.specs.List.{AllByRecursion}
 use Rattle.std.specs.declared.cmp.Ordering.{Ordering}
@@ -23,12 +23,12 @@ pub record IsUpperBorder (bound : Bound (Place → Ordering)) (s : List Place) (
   pub after : IsAfter gap position
   pub border : IsBorder (is_beyond bound) gap
 
--- the place, if it passes the test
+-- the place, if it passes the test, otherwise none
 abbrev pub if_passes : (Place → Bool) → Option Place → Option Place
 if_passes test None = None
 if_passes test (Some p) = cond (test p) (Some p) None
 
--- `at`: how what is searched stands to each member
+-- `at`: how the searched key compares with each member
 module _ (at : Place → Ordering) where
   abbrev pub equal_at : Place → Bool
   equal_at p = is_eq (at p)
@@ -36,15 +36,15 @@ module _ (at : Place → Ordering) where
   abbrev pub at_most_at : Place → Bool
   at_most_at p = is_le (at p)
 
-  -- FOUND: at a gap with no member right before that is not less than what is searched, and none right after that is, the member
-  -- after it, if that is equal
+  -- FOUND: there is a gap whose member before, if any, is less than the searched key, and whose member after, if any, is not;
+  -- the result is the member after it if that is equal, otherwise none
   pub record Finds (s : List Place) (position : Option Place) : Type 0 where
     pub gap : Cut
     pub same : join gap ≡ s
     pub border : IsBorder at_most_at gap
     pub answer : position ≡ if_passes equal_at (first gap.back)
 
-  -- SORTED FOR WHAT IS SEARCHED: along s it is first greater than the members, then equal, then less
+  -- SORTED FOR THE SEARCHED KEY: along s the key is first greater than the members, then equal, then less
   pub record IsSortedFor (s : List Place) : Type 0 where
     pub smaller : List Place
     pub equal : List Place
@@ -54,7 +54,7 @@ module _ (at : Place → Ordering) where
     pub is_equal : AllByRecursion (λ p. at p ≡ Equal) equal
     pub is_less : AllByRecursion (λ p. at p ≡ Less) larger
 
--- SORTED: the keys of neighbors never fall
+-- SORTED: no member's key is less than that of the member before it
 abbrev pub IsSorted : {K : Type 0} → (K → K → Ordering) → List K → Type 0
 IsSorted cmp [] = Unit {0}
 IsSorted cmp (k ∷ []) = Unit {0}

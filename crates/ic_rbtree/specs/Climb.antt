@@ -1,14 +1,14 @@
--- How far a member stands below the root, as the parents lead.
+-- The depth of a member, counted along the parents.
 use Rattle.std.specs.Prelude.{ℕ, suc, zero, Option, Some, None}
 use Rattle.ic_link_ops.specs.Prelude.{Place, Table}
 use Rattle.ic_link_ops.specs.RedBlackTree.{Node}
 
--- steps up from a place until there is none above, at most so many
+-- the number of steps from a place up to the root, at most the given number
 unfoldable pub steps_up : ℕ → (Place → Option Place) → Option Place → ℕ
 steps_up zero parent o = 0
 steps_up (suc k) parent None = 0
 steps_up (suc k) parent (Some p) = suc (steps_up k parent (parent p))
 
--- the members from a place upwards
+-- the members on the path up from a place
 abbrev pub depth : {E : Type 0} → (E → Node) → Table E → Option Place → ℕ
 depth n v o = steps_up v.extent.places (λ q. (n (v.entry q)).parent) o

@@ -1,4 +1,4 @@
--- What a probe tells of members, and how many of them it has looked at.
+-- How a probe compares with members, and how many comparisons it has made.
 use Rattle.std.specs.Prelude.{◌≡◌, ℕ, ◌+◌, ◌^◌, ◌≤◌, Bool, true, not, Option, None, Some, List, length}
 use Rattle.std.specs.declared.cmp.Ordering.{Ordering}
 use Rattle.std.specs.declared.cmp.Ordering.TheVariants.{Less}
@@ -10,55 +10,55 @@ use Rattle.ic_link_ops.specs.declared.side.Side.TheVariants.{Left, Right}
 use Rattle.ic_rbtree.specs.declared.keys.key_adapter.Bound.{Bound}
 use Rattle.ic_rbtree.specs.declared.keys.key_adapter.Bound.TheVariants.{Included, Excluded, Unbounded}
 
--- the answer at an object, `Less` at none
+-- how the probe compares with an object, `Less` if there is none
 abbrev pub answer_at : {V : Type 0} → (V → Ordering) → Option V → Ordering
 answer_at order None = Less
 answer_at order (Some value) = order value
 
--- HOW WHAT IS SEARCHED STANDS to the object at a place: `Less` where it is less. (`Less`, too, where no object stands)
+-- HOW THE SEARCHED KEY COMPARES with the object at a place: `Less` if it is less. (Also `Less` if there is no object)
 abbrev pub compared : {V : Type 0} → (V → Ordering) → Objects V → Place → Ordering
 compared order objects p = answer_at order (object_at objects p)
 
--- the order of a key: how it stands to the key of each value
+-- the order of a key: how it compares with the key of each value
 abbrev pub order_of : {V K : Type 0} → (K → K → Ordering) → (V → K) → K → V → Ordering
 order_of cmp key_of key value = cmp key (key_of value)
 
--- the same of a key after a reference
+-- the same order for a key behind a reference
 abbrev pub order_there : {V K : Type 0} → (K → K → Ordering) → (V → K) → Bor K → V → Ordering
 order_there cmp key_of key = order_of cmp key_of key.now
 
--- and of an object's own key
+-- the same order for an object's own key
 abbrev pub own_order : {V K : Type 0} → (K → K → Ordering) → (V → K) → Objects V → Place → V → Ordering
 own_order cmp key_of objects object value = answer_at (λ own. cmp (key_of own) (key_of value)) (object_at objects object)
 
--- the same bound, of what is made of its end
+-- the same bound, with this function applied to its end
 abbrev pub bound_map : {T U : Type 0} → (T → U) → Bound T → Bound U
 bound_map f (Included x) = Included (f x)
 bound_map f (Excluded x) = Excluded (f x)
 bound_map f Unbounded = Unbounded
 
--- how the end of a bound stands to the object at each place
+-- how the end of a bound compares with the object at each place
 abbrev pub compared_within : {P V : Type 0} → (P → V → Ordering) → Objects V → Bound P → Bound (Place → Ordering)
 compared_within order objects bound = bound_map (λ probe. compared (order probe) objects) bound
 
--- whether a member meets a lower bound, of which we see how its end stands to each member: where the end is less than the member,
+-- whether a member meets a lower bound, which is given by how its end compares with each member: the end is less than the member,
 -- or equal if it is included. Every member meets `Unbounded`
 abbrev pub meets_lower : Bound (Place → Ordering) → Place → Bool
 meets_lower (Included at) p = is_le (at p)
 meets_lower (Excluded at) p = is_lt (at p)
 meets_lower Unbounded p = true
 
--- and whether it meets an upper bound
+-- whether a member meets an upper bound
 abbrev pub meets_upper : Bound (Place → Ordering) → Place → Bool
 meets_upper (Included at) p = is_ge (at p)
 meets_upper (Excluded at) p = is_gt (at p)
 meets_upper Unbounded p = true
 
--- whether it is beyond an upper bound: it doesn't meet it
+-- whether a member is beyond an upper bound: it doesn't meet the bound
 abbrev pub is_beyond : Bound (Place → Ordering) → Place → Bool
 is_beyond bound p = not (meets_upper bound p)
 
--- whether a descent goes left at a member that answers so, where it turns to this side at an equal one
+-- whether a descent goes left at a member that compares so; at an equal member it goes to this side
 abbrev pub goes_left : Side → Ordering → Bool
 goes_left Left o = is_le o
 goes_left Right o = is_lt o
@@ -67,17 +67,18 @@ goes_left Right o = is_lt o
 abbrev pub most_looks : ℕ
 most_looks = 66
 
--- a probe that has counted so many can make the looks of one more descent
+-- a probe with this count can make the looks of one more descent
 abbrev pub HasRoom : ℕ → Type 0
 HasRoom count = count + most_looks ≤ 18446744073709551615
 
--- SO FEW LOOKS as one descent makes in a tree with the members s, and one at least if there is a member
+-- AS FEW LOOKS as one descent makes in a tree with the members s, and at least one if there is a member
 pub record WithinComparisonBound (looks : ℕ) (s : List Place) : Type 0 where
   pub few : 2 ^ looks ≤ (length s + 1) ^ 2
   pub some : 1 ≤ length s → 1 ≤ looks
 
 module _ {P V : Type 0} (order : P → V → Ordering) (count : P → ℕ) where
-  -- THE LOOKS OF ONE DESCENT in a tree with the members s: one look more would be few, too. The probe compares as before
+  -- THE LOOKS OF ONE DESCENT in a tree with the members s: even one look more would keep the bound. The probe compares
+  -- as before
   pub record Looks (old new : P) (s : List Place) : Type 0 where
     pub looks : ℕ
     pub counted : count new ≡ count old + looks
@@ -85,14 +86,14 @@ module _ {P V : Type 0} (order : P → V → Ordering) (count : P → ℕ) where
     pub fewer : 1 ≤ length s → 2 ^ (looks + 1) ≤ (length s + 1) ^ 2
     pub order_is : order new ≡ order old
 
-  -- the same of the probe in a bound. Without a bound there is none, and no look
+  -- the same for the probe in a bound. `Unbounded` has no probe, and takes no look
   abbrev pub LooksWithin : Bound P → Bound P → List Place → Type 0
   LooksWithin (Included old) (Included new) s = Looks old new s
   LooksWithin (Excluded old) (Excluded new) s = Looks old new s
   LooksWithin Unbounded Unbounded s = Unit {0}
   LooksWithin _ _ s = ⊥
 
--- a probe in a bound can still make them
+-- the probe in a bound, if any, can make the looks of one more descent
 abbrev pub HasRoomWithin : {P : Type 0} → (P → ℕ) → Bound P → Type 0
 HasRoomWithin count (Included probe) = HasRoom (count probe)
 HasRoomWithin count (Excluded probe) = HasRoom (count probe)

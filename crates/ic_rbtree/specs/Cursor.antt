@@ -1,4 +1,4 @@
--- What clauses see of a cursor.
+-- A cursor, as contracts see it.
 use Rattle.std.specs.Prelude.{Option}
 use Rattle.ic_link_ops.specs.Prelude.{Place, CursorState, site}
 use Rattle.ic_cursors.specs.declared.cursor.Cursor as any
@@ -6,7 +6,7 @@ use Rattle.ic_rbtree.specs.declared.tree.RBTree.{RBTree}
 use Rattle.ic_rbtree.specs.Tree.{head_of}
 pub use Rattle.ic_cursors.specs.Cursor.{links_of}
 
--- a cursor of a tree with such an adapter, over such a table. `V`: what the tree is of. `H`: what it keeps
+-- a cursor of a tree with such an adapter, over such a table. `V`: the type of its objects. `H`: what the tree stores
 abbrev pub Cursor : Type 0 → Type 0 → Type 0 → Type 0 → Type 0
 Cursor A L V H = any.Cursor (RBTree A H) L V (Option Place) H
 
@@ -19,6 +19,6 @@ module _ {A L V H : Type 0} where
   abbrev pub position : Cursor A L V H → Option Place
   position c = c.current
 
-  -- with the tree and the table that it reads
+  -- the cursor, with the tree and the table that it reads
   abbrev pub site_of : Cursor A L V H → CursorState L H
   site_of c = site (links_of c) (head_of (tree_of c)) (position c)

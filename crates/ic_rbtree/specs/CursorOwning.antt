@@ -1,16 +1,16 @@
--- What clauses see of a cursor that keeps its tree.
+-- A cursor that owns its tree, as contracts see it.
 use Rattle.std.specs.Prelude.{Option}
 use Rattle.ic_link_ops.specs.Prelude.{Place, CursorState, site}
 use Rattle.ic_cursors.specs.declared.cursor_owning.CursorOwning as any
 use Rattle.ic_rbtree.specs.declared.tree.RBTree.{RBTree}
 use Rattle.ic_rbtree.specs.Tree.{head_of}
 
--- a cursor of a tree with such an adapter. `V`: what the tree is of. `H`: what it keeps
+-- a cursor of a tree with such an adapter. `V`: the type of its objects. `H`: what the tree stores
 abbrev pub CursorOwning : Type 0 → Type 0 → Type 0 → Type 0
 CursorOwning A V H = any.CursorOwning (RBTree A H) V (Option Place) H
 
 module _ {A V H : Type 0} where
-  -- the tree that it keeps
+  -- the tree that the cursor owns
   abbrev pub tree_of : CursorOwning A V H → RBTree A H
   tree_of c = c.list
 
@@ -18,6 +18,6 @@ module _ {A V H : Type 0} where
   abbrev pub position : CursorOwning A V H → Option Place
   position c = c.current
 
-  -- with the tree that it keeps, and the table that a call is handed
+  -- the cursor, with the tree that it owns and the table that a call takes
   abbrev pub site_of : {L : Type 0} → L → CursorOwning A V H → CursorState L H
   site_of links c = site links (head_of (tree_of c)) (position c)

@@ -1,4 +1,4 @@
--- A tree is cut at a hole, from there up.
+-- The split of a tree at a hole, from the hole up.
 use Rattle.std.specs.Prelude.{◌≡◌, ℕ, ◌+◌, ◌<◌, length, Option, Some, None, List, ◌∷◌, ◌++◌}
 use Rattle.ic_link_ops.specs.Prelude.{Place, Cut, Table}
 use Rattle.ic_link_ops.specs.declared.color.Color.{Color}
@@ -14,8 +14,8 @@ use Rattle.ic_rbtree.specs.Pieces.{Piece, below, around, Held}
 use Rattle.ic_rbtree.specs.Removal.{IsOn}
 use Rattle.ic_rbtree.specs.Shortage.{PairsAround, EvenAround}
 
--- what the table was, the gap, the frames above the hole, what the lowest of them names there, the black members that a way down had
--- there, both parts of what stood below, and the pieces beside the tree
+-- the state of the loop: the old table, the gap, the frames above the hole, the child that the lowest frame names there, the number
+-- of black members on each path down there, both parts of what was below, and the pieces beside the tree
 pub record CutUp (E : Type 0) : Type 0 where
   pub base : Table E
   pub gap : Cut
@@ -27,8 +27,8 @@ pub record CutUp (E : Type 0) : Type 0 where
   pub pieces : List Piece
 
 module _ {E : Type 0} (n : E → Node) where
-  -- THE LOOP'S INVARIANT: both parts are trees of the right shape with these black heights, and with the frames they have the members
-  -- of the gap's sides
+  -- THE LOOP'S INVARIANT: both parts are trees of the right shape with these black heights, and together with the frames they have
+  -- the members on both sides of the gap
   pub record IsCutUp (v : Table E) (root : Option Place) (left right : Measured) (k : CutUp E) : Type 0 where
     pub held : Held n k.base v (around root k.frames k.named ∷ below None k.front ∷ below None k.back ∷ k.pieces)
     pub left_is : IsMeasured left k.front
@@ -40,14 +40,14 @@ module _ {E : Type 0} (n : E → Node) where
     pub front_is : before k.frames ++ in_order k.front ≡ k.gap.front
     pub back_is : in_order k.back ++ after k.frames ≡ k.gap.back
 
-  -- and the hole is on side d of `parent`, where a way down had so many black members
+  -- and the hole is on side d of `parent`, where each path down had this many black members
   pub record IsCutBelow (v : Table E) (root parent : Option Place) (d : Side) (height : ℕ) (left right : Measured) (k : CutUp E) : Type 0 where
     pub cut : IsCutUp v root left right k
     pub parent_is : parent ≡ above k.frames
     pub side_is : IsOn d k.frames
     pub height_is : height ≡ k.count
 
-  -- that is so of some frames and parts, below fewer than m frames
+  -- the invariant holds for some frames and parts, below fewer than m frames
   abbrev pub IsCutting : Table E → Table E → Option Place → Option Place → Side → ℕ → Measured → Measured → Cut → List Piece → ℕ → Type 0
   IsCutting base v root parent d height left right gap ps m =
       (fs : List Frame) × (o : Option Place) × (count : ℕ) × (front back : Tree)
@@ -60,13 +60,13 @@ module _ {E : Type 0} (n : E → Node) where
       (base : Table E) (up : Option Place) (t : Tree) (ps : List Piece) → child ≡ top t → height ≡ blacks t → Held n base v (below up t ∷ ps)
       → Held n base w (below None (blackened t) ∷ ps) × IsMeasured alone (blackened t)
 
-  -- the hole is one member further up, and that member and its other subtree are in a part
+  -- the hole is one member further up, and that member and its other subtree are in one of the parts
   abbrev pub CutsOff : Table E → Table E → Place → Side → ℕ → Measured → Measured → Measured → Measured → Type 0
   CutsOff v w p d height left right new_left new_right =
       (root : Option Place) (k : CutUp E) (c : Color) (b : Tree) (fs : List Frame) → k.frames ≡ frame d c p b ∷ fs → height ≡ k.count → IsCutUp v root left right k
       → (front back : Tree) × IsCutUp w root new_left new_right (record k { frames = fs; named = Some p; count = weight c + k.count; front = front; back = back })
 
-  -- TWO TREES with the members of the sides of the gap
+  -- TWO TREES with the members on the two sides of the gap
   pub record AreCutApart (base w : Table E) (left right : Option Place) (gap : Cut) (ps : List Piece) : Type 0 where
     pub front : Tree
     pub back : Tree

@@ -1,4 +1,4 @@
--- A tree between its two ends, of which a walk that takes the members off keeps nothing else.
+-- A tree given by its two ends, which are all that a removing walk stores of it.
 use Rattle.std.specs.Prelude.{◌≡◌, Option, Some, List, [], ◌∷◌, drop}
 use Rattle.ic_link_ops.specs.Prelude.{Place, first, last, but_last, Table}
 use Rattle.ic_link_ops.specs.declared.side.Side.{Side}
@@ -11,7 +11,7 @@ use Rattle.ic_rbtree.specs.Pieces.{Piece, around, Held, ClimbState}
 use Rattle.ic_rbtree.specs.Removal.{IsOn}
 use Rattle.ic_rbtree.specs.Sides.{IsInTree, beyond}
 
--- the two ends, of which the near one is on this side
+-- the two ends; the near one is on this side
 abbrev pub ends_from : Side → Option Place → Option Place → Ends
 ends_from Left near far = record { head = near; tail = far }
 ends_from Right near far = record { head = far; tail = near }
@@ -33,7 +33,7 @@ module _ {E : Type 0} (n : E → Node) where
   abbrev pub RepresentsFrom : Side → Table E → Option Place → Option Place → List Place → Type 0
   RepresentsFrom d t near far w = RepresentsWithin t (ends_from d near far) w
 
-  -- `to` hangs on this side of `parent`; where that is none, it has come to be the root
+  -- `to` is the child on this side of `parent`; if `parent` is none, `to` is the root
   abbrev pub Hangs : Table E → Table E → Option Place → Side → Option Place → Type 0
   Hangs v w parent d to =
       (base : Table E) (root : Option Place) (fs : List Frame) (was x : Option Place) (ps : List Piece) → parent ≡ above fs → IsOn d fs → to ≡ x
@@ -43,7 +43,7 @@ module _ {E : Type 0} (n : E → Node) where
   abbrev pub CanDescend : Table E → Option Place → Type 0
   CanDescend v child = (p : Place) → child ≡ Some p → IsInTree n v p
 
-  -- the result is the outermost member on this side of a tree that has nothing on this side of a subtree, with the root `child` below `parent`
+  -- the result is the outermost member on this side of a tree that has no members beyond the subtree with the root `child` below `parent`
   abbrev pub IsOuter : Table E → Option Place → Option Place → Side → Option Place → Type 0
   IsOuter v child parent d result =
       (base : Table E) (root : Option Place) (fs : List Frame) (t : Tree) (ps : List Piece) → ClimbState n base v root fs t ps → child ≡ top t → parent ≡ above fs

@@ -6,7 +6,7 @@ use Rattle.ic_link_ops.specs.RedBlackTree.{Node}
 use Rattle.ic_link_ops.specs.Frames.{Frame}
 use Rattle.ic_rbtree.specs.Pieces.{Piece, ClimbState, Represented}
 
--- what the table was, the tree's members in order, the frames above the subtree, the subtree, and the pieces beside the tree
+-- the old table, the tree's members in order, the frames above the subtree, the subtree, and the pieces beside the tree
 pub record Focus (E : Type 0) : Type 0 where
   pub base : Table E
   pub sequence : List Place
@@ -15,10 +15,10 @@ pub record Focus (E : Type 0) : Type 0 where
   pub pieces : List Piece
 
 module _ {E : Type 0} (n : E → Node) where
-  -- the subtree stands there
+  -- the table has the subtree below these frames
   abbrev pub IsInFocus : Table E → Option Place → Focus E → Type 0
   IsInFocus v root k = ClimbState n k.base v root k.frames k.subtree k.pieces
 
-  -- all is right: a tree of the right shape with that sequence stands there
+  -- all is right: the table has a tree of the right shape with that sequence
   abbrev pub IsRestored : Table E → Option Place → Focus E → Type 0
   IsRestored v root k = Represented n k.base v root k.sequence k.pieces

@@ -1,4 +1,4 @@
--- Where an object comes into a tree, and how many looks find that.
+-- Where an object belongs in a tree, and how many looks find the hole.
 use Rattle.std.specs.Prelude.{◌≡◌, ℕ, ◌+◌, ◌*◌, ◌^◌, ◌≤◌, Bool, false, not, Option, None, Some, List, length}
 use Rattle.std.specs.declared.cmp.Ordering.{Ordering}
 use Rattle.ic_link_ops.specs.Prelude.{Place, Objects, Cut, join, IsBefore, Table}
@@ -8,23 +8,23 @@ use Rattle.ic_rbtree.specs.Borders.{IsBorder, less_at}
 use Rattle.ic_rbtree.specs.Comparing.{compared}
 use Rattle.ic_rbtree.specs.Insertion.{IsInsertPos}
 
--- whether what is searched is less than the member at a position, which is not so at null
+-- whether the searched key is less than the member at a position; false at null
 abbrev pub less_there : (Place → Ordering) → Option Place → Bool
 less_there at None = false
 less_there at (Some p) = less_at at p
 
--- whether there is a member, and what is searched is not less
+-- whether there is a member at the position, and the searched key is not less
 abbrev pub after_there : (Place → Ordering) → Option Place → Bool
 after_there at None = false
 after_there at (Some p) = not (less_at at p)
 
--- how many looks tell either
+-- how many looks this takes
 abbrev pub looks_there : Option Place → ℕ
 looks_there None = 0
 looks_there (Some p) = 1
 
 module _ {E : Type 0} (n : E → Node) where
-  -- THE HOLE IS WHERE WHAT IS SEARCHED BELONGS: after what is less or equal
+  -- THE HOLE IS WHERE THE SEARCHED KEY BELONGS: after the members that are less or equal
   pub record IsInOrder (v : Table E) (at : Place → Ordering) (s : List Place) (parent : Option Place) (d : Side) : Type 0 where
     pub gap : Cut
     pub same : join gap ≡ s
@@ -39,7 +39,7 @@ pub record BelongsBefore (test : Place → Bool) (p : Place) (s : List Place) : 
   pub border : IsBorder test gap
 
 module _ {P V : Type 0} (order : P → V → Ordering) (count : P → ℕ) where
-  -- THE LOOKS OF ONE INSERT WITH A HINT: two at most where what is searched belongs before the hint, and else one more than a descent makes at most
+  -- THE LOOKS OF ONE INSERT WITH A HINT: at most two if the searched key belongs before the hint, otherwise at most one more than a descent makes
   pub record HintedLooks (objects : Objects V) (hint : Place) (old new : P) (s : List Place) : Type 0 where
     pub looks : ℕ
     pub counted : count new ≡ count old + looks

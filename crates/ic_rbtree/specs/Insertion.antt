@@ -1,4 +1,4 @@
--- What the steps of a repair after an insert do.
+-- The effect of each step of a repair after an insert.
 use Rattle.std.specs.Prelude.{◌≡◌, ℕ, ◌+◌, ◌<◌, Bool, true, false, cond, Option, Some, None, List, [], ◌∷◌, ◌++◌, length}
 use Rattle.ic_link_ops.specs.Prelude.{Place, Cut, Table}
 use Rattle.ic_link_ops.specs.declared.color.Color.{Color}
@@ -15,26 +15,27 @@ use Rattle.ic_rbtree.specs.Pieces.{Piece, loose, ClimbState, Represented}
 use Rattle.ic_rbtree.specs.Shortage.{wanted, IsNearlyRight}
 use Rattle.ic_rbtree.specs.Focus.{Focus, IsInFocus, IsRestored}
 
--- red below a parent, and black at the root
+-- the color of a new member: red below a parent, and black at the root
 abbrev pub color_below : Option Place → Color
 color_below None = Black
 color_below (Some p) = Red
 
--- whether two sides are across
+-- whether two sides are different
 abbrev pub are_across : Side → Side → Bool
 are_across Left Left = false
 are_across Left Right = true
 are_across Right Left = true
 are_across Right Right = false
 
--- what stands around a red pair: the side of the lower one and its sibling, and above both a parent's color and other subtree
+-- the surroundings of a red pair: the side of the lower one and its sibling, and the color and the other subtree of the
+-- parent of both
 pub record RedPair : Type 0 where
   pub low : Side
   pub sibling : Tree
   pub color : Color
   pub uncle : Tree
 
--- the frames above the lower one, where q is the upper one and stands on side i of g
+-- the frames above the lower one; q is the upper one, on side i of g
 abbrev pub above_pair : Place → Place → Side → RedPair → List Frame → List Frame
 above_pair q g i m fs = frame m.low Red q m.sibling ∷ frame i m.color g m.uncle ∷ fs
 
@@ -44,18 +45,19 @@ blackened leaf = leaf
 blackened (fork c a p b) = fork Black a p b
 
 module _ {E : Type 0} (n : E → Node) where
-  -- THE LOOP'S INVARIANT: all is right, but that x, the subtree's root, is red and may stand below a red member
+  -- THE LOOP'S INVARIANT: all is right, except that x, the subtree's root, is red and may be below a red member
   pub record RedAt (v : Table E) (root : Option Place) (x : Place) (k : Focus E) : Type 0 where
     pub stands : IsInFocus n v root k
     pub top_is : top k.subtree ≡ Some x
     pub nearly : IsNearlyRight k.frames k.subtree
     pub order : in_order (plug k.frames k.subtree) ≡ k.sequence
 
-  -- all is right, with so many black members on a way down
+  -- all is right, with this many black members on each path down
   abbrev pub IsRestoredWith : Table E → Option Place → Focus E → ℕ → Type 0
   IsRestoredWith w root k count = (h : IsRestored n w root k) × (blacks h.tree ≡ count)
 
-  -- or the same stands further up, below fewer than m frames, and a way down has one black member more at the root
+  -- the result of one step: if it returns a place, the invariant holds there, below fewer than m frames, and each path
+  -- down has one black member more if that is the root; otherwise all is right
   abbrev pub IsFixedOrHigher : Table E → Option Place → Focus E → ℕ → ℕ → Option Place → Type 0
   IsFixedOrHigher w root k m count None = IsRestoredWith w root k count
   IsFixedOrHigher w root k m count (Some g) =
@@ -64,13 +66,14 @@ module _ {E : Type 0} (n : E → Node) where
   abbrev pub FixesRedParent : Table E → Table E → Option Place → Option Place → Place → Option Place → Option Place → Type 0
   FixesRedParent v w root new_root x parent result = (k : Focus E) → RedAt v root x k → parent ≡ above k.frames → IsFixedOrHigher w new_root k (length k.frames) (blacks (plug k.frames k.subtree)) result
 
-  -- all is right, and a way down has one black member more if the tree has grown. Where x was the root, that is counted already
+  -- all is right, and each path down has one black member more if the tree has grown. If x was the root, this increase is
+  -- counted already
   abbrev pub FixesInsertion : Table E → Table E → Option Place → Option Place → Place → Option Place → Bool → Type 0
   FixesInsertion v w root new_root x parent grown =
       (k : Focus E) → RedAt v root x k → parent ≡ above k.frames → length k.frames < turns
       → (h : IsRestored n w new_root k) × (blacks h.tree + weight (wanted k.frames) ≡ blacks (plug k.frames k.subtree) + cond grown 1 0)
 
-  -- the red parent q of x, and its parent g, on side i of which q stands; the frames are those above g
+  -- the red parent q of x is on side i of its parent g; the frames are those above g
   pub record PairAt (v : Table E) (root : Option Place) (x q g : Place) (i : Side) (m : RedPair) (k : Focus E) : Type 0 where
     pub red : RedAt v root x (record k { frames = above_pair q g i m k.frames })
 
@@ -88,22 +91,22 @@ module _ {E : Type 0} (n : E → Node) where
       → ClimbState n k.base v root (above_pair q g i m k.frames) k.subtree k.pieces
       → ClimbState n k.base w root k.frames (branch i (wanted k.frames) (branch m.low Black k.subtree q m.sibling) g (blackened m.uncle)) k.pieces
 
-  -- a red child of `upper` is an outer grandchild of g: it stands on the side on which `upper` does
+  -- a red child of `upper` is an outer grandchild of g: it is on the same side as `upper`
   abbrev pub HasOuterGrandchild : Table E → Option Place → Place → Place → Side → RedPair → Focus E → Type 0
   HasOuterGrandchild w root upper g i m k =
       (x : Place) × (b : Tree) × (t : Tree) × PairAt w root x upper g i (record m { low = i; sibling = b }) (record k { subtree = t })
 
-  -- CASE 2, an inner grandchild: it comes up above its parent
+  -- CASE 2, an inner grandchild: it is rotated above its parent
   abbrev pub RotatesInnerGrandchild : Table E → Table E → Option Place → Option Place → Place → Place → Side → Place → Type 0
   RotatesInnerGrandchild v w root new_root x q i upper =
       (g : Place) (m : RedPair) (k : Focus E) → PairAt v root x q g i m k → HasOuterGrandchild w new_root upper g i m k
 
-  -- THE HOLE: on side d of q, which has no child there, is this gap; without q the tree is empty
+  -- THE HOLE on side d of q, which has no child there, is at this gap; if there is no q, the tree is empty
   abbrev pub IsInsertPos : Table E → Option Place → Side → Cut → Type 0
   IsInsertPos v None d gap = (gap.front ≡ []) × (gap.back ≡ [])
   IsInsertPos v (Some q) d gap = (child_on d (n (v.entry q)) ≡ None) × IsBeside d gap (Some q)
 
-  -- p is put in at the gap
+  -- p is inserted at the gap
   abbrev pub Attaches : Table E → Table E → Option Place → Option Place → Option Place → Side → Place → Type 0
   Attaches v w root new_root parent d p =
       (base : Table E) (gap : Cut) (ps : List Piece) → Represented n base v root (gap.front ++ gap.back) (loose p ∷ ps) → IsInsertPos v parent d gap

@@ -1,4 +1,4 @@
--- What clauses see of a walk over a tree's objects.
+-- A walk over a tree's objects, as contracts see it.
 use Rattle.std.specs.Prelude.{List}
 use Rattle.ic_link_ops.specs.Prelude.{Place, Objects, Table, ArePlaced, values_at}
 use Rattle.ic_link_ops.specs.RedBlackTree.{Node}
@@ -6,16 +6,16 @@ use Rattle.ic_rbtree.specs.Members.{members, between, IsWalk}
 use Rattle.ic_rbtree.specs.declared.iter.Iter.{Iter}
 
 module _ {A L O V K E : Type 0} (node : E → Node) (table : L → Table E) where
-  -- the members that the walk has not given out yet
+  -- the members that the walk has not returned yet
   abbrev pub rest_of : Iter A L O V K → List Place
   rest_of t = between t.head t.tail (members node (table t.links.now) t.root)
 
 -- `values`: the values by place
 module _ {A L O V K E : Type 0} (node : E → Node) (table : L → Table E) (values : O → Objects V) where
-  -- the objects that it has not given out yet
+  -- the objects that the walk has not returned yet
   abbrev pub objects_left : Iter A L O V K → List V
   objects_left t = values_at (values t.objects.now) (rest_of node table t)
 
-  -- it stands between two members of the tree, or has met its end, and all that are left are placed
+  -- the walk is between two members of the tree, or at its end, and all members that remain are placed
   abbrev pub CanWalk : Iter A L O V K → Type 0
   CanWalk t = (w : List Place) × IsWalk node (table t.links.now) t.root t.head t.tail w × ArePlaced (values t.objects.now) w

@@ -1,4 +1,4 @@
--- A place comes into a tree, with another tree below it.
+-- The insert of a place into a tree, with another tree below the place.
 use Rattle.std.specs.Prelude.{◌≡◌, ℕ, ◌+◌, ◌≤◌, Bool, true, cond, Option, None, List, [], ◌∷◌}
 use Rattle.ic_link_ops.specs.Prelude.{Place, Cut, join, insert, IsDistinct, Table, ChangesOnlyIn}
 use Rattle.ic_link_ops.specs.declared.color.Color.TheVariants.{Red, Black}
@@ -12,7 +12,8 @@ use Rattle.ic_rbtree.specs.Pieces.{Piece, loose, below, around, Held, ClimbState
 use Rattle.ic_rbtree.specs.Removal.{IsOn}
 use Rattle.ic_rbtree.specs.Sides.{beyond}
 
--- what the table was, the frames of the taller tree above its subtree `near`, and the other tree, `far`, which is as high in black members
+-- the old table, the frames of the taller tree above its subtree `near`, and the other tree, `far`, which has the same black height as
+-- `near`
 pub record Graft (E : Type 0) : Type 0 where
   pub base : Table E
   pub frames : List Frame
@@ -32,17 +33,18 @@ module _ {E : Type 0} (n : E → Node) where
     pub right : IsRight (plug k.frames k.near)
     pub far_right : IsRight k.far
 
-  -- p has come in between both, and a way down has one black member more if the tree has grown
+  -- p is inserted between both, and each path down has one black member more if the tree has grown
   abbrev pub Grafts : Table E → Table E → Option Place → Option Place → Option Place → Side → Option Place → Place → Option Place → Bool → Type 0
   Grafts v w root new_root parent d near p far grown =
       (k : Graft E) → IsGraft v root parent d near p far k
       → (h : Represented n k.base w new_root (in_order (plug k.frames (branch d Red k.far p k.near))) k.pieces) × (blacks h.tree ≡ blacks (plug k.frames k.near) + cond grown 1 0)
 
-  -- the place is the root of a tree; and this is how many black members it has on a way down
+  -- the place is the root of a tree, with this many black members on each path down
   abbrev pub IsRootOf : Table E → Option Place → Tree → Type 0
   IsRootOf v o t = (up : Option Place) × IsTree n v.entry up t × (o ≡ top t)
 
-  -- DOWN A SIDE of the tree t: `near` stands below `parent`, nothing is beyond it on that side, and it has so many black members
+  -- DOWN A SIDE of the tree t: `near` is below `parent`, no member is beyond it on that side, and it has this many black members
+  -- on each path down
   pub record IsSpine (base v : Table E) (root : Option Place) (d : Side) (t : Tree) (ps : List Piece) (near parent : Option Place) (count : ℕ) (gs : List Frame) (u : Tree) : Type 0 where
     pub stands : ClimbState n base v root gs u ps
     pub same : plug gs u ≡ t
@@ -52,7 +54,7 @@ module _ {E : Type 0} (n : E → Node) where
     pub nothing : beyond d gs ≡ []
     pub blacks_are : blacks u ≡ count
 
-  -- with a black top
+  -- the same, with a black root
   abbrev pub EndsBlack : Table E → Table E → Option Place → Side → Tree → List Piece → Option Place → Option Place → ℕ → Type 0
   EndsBlack base v root d t ps near parent count =
       (gs : List Frame) × (u : Tree) × IsSpine base v root d t ps near parent count gs u × (top_color u ≡ Black)
@@ -70,7 +72,7 @@ pub record Pair (E : Type 0) : Type 0 where
   pub pieces : List Piece
 
 module _ {E : Type 0} (n : E → Node) where
-  -- TWO TREES of the right shape, and a linked place on its own
+  -- TWO TREES of the right shape, and a linked place that is in neither
   pub record ArePair (v : Table E) (one : Option Place) (p : Place) (two : Option Place) (k : Pair E) : Type 0 where
     pub held : Held n k.base v (loose p ∷ below None k.one ∷ below None k.two ∷ k.pieces)
     pub one_is : one ≡ top k.one
@@ -78,13 +80,13 @@ module _ {E : Type 0} (n : E → Node) where
     pub one_right : IsRight k.one
     pub two_right : IsRight k.two
 
-  -- and their black heights
+  -- two such trees with their black heights
   pub record AreMeasured (v : Table E) (one : Measured) (p : Place) (two : Measured) (k : Pair E) : Type 0 where
     pub pair : ArePair v one.root p two.root k
     pub one_height : one.height ≡ blacks k.one
     pub two_height : two.height ≡ blacks k.two
 
-  -- the first of them is at least as high as the other, in black members
+  -- the black height of the first is at least that of the other
   pub record AreHigh (v : Table E) (one : Measured) (p : Place) (two : Measured) (k : Pair E) : Type 0 where
     pub measured : AreMeasured v one p two k
     pub lower : two.height ≤ one.height
@@ -93,7 +95,7 @@ module _ {E : Type 0} (n : E → Node) where
   abbrev pub IsJoined : Table E → Table E → Measured → List Place → List Piece → Type 0
   IsJoined base w m s ps = (h : Represented n base w m.root s ps) × (m.height ≡ blacks h.tree)
 
-  -- TWO TREES CAN BE JOINED with p between them: p is linked, and no place stands twice in all
+  -- TWO TREES CAN BE JOINED with p between them: p is linked, and no place occurs twice in all three
   pub record CanJoin (v : Table E) (left : Option Place) (p : Place) (right : Option Place) (gap : Cut) : Type 0 where
     pub front : Represents n v left gap.front
     pub back : Represents n v right gap.back
@@ -102,17 +104,17 @@ module _ {E : Type 0} (n : E → Node) where
 
 -- `Represents t head s`: the table represents s for the tree with this head
 module _ {E H : Type 0} (Represents : Table E → H → List Place → Type 0) where
-  -- THE TABLE SHOWS TWO PARTS: the front for the one tree and the back for the other, and no place stands in both
+  -- THE TABLE REPRESENTS TWO PARTS: the front for the one tree and the back for the other, and no place is in both
   pub record RepresentsParts (v : Table E) (left right : H) (gap : Cut) : Type 0 where
     pub front : Represents v left gap.front
     pub back : Represents v right gap.back
     pub distinct : IsDistinct (join gap)
 
-  -- it represents some for them
+  -- the table represents two such parts
   abbrev pub RepresentsPartsSome : Table E → H → H → Type 0
   RepresentsPartsSome v left right = (gap : Cut) × RepresentsParts v left right gap
 
-  -- THE PARTS ARE ONE TREE, and nothing but entries of their members is changed
+  -- THE PARTS ARE ONE TREE, and no entries are changed except those of their members
   pub record Appends (v w : Table E) (head : H) (gap : Cut) : Type 0 where
     pub shows : Represents w head (join gap)
     pub frame : ChangesOnlyIn v w (join gap)

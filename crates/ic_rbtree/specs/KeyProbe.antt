@@ -1,4 +1,4 @@
--- What clauses see of a search for a key.
+-- A search for a key, as contracts see it.
 use Rattle.std.specs.Prelude.{◌≡◌, ℕ}
 use Rattle.ic_rbtree.specs.declared.keys.key_adapter.Bound.{Bound}
 use Rattle.ic_rbtree.specs.declared.keys.key_adapter.Bound.TheVariants.{Included, Excluded, Unbounded}
@@ -12,19 +12,19 @@ module _ {A V K : Type 0} where
   abbrev pub adapter_of : KeyProbe A V K → A
   adapter_of p = p.adapter
 
-  -- the key that is searched
+  -- the searched key
   abbrev pub key_of_probe : KeyProbe A V K → K
   key_of_probe p = p.key.now
 
-  -- how many looks it has made
+  -- the number of looks that the search has made
   abbrev pub looks_of : KeyProbe A V K → ℕ
   looks_of p = p.looks
 
-  -- what an insert searches
+  -- the search that an insert makes
   abbrev pub probe_of : KeyFirst A V K → KeyProbe A V K
   probe_of p = p.probe
 
-  -- how it compares
+  -- how the search compares with a value
   abbrev pub key_order : (K → K → Ordering) → (A → V → K) → KeyProbe A V K → V → Ordering
   key_order cmp key_of p = order_of cmp (key_of (adapter_of p)) (key_of_probe p)
 

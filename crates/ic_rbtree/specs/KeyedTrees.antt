@@ -1,4 +1,4 @@
--- Trees over the table with a number beside each link, the key of its place.
+-- Trees over a table with a number beside each link, which is the key of its place.
 use Rattle.std.specs.Prelude.{ℕ, Option}
 use Rattle.ic_link_ops.specs.Prelude.{Place, Objects, at_indexes, Table}
 use Rattle.ic_link_ops.specs.declared.link.Link.{Link}
@@ -11,13 +11,13 @@ use Rattle.ic_link_ops.specs.Widths.{wide}
 use Rattle.ic_rbtree.specs.SortedObjects.{RepresentsSorted}
 
 module _ {A : Type 0} where
-  -- what clauses see of it, and its keys by place
+  -- the table as contracts see it, and its keys by place
   abbrev pub keyed_table : PlainTable ThreeWords A ℕ → Table (Link ThreeWords ℕ)
   keyed_table links = table_beside wide no_words 0 (λ s. s) links
 
   abbrev pub keys_of : PlainTable ThreeWords A ℕ → Objects ℕ
   keys_of links = at_indexes (values_beside (entries links))
 
-  -- it represents a tree in the order of its keys
+  -- the table represents a tree in the order of its keys
   abbrev pub RepresentsKeys : PlainTable ThreeWords A ℕ → Option Place → Type 0
   RepresentsKeys links root = RepresentsSorted (λ (v : ℕ). v) (Represents node_of (keyed_table links) root) (keys_of links)

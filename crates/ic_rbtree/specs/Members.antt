@@ -1,44 +1,44 @@
--- The members of a tree, as the entries lead through them.
+-- The members of a tree, in the order in which a walk along the entries reaches them.
 use Rattle.std.specs.Prelude.{◌≡◌, ◌⊎◌, true, ℕ, zero, suc, cond, Option, Some, None, List, [], ◌∷◌, ◌++◌}
 use Rattle.ic_link_ops.specs.Prelude.{Place, first, last, Table, IsCovered}
 use Rattle.ic_link_ops.specs.Trees.{Tree, leaf, fork, in_order}
 use Rattle.ic_link_ops.specs.RedBlackTree.{Node, Represents}
 use Rattle.ic_link_ops.specs.Walk.{is_end}
 
--- the first of two, unless the second is there
+-- the second of two, or the first if there is no second
 abbrev pub some_or : Option Place → Option Place → Option Place
 some_or o None = o
 some_or o (Some q) = Some q
 
--- of a sequence, the members up to this one
+-- the members of a sequence up to this one
 abbrev pub up_to : Option Place → List Place → List Place
 up_to tail [] = []
 up_to tail (x ∷ s) = x ∷ cond (is_end tail x) [] (up_to tail s)
 
--- and those from one to the other, none where the first is none
+-- the members from one to the other, none if the first is none
 abbrev pub between : Option Place → Option Place → List Place → List Place
 between head tail [] = []
 between head tail (x ∷ s) = cond (is_end head x) (up_to tail (x ∷ s)) (between head tail s)
 
 module _ {E : Type 0} (n : E → Node) where
-  -- the tree below a place, at most so many levels of it
+  -- the tree below a place, down to the given number of levels
   unfoldable pub tree_below : (Place → E) → ℕ → Option Place → Tree
   tree_below entry zero o = leaf
   tree_below entry (suc k) None = leaf
   tree_below entry (suc k) (Some p) =
       fork (n (entry p)).color (tree_below entry k (n (entry p)).left) p (tree_below entry k (n (entry p)).right)
 
-  -- the last place that the parents lead to, after at most so many steps
+  -- the last place on the path along the parents, after at most the given number of steps
   unfoldable pub top_above : (Place → E) → ℕ → Option Place → Option Place
   top_above entry zero o = o
   top_above entry (suc k) None = None
   top_above entry (suc k) (Some p) = some_or (Some p) (top_above entry k (n (entry p)).parent)
 
-  -- the members of the tree with this root: no way down is longer than what the table covers
+  -- the members of the tree with this root. No path down is longer than the number of places that the table covers
   abbrev pub members : Table E → Option Place → List Place
   members t root = in_order (tree_below t.entry t.extent.places root)
 
-  -- and of the tree that this place is in
+  -- the members of the tree that this place is in
   abbrev pub members_around : Table E → Option Place → List Place
   members_around t p = members t (top_above t.entry t.extent.places p)
 
@@ -53,7 +53,7 @@ module _ {E : Type 0} (n : E → Node) where
   IsPathDown t o [] = Unit {0}
   IsPathDown t o (p ∷ path) = (o ≡ Some p) × (IsPathDown t (n (t.entry p)).left path ⊎ IsPathDown t (n (t.entry p)).right path)
 
-  -- the members w stand side by side in the tree, and the ends are the first and the last of them (none where there is none)
+  -- the members w are consecutive in the tree, and the ends are the first and the last of them (none if w is empty)
   pub record IsWalk (t : Table E) (root head tail : Option Place) (w : List Place) : Type 0 where
     pub front : List Place
     pub back : List Place

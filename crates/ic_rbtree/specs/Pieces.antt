@@ -1,4 +1,4 @@
--- A table in pieces that share no place: members on their own, trees, and what stands around a subtree.
+-- A table in pieces that share no place: single members, trees, and the surroundings of a subtree.
 use Rattle.std.specs.Prelude.{◌≡◌, ℕ, ◌+◌, ◌≤◌, true, Option, List, [], ◌∷◌}
 use Rattle.ic_link_ops.specs.Prelude.{Place, Table}
 use Rattle.ic_link_ops.specs.declared.color.Color.{Color}
@@ -13,14 +13,14 @@ use Rattle.ic_link_ops.specs.Times.{one_at, times, times_around}
 pub data Piece : Type 0 where
   -- a linked place: a side, the place, its color, its child on that side, the other child, its parent
   cell : Side → Place → Color → Option Place → Option Place → Option Place → Piece
-  -- a linked place, whatever it reads
+  -- a linked place, whatever its entry contains
   loose : Place → Piece
   -- a tree, below the parent of its root
   below : Option Place → Tree → Piece
-  -- the root of all, and what stands around a subtree with this root
+  -- the root of the whole tree, and the surroundings of a subtree with this root
   around : Option Place → List Frame → Option Place → Piece
 
--- how often a place stands there
+-- how often a place occurs in a piece
 abbrev pub times_piece : Place → Piece → ℕ
 times_piece q (cell d p c near far up) = one_at q p
 times_piece q (loose p) = one_at q p
@@ -43,7 +43,7 @@ module _ {E : Type 0} (n : E → Node) where
   ArePieces entry [] = Unit {0}
   ArePieces entry (x ∷ ps) = IsPiece entry x × ArePieces entry ps
 
-  -- THE TABLE v IS IN THESE PIECES, and has come from `base` by changes of entries of their members alone
+  -- THE TABLE v CONSISTS OF THESE PIECES, and only entries of their members differ from those of `base`
   pub record Held (base v : Table E) (ps : List Piece) : Type 0 where
     pub are : ArePieces v.entry ps
     pub once : (q : Place) → times_all q ps ≤ 1
@@ -51,11 +51,11 @@ module _ {E : Type 0} (n : E → Node) where
     pub linked : (q : Place) → (n (v.entry q)).linked ≡ (n (base.entry q)).linked
     pub extent : v.extent ≡ base.extent
 
-  -- the tree t stands below these frames, beside the pieces ps
+  -- the tree t is below these frames, beside the pieces ps
   abbrev pub ClimbState : Table E → Table E → Option Place → List Frame → Tree → List Piece → Type 0
   ClimbState base v root fs t ps = Held base v (around root fs (top t) ∷ below (above fs) t ∷ ps)
 
-  -- a tree of the right shape with the in-order list s stands there
+  -- the table has a tree of the right shape with the in-order list s
   pub record Represented (base v : Table E) (root : Option Place) (s : List Place) (ps : List Piece) : Type 0 where
     pub tree : Tree
     pub stands : ClimbState base v root [] tree ps

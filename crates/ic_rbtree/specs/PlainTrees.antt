@@ -11,7 +11,7 @@ use Rattle.ic_link_ops.specs.ThreeWords.{no_words, has_link, node_of}
 use Rattle.ic_link_ops.specs.RedBlackTree.{Node, Represents, RepresentsSome}
 use Rattle.ic_rbtree.specs.Members.{members}
 
--- what a link says of a tree, by what its words say
+-- the node of a link, according to its words
 abbrev pub node_by : {W V : Type 0} → (W → Node) → Link W V → Node
 node_by node l = node (words_of l)
 
@@ -26,7 +26,7 @@ TreeLinkOps A = PlainTable ThreeWords A ⊤
 abbrev pub is_linked : TreeLink → Bool
 is_linked = linked_by has_link
 
--- the plain table of tree links, as clauses of its callers see it
+-- the plain table of tree links, as contracts of its callers see it
 abbrev pub plain_table : {A : Type 0} → TreeLinkOps A → Table TreeLink
 plain_table links = table wide no_words links
 
@@ -34,7 +34,7 @@ plain_table links = table wide no_words links
 abbrev pub RepresentsTree : Table TreeLink → Option Place → List Place → Type 0
 RepresentsTree = Represents node_of
 
--- the plain table does; and it represents some sequence
+-- the plain table does; and the table represents some sequence
 abbrev pub PlainRepresents : {A : Type 0} → TreeLinkOps A → Option Place → List Place → Type 0
 PlainRepresents links root s = RepresentsTree (plain_table links) root s
 

@@ -24,7 +24,8 @@ not_less cmp _ _ = false
 abbrev pub runs_up : {V K : Type 0} → (K → K → Ordering) → (V → K) → Objects V → Option Place → Option Place → Bool
 runs_up cmp key_of objects low high = not_less cmp (option_map key_of (object_there objects low)) (option_map key_of (object_there objects high))
 
--- A RANGE: the segment of s from a lower border of the one bound to an upper border of the other, where these run up, and else nothing
+-- A RANGE: the segment of s from a lower border of the one bound to an upper border of the other, if the keys at these borders do not
+-- fall; otherwise nothing
 pub record IsRange (min max : Bound (Place → Ordering)) (runs : Option Place → Option Place → Bool) (s w : List Place) : Type 0 where
   pub low : Option Place
   pub high : Option Place

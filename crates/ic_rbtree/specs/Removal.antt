@@ -1,4 +1,4 @@
--- What the steps of a repair after a removal do.
+-- The effect of each step of a repair after a removal.
 use Rattle.std.specs.Prelude.{◌≡◌, ◌<◌, Bool, true, false, ◌||◌, ◌⊎◌, Option, Some, None, List, [], ◌∷◌, length}
 use Rattle.ic_link_ops.specs.Prelude.{Place, Table}
 use Rattle.ic_link_ops.specs.declared.color.Color.{Color}
@@ -27,7 +27,7 @@ abbrev pub IsOn : Side → List Frame → Type 0
 IsOn d [] = Unit {0}
 IsOn d (frame k c p b ∷ fs) = d ≡ k
 
--- there is an end, and this holds of it
+-- there is a place, and this holds for it
 abbrev pub Has : Option Place → (Place → Type 0) → Type 0
 Has None P = ⊥
 Has (Some p) P = P p
@@ -38,7 +38,8 @@ module _ {E : Type 0} (n : E → Node) where
   red_at v None = false
   red_at v (Some p) = is_red (n (v.entry p)).color
 
-  -- THE LOOP'S INVARIANT: the subtree, on side d of `parent`, is one black short, and else all is right. Without a parent it is the tree
+  -- THE LOOP'S INVARIANT: the subtree on side d of `parent` has one black member too few on each path, and all else is right. If there
+  -- is no parent, the subtree is the whole tree
   pub record Short (v : Table E) (root parent : Option Place) (d : Side) (k : Focus E) : Type 0 where
     pub stands : IsInFocus n v root k
     pub parent_is : parent ≡ above k.frames
@@ -55,13 +56,13 @@ module _ {E : Type 0} (n : E → Node) where
     pub short : IsShort (frame d c q sibling ∷ k.frames) k.subtree
     pub order : in_order (plug (frame d c q sibling ∷ k.frames) k.subtree) ≡ k.sequence
 
-  -- and y is its other child, and black
+  -- y is the other child of q, and black
   pub record Beside (v : Table E) (root : Option Place) (q : Place) (d : Side) (y : Place) (c : Color) (sibling : Tree) (k : Focus E) : Type 0 where
     pub at : ShortAt v root q d c sibling k
     pub top_is : top sibling ≡ Some y
     pub black : top_color sibling ≡ Black
 
-  -- the other child is y and black now: where the old one was red, it stands above, and q is red
+  -- the other child is y and black now. If the old one was red, it is above q, and q is red
   pub record HasBlackSibling (v : Table E) (root : Option Place) (q : Place) (d : Side) (y : Place) (k : Focus E) : Type 0 where
     pub color : Color
     pub sibling : Tree
@@ -69,7 +70,7 @@ module _ {E : Type 0} (n : E → Node) where
     pub beside : Beside v root q d y color sibling (record k { frames = frames })
     pub red_or_same : (color ≡ Red) ⊎ (frames ≡ k.frames)
 
-  -- CASE 1, a red sibling: it comes up, and there is a black one then
+  -- CASE 1, a red sibling: it is rotated up, and the sibling is black then
   abbrev pub BlackensSibling : Table E → Table E → Option Place → Option Place → Place → Side → Option Place → Type 0
   BlackensSibling v w root new_root q d result =
       (c : Color) (sibling : Tree) (k : Focus E) → ShortAt v root q d c sibling k → Has result (λ y. HasBlackSibling w new_root q d y k)
@@ -78,7 +79,7 @@ module _ {E : Type 0} (n : E → Node) where
   abbrev pub red_below : Table E → Place → Bool
   red_below v y = red_at v (n (v.entry y)).left || red_at v (n (v.entry y)).right
 
-  -- y and its children can be read
+  -- y and its children are linked
   pub record AreRead (v : Table E) (y : Place) : Type 0 where
     pub here : (n (v.entry y)).linked ≡ true
     pub left : (q : Place) → (n (v.entry y)).left ≡ Some q → (n (v.entry q)).linked ≡ true
@@ -92,25 +93,26 @@ module _ {E : Type 0} (n : E → Node) where
     pub right : Tree
     pub at : ShortAt v root q d c (branch d Black near upper (fork Red left far right)) k
 
-  -- CASE 3, a red near nephew and a black far one: the near one comes up above the sibling
+  -- CASE 3, a red near nephew and a black far one: the near one is rotated above the sibling
   abbrev pub RotatesNearNephew : Table E → Table E → Option Place → Option Place → Side → Place → Option Place → Type 0
   RotatesNearNephew v w root new_root d y result =
       (q : Place) (c : Color) (sibling : Tree) (k : Focus E) → Beside v root q d y c sibling k → red_child sibling ≡ true
       → Has result (λ upper. HasRedFarNephew w new_root q d upper c k)
 
-  -- CASE 4, a red far nephew, after case 3 where it is needed: the sibling comes up above q
+  -- CASE 4, a red far nephew, if need be after case 3: the sibling is rotated above q
   abbrev pub RotatesFarNephew : Table E → Table E → Option Place → Option Place → Place → Side → Place → Type 0
   RotatesFarNephew v w root new_root q d y =
       (c : Color) (sibling : Tree) (k : Focus E) → Beside v root q d y c sibling k → red_child sibling ≡ true → IsRestored n w new_root k
 
-  -- the subtree has the root q and is one black short
+  -- the subtree has the root q, and one black member too few on each path
   pub record Rises (w : Table E) (root : Option Place) (q : Place) (k : Focus E) : Type 0 where
     pub stands : IsInFocus n w root k
     pub top_is : top k.subtree ≡ Some q
     pub short : IsShort k.frames k.subtree
     pub order : in_order (plug k.frames k.subtree) ≡ k.sequence
 
-  -- CASE 2, black nephews: y turns red. A red q turns black, and all is right; else the shortage rises
+  -- CASE 2, black nephews: y turns red. If q is red, it turns black, and all is right; otherwise the subtree at q is
+  -- one black short
   abbrev pub ReddensSibling : Table E → Table E → Place → Place → Bool → Type 0
   ReddensSibling v w q y done =
       (root : Option Place) (d : Side) (c : Color) (sibling : Tree) (k : Focus E) → Beside v root q d y c sibling k → red_child sibling ≡ false

@@ -1,4 +1,4 @@
--- Objects at the members of a sequence, in the order of a number that each has as its key.
+-- Objects at the members of a sequence, in the order of their keys, which are numbers.
 use Rattle.std.specs.Prelude.{ℕ, Option, None, Some, List, map}
 use Rattle.std.specs.Ordering.{nat_cmp}
 use Rattle.std.specs.declared.cmp.Ordering.{Ordering}
@@ -7,7 +7,7 @@ use Rattle.ic_rbtree.specs.Borders.{IsSorted}
 use Rattle.ic_rbtree.specs.Comparing.{compared, own_order}
 
 module _ {T : Type 0} (key : T → ℕ) where
-  -- the key of an object, 0 of none
+  -- the key of an object, 0 if there is none
   abbrev pub key_or : Option T → ℕ
   key_or None = 0
   key_or (Some object) = key object
@@ -19,15 +19,15 @@ module _ {T : Type 0} (key : T → ℕ) where
   abbrev pub keys_at : Objects T → List Place → List ℕ
   keys_at objects s = map (key_at objects) s
 
-  -- how the key of one object stands to that of the object at each place: `Less` where it is less
+  -- how the key of one object compares with that of the object at each place: `Less` if it is less
   abbrev pub against : Objects T → Place → Place → Ordering
   against objects p = compared (own_order nat_cmp key objects p) objects
 
-  -- a sequence is represented, an object stands at each of its members, and from one to the next their keys never fall
+  -- a sequence is represented, each of its members has an object, and no key is less than the one before it
   pub record RepresentsSorted (shows : List Place → Type 0) (objects : Objects T) : Type 0 where
     pub placed : RepresentsPlaced shows objects
     pub sorted : IsSorted nat_cmp (keys_at objects placed.members)
 
-  -- whatever objects there are: where they stood in the order of their keys, they do
+  -- whatever objects there are: if they were in the order of their keys, they still are
   abbrev pub StaysSorted : (List Place → Type 0) → (List Place → Type 0) → Type 0
   StaysSorted old new = (objects : Objects T) → RepresentsSorted old objects → RepresentsSorted new objects

@@ -1,4 +1,4 @@
--- A tree and its objects together: the values that stand at its members, in the order of their keys.
+-- A tree and its objects together: the values at its members, in the order of their keys.
 use Rattle.std.specs.Prelude.{◌≡◌, Bool, true, List, ◌∷◌, ◌++◌, map}
 use Rattle.std.specs.List.{AllByRecursion}
 use Rattle.std.specs.Ordering.{is_lt}
@@ -7,7 +7,8 @@ use Rattle.ic_link_ops.specs.Prelude.{Place, Objects, IsAbsent, Table, IsUnlinke
 use Rattle.ic_rbtree.specs.Borders.{IsSorted}
 
 module _ {V K : Type 0} (cmp : K → K → Ordering) (key_of : V → K) where
-  -- THE TABLE HAS ONE TREE, with these values: they stand at its members, their keys never fall, and nothing else is linked
+  -- THE TABLE HAS ONE TREE, with these values: they are the objects at its members, no key is less than the one before it,
+  -- and nothing else is linked
   pub record HasSorted {E H : Type 0} (Represents : Table E → H → List Place → Type 0) (linked : E → Bool) (t : Table E) (root : H) (objects : Objects V) (values : List V) : Type 0 where
     pub members : List Place
     pub shown : Represents t root members

@@ -1,4 +1,4 @@
--- Where a step leads, on any links.
+-- The place to which a step leads, over any links.
 use Rattle.std.specs.Prelude.{◌≡◌, ◌⊎◌, List, [], ◌∷◌, Option, Some, None}
 use Rattle.ic_link_ops.specs.Prelude.{Place, Table}
 use Rattle.ic_link_ops.specs.Frames.{across, child_on}
@@ -6,26 +6,27 @@ use Rattle.ic_link_ops.specs.RedBlackTree.{Node, node_at}
 use Rattle.ic_link_ops.specs.declared.side.Side.{Side}
 
 module _ {E : Type 0} (n : E → Node) (v : Table E) (side : Side) where
-  -- from a place down through these, each the child of the one before it on this side, to y
+  -- the path from a place down to y through these places, each the child of the one before it on this side
   abbrev pub GoesDown : Place → List Place → Place → Type 0
   GoesDown p [] y = p ≡ y
   GoesDown p (x ∷ w) y = (child_on side (node_at n v p) ≡ Some x) × GoesDown x w y
 
-  -- y is below a place, or is that place, on the way along children on this side
+  -- y is a place, or below it on the path along children on this side
   abbrev pub IsBelow : Place → Place → Type 0
   IsBelow p y = (w : List Place) × GoesDown p w y
 
-  -- from a place up through these, each the parent of the one before it, which is its child on this side, to the last one's parent
+  -- the path from a place up through these places to the parent of the last; each is the parent of the one before it, which is its
+  -- child on this side
   abbrev pub GoesUp : Place → List Place → Option Place → Type 0
   GoesUp p [] end = (node_at n v p).parent ≡ end
   GoesUp p (x ∷ w) end = ((node_at n v p).parent ≡ Some x) × (child_on side (node_at n v x) ≡ Some p) × GoesUp x w end
 
-  -- the way up comes to this end
+  -- the path up leads to this end
   abbrev pub ComesUpTo : Place → Option Place → Type 0
   ComesUpTo p end = (w : List Place) × GoesUp p w end
 
--- A STEP to a side COMES TO y: from a place with a child there, which is above y or is y, on the way along children on the other side; from one
--- without, on the way up. From none it begins at the root
+-- A STEP to a side LEADS TO y. If the place has a child there, y is that child or below it, on the path along children on the other side. If
+-- not, y is on the path up. A step from none begins at the root
 module _ {E : Type 0} (n : E → Node) (v : Table E) (root : Option Place) (side : Side) where
   abbrev pub StepsTo : Option Place → Place → Type 0
   StepsTo None y = (q : Place) × (root ≡ Some q) × IsBelow n v (across side) q y
@@ -33,7 +34,8 @@ module _ {E : Type 0} (n : E → Node) (v : Table E) (root : Option Place) (side
       ((q : Place) × (child_on side (node_at n v p) ≡ Some q) × IsBelow n v (across side) q y)
       ⊎ ((child_on side (node_at n v p) ≡ None) × ComesUpTo n v side p (Some y))
 
-  -- A STEP ENDS on this side of a place, which has no child there, and from which the way up comes to none. From none, there is no root
+  -- A STEP ENDS on this side of a place: the place has no child there, and the path up leads to none. A step from none ends if there is
+  -- no root
   abbrev pub StepEnds : Option Place → Type 0
   StepEnds None = root ≡ None
   StepEnds (Some p) = (child_on side (node_at n v p) ≡ None) × ComesUpTo n v side p None

@@ -1,5 +1,5 @@
--- What it is to take a member out, and to put a place in place of a member.
-use Rattle.std.specs.Prelude.{◌≡◌, ◌+◌, ◌<◌, ◌⊎◌, Option, Some, None, List, ◌∷◌, ◌++◌, length}
+-- The removal of a member, and the replacement of a member by a place.
+use Rattle.std.specs.Prelude.{◌≡◌, ◌+◌, ◌<◌, ◌⊎◌, Bool, true, false, Option, Some, None, List, ◌∷◌, ◌++◌, length}
 use Rattle.ic_link_ops.specs.Prelude.{Place, Table}
 use Rattle.ic_link_ops.specs.declared.color.Color.{Color}
 use Rattle.ic_link_ops.specs.declared.color.Color.TheVariants.{Red, Black}
@@ -12,15 +12,15 @@ use Rattle.ic_rbtree.specs.Height.{turns}
 use Rattle.ic_rbtree.specs.Pieces.{Piece, below, around, loose, Held, ClimbState, Represented}
 use Rattle.ic_rbtree.specs.Focus.{Focus, IsRestored}
 use Rattle.ic_rbtree.specs.Shortage.{EvenAround, PairsAround}
-use Rattle.ic_rbtree.specs.Removal.{IsOn}
+use Rattle.ic_rbtree.specs.Removal.{IsOn, Short}
 use Rattle.ic_rbtree.specs.Steps.{IsSideOf}
 
--- the first of two that is there
+-- the first of two, or the second if there is no first
 abbrev pub or_else : Option Place → Option Place → Option Place
 or_else None b = b
 or_else (Some x) b = Some x
 
--- what stands below a member, and its color
+-- the subtrees below a member, and its color
 pub record Parts : Type 0 where
   pub color : Color
   pub left : Tree
@@ -29,7 +29,7 @@ pub record Parts : Type 0 where
 abbrev pub member : Place → Parts → Tree
 member p x = fork x.color x.left p x.right
 
--- the subtree of a member that has one at most
+-- the only subtree of a member that has at most one
 abbrev pub only : Tree → Tree → Tree
 only leaf b = b
 only (fork c a p b) r = fork c a p b
@@ -37,7 +37,7 @@ only (fork c a p b) r = fork c a p b
 abbrev pub IsLone : Tree → Tree → Type 0
 IsLone a b = (a ≡ leaf) ⊎ (b ≡ leaf)
 
--- all is right, but that a member with this color is missing between the frames and its only subtree x
+-- all is right, except that a member with this color is missing between the frames and its only subtree x
 pub record IsGap (c : Color) (fs : List Frame) (x : Tree) : Type 0 where
   pub pairs : NoRedPair x
   pub even : IsEven x
@@ -50,7 +50,7 @@ module _ {E : Type 0} (n : E → Node) where
   abbrev pub IsSideBelow : Table E → Place → Option Place → Side → Type 0
   IsSideBelow v p parent d = (q : Place) → parent ≡ Some q → IsSideOf n v p q d
 
-  -- such a gap: `child`, the root of the subtree, hangs in the member's place on side d of `parent`, but names another parent yet
+  -- such a tree: `child`, the root of the subtree, has the member's position on side d of `parent`, but its parent is not set yet
   pub record Gap (v : Table E) (root : Option Place) (c : Color) (child parent : Option Place) (d : Side) (k : Focus E) : Type 0 where
     pub named : Option Place
     pub stands : Held n k.base v (around root k.frames (top k.subtree) ∷ below named k.subtree ∷ k.pieces)
@@ -60,29 +60,47 @@ module _ {E : Type 0} (n : E → Node) where
     pub gap : IsGap c k.frames k.subtree
     pub order : in_order (plug k.frames k.subtree) ≡ k.sequence
 
-  abbrev pub Closes : Table E → Table E → Option Place → Option Place → Color → Option Place → Option Place → Side → Type 0
-  Closes v w root new_root c child parent d = (k : Focus E) → Gap v root c child parent d k → length k.frames < turns → IsRestored n w new_root k
+  -- the tree is right, or it is one black short on side d of `parent` and else right
+  abbrev pub IsRightOrShort : Table E → Option Place → Bool → Option Place → Side → Focus E → Type 0
+  IsRightOrShort v root short parent d k = (short ≡ false → IsRestored n v root k) × (short ≡ true → Short n v root parent d k)
 
-  -- a member with one child at most is spliced out: the tree is right without it, and it is on its own
-  abbrev pub SplicesOut : Table E → Table E → Option Place → Option Place → Place → Type 0
-  SplicesOut v w root new_root p =
+  -- the child gets the gap's parent
+  abbrev pub FillsGap : Table E → Table E → Color → Option Place → Option Place → Bool → Type 0
+  FillsGap v w c child parent short = (root : Option Place) (d : Side) (k : Focus E) → Gap v root c child parent d k → IsRightOrShort w root short parent d k
+
+  -- a member with at most one child is spliced out: the tree is right without it or one black short, and the member is a piece of its own
+  abbrev pub SplicesOut : Table E → Table E → Option Place → Option Place → Place → Bool → Option Place → Side → Type 0
+  SplicesOut v w root new_root p short parent d =
       (base : Table E) (fs : List Frame) (x : Parts) (ps : List Piece) → ClimbState n base v root fs (member p x) ps → IsLone x.left x.right → IsRight (plug fs (member p x))
-      → Represented n base w new_root (before fs ++ (in_order (only x.left x.right) ++ after fs)) (loose p ∷ ps)
+      → IsRightOrShort w new_root short parent d (record {
+        base = base;
+        sequence = before fs ++ (in_order (only x.left x.right) ++ after fs);
+        frames = fs;
+        subtree = only x.left x.right;
+        pieces = loose p ∷ ps;
+      })
 
-  -- IN PLACE OF a member stands `new`, in its color, and the member is on its own
+  -- INSTEAD OF a member the tree has `new`, with its color, and the member is a piece of its own
   abbrev pub TakesPlace : Table E → Table E → Option Place → Option Place → Place → Place → Type 0
   TakesPlace v w root new_root p new =
       (base : Table E) (fs : List Frame) (x : Parts) (ps : List Piece)
       → ClimbState n base v root fs (member p x) (loose new ∷ ps) → ClimbState n base w new_root fs (member new x) (loose p ∷ ps)
 
--- the second of two, if both are there
+-- the second of two, if there are both
 abbrev pub both_of : Option Place → Option Place → Option Place
 both_of None b = None
 both_of (Some x) b = b
 
 module _ {E : Type 0} (n : E → Node) where
-  -- a member is taken out of the sequence, and is on its own
+  -- a member is removed from the sequence, and is a piece of its own
   abbrev pub TakesAway : Table E → Table E → Option Place → Option Place → Place → Type 0
   TakesAway v w root new_root p =
       (base : Table E) (front : List Place) (back : List Place) (ps : List Piece)
       → Represented n base v root (front ++ p ∷ back) ps → Represented n base w new_root (front ++ back) (loose p ∷ ps)
+
+  -- the same before the repair, for which a climb has turns enough
+  abbrev pub TakesOut : Table E → Table E → Option Place → Option Place → Place → Bool → Option Place → Side → Type 0
+  TakesOut v w root new_root p short parent d =
+      (base : Table E) (front : List Place) (back : List Place) (ps : List Piece) → Represented n base v root (front ++ p ∷ back) ps
+      → (fs : List Frame) × (t : Tree) × (length fs < turns)
+      × IsRightOrShort n w new_root short parent d (record { base = base; sequence = front ++ back; frames = fs; subtree = t; pieces = loose p ∷ ps })

@@ -1,15 +1,15 @@
--- What clauses see of a tree.
+-- A tree, as contracts see it.
 use Rattle.std.specs.Prelude.{Option}
 use Rattle.ic_unsafe_ref.specs.declared.place.Place.{Place}
 use Rattle.ic_rbtree.specs.declared.tree.RBTree.{RBTree}
 use Rattle.ic_rbtree.specs.Kept.{Kept, RootAndEnds, root_kept}
 
 module _ {A H : Type 0} where
-  -- what it keeps of its members
+  -- what the tree stores of its members
   abbrev pub head_of : RBTree A H → H
   head_of t = t.head
 
-  -- its root, none where it has no member. `kept`: what a tree of this kind keeps
+  -- its root, none if it has no member. `kept`: what a tree of this kind stores
   abbrev pub root_in : (H → Kept) → RBTree A H → Option Place
   root_in kept t = root_kept (kept (head_of t))
 
@@ -18,10 +18,10 @@ module _ {A H : Type 0} where
   adapter_of t = t.adapter
 
 module _ {A : Type 0} where
-  -- the root of a tree that keeps nothing else
+  -- the root of a tree that stores nothing else
   abbrev pub root_of : RBTree A (Option Place) → Option Place
   root_of t = head_of t
 
-  -- the root and the ends of one that keeps its ends
+  -- the root and the ends of a tree that stores its ends
   abbrev pub ends_of : RBTree A RootAndEnds → RootAndEnds
   ends_of t = head_of t

@@ -1,4 +1,4 @@
--- A vine, a tree without left children: linked places, of which each is the right child of the one before. What else they read doesn't count.
+-- A vine is a tree without left children: linked places, each the right child of the one before. The rest of their entries doesn't matter.
 use Rattle.std.specs.Prelude.{◌≡◌, ℕ, ◌+◌, ◌^◌, ◌≤◌, length, Option, None, List}
 use Rattle.ic_link_ops.specs.Prelude.{Place, IsDistinct, first_or, Table, ChangesOnlyIn}
 use Rattle.ic_link_ops.specs.declared.color.Color.TheVariants.{Black}
@@ -10,16 +10,16 @@ use Rattle.ic_link_ops.specs.Trees.{Tree, top, in_order}
 use Rattle.ic_rbtree.specs.Height.{IsLowest}
 
 module _ {E : Type 0} (n : E → Node) where
-  -- what a vine reads of an entry: whether its place is linked, and its right child
+  -- the parts of an entry that a vine uses: whether its place is linked, and its right child
   abbrev pub along : E → Successor
   along e = record { linked = (n e).linked; next = (n e).right }
 
-  -- s stands on a vine, and the right child of its last member is `behind`
+  -- s is a vine, and the right child of its last member is `after`
   abbrev pub IsVine : (Place → E) → List Place → Option Place → Type 0
-  IsVine entry s behind = IsChain (IsFollowed along) entry None s behind
+  IsVine entry s after = IsChain (IsFollowed along) entry None s after
 
-  -- THE TABLE SHOWS s for the vine with these ends: s is a vine of distinct places, its last member has no right child, and the ends are the first
-  -- and the last of s
+  -- THE TABLE REPRESENTS s for the vine with these ends: s is a vine of distinct places, its last member has no right child, and the ends are the
+  -- first and the last of s
   abbrev pub RepresentsVine : Table E → Ends → List Place → Type 0
   RepresentsVine = RepresentsBetween (IsFollowed along)
 
@@ -27,21 +27,22 @@ module _ {E : Type 0} (n : E → Node) where
   abbrev pub RepresentsVineSome : Table E → Ends → Type 0
   RepresentsVineSome v ends = (s : List Place) × RepresentsVine v ends s
 
-  -- A VINE OF SO MANY MEMBERS, from `first` on to the one before `behind`: as many as a tree may have with this black height
-  pub record IsVineOf (v : Table E) (first : Option Place) (count height : ℕ) (s : List Place) (behind : Option Place) : Type 0 where
-    pub vine : IsVine v.entry s behind
+  -- A VINE OF THIS MANY MEMBERS, from `first` to the one before `after`: a tree with this black height may have as many
+  pub record IsVineOf (v : Table E) (first : Option Place) (count height : ℕ) (s : List Place) (after : Option Place) : Type 0 where
+    pub vine : IsVine v.entry s after
     pub distinct : IsDistinct s
-    pub starts : first ≡ first_or s behind
+    pub starts : first ≡ first_or s after
     pub counted : count ≡ length s
     pub enough : 2 ^ height ≤ count + 1
     pub few : count + 1 ≤ 2 ^ (height + 1)
 
-  -- IT BECOMES A TREE of this black height, whose root is black unless that is 0, and no entry but those of its members is changed
-  pub record BecomesTree (v w : Table E) (root next : Option Place) (height : ℕ) (s : List Place) (behind : Option Place) : Type 0 where
+  -- THE VINE BECOMES A TREE of this black height, whose root is black unless the height is 0, and no entries are changed except
+  -- those of its members
+  pub record BecomesTree (v w : Table E) (root next : Option Place) (height : ℕ) (s : List Place) (after : Option Place) : Type 0 where
     pub tree : Tree
     pub entries : IsTree n w.entry None tree
     pub root_is : root ≡ top tree
-    pub next_is : next ≡ behind
+    pub next_is : next ≡ after
     pub order : in_order tree ≡ s
     pub blacks_are : blacks tree ≡ height
     pub even : IsEven tree
@@ -56,15 +57,15 @@ module _ {E : Type 0} (n : E → Node) where
     pub distinct : IsDistinct (in_order t)
     pub root_is : root ≡ top t
 
-  -- ITS MEMBERS BECOME A VINE before `behind`, and no entry but theirs is changed
-  pub record BecomesVine (v w : Table E) (first : Option Place) (s : List Place) (behind : Option Place) : Type 0 where
-    pub vine : IsVine w.entry s behind
-    pub first_is : first ≡ first_or s behind
+  -- ITS MEMBERS BECOME A VINE before `after`, and no entries are changed except theirs
+  pub record BecomesVine (v w : Table E) (first : Option Place) (s : List Place) (after : Option Place) : Type 0 where
+    pub vine : IsVine w.entry s after
+    pub first_is : first ≡ first_or s after
     pub frame : ChangesOnlyIn v w s
 
 -- `Represents t head s`: the table represents s for the collection with this head
 module _ {E H : Type 0} (Represents : Table E → H → List Place → Type 0) where
-  -- THE MEMBERS ARE ARRANGED ANEW, for this head: they are s as before, and no entry but theirs is changed
+  -- THE MEMBERS ARE REARRANGED for this head: they are s as before, and no entries are changed except theirs
   pub record Rearranges (v w : Table E) (head : H) (s : List Place) : Type 0 where
     pub shows : Represents w head s
     pub frame : ChangesOnlyIn v w s

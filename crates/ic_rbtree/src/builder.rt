@@ -1,4 +1,5 @@
-//! A tree from objects that come in order, in O(n): the builder chains them, and makes the tree of them in the end.
+//! Builds a tree in O(n) from objects that are pushed in order. The builder first chains the objects, and then makes
+//! the tree of the chain.
 //!
 //! ```text
 //! let mut builder = RBTreeBuilder::new(ByDeadline);
@@ -27,11 +28,11 @@ use ic_link_ops::rbtree::RBTreeOps;
 use ic_link_ops::{AlreadyLinked, LinkOps, PlaceWord, Side};
 use ic_unsafe_ref::{Place, UnsafeRef};
 
-/// Linked objects in the order in which they came, to become a tree in one go.
+/// Linked objects in the order in which they were pushed. `build` makes a tree of them.
 ///
-/// It chains its members by the words of their links, each as the right child of the one before, a vine, and keeps the first and the
-/// last. It looks at no key: to build a tree for keyed calls, push the objects in the order of their keys. A builder that is dropped
-/// leaves its members linked.
+/// Its members form a vine: each is stored as the right child of the one before. The builder stores the first and the last. It
+/// compares no keys: to build a tree for keyed calls, push the objects in the order of their keys. A builder that is dropped leaves
+/// its members linked.
 pub struct RBTreeBuilder<A> {
     front: PlaceWord,
     back: PlaceWord,
@@ -49,7 +50,7 @@ impl<A: Drop> Drop for RBTreeBuilder<A> {
 }
 
 impl<A> RBTreeBuilder<A> {
-    /// A builder of a tree with this adapter. It has no members.
+    /// A builder without members, for a tree with this adapter. O(1).
     pub fn new(adapter: A) -> RBTreeBuilder<A>
         ensures empty { ends_of result ≡ no_members }
         ensures adapter { builder_adapter_of result ≡ adapter }
@@ -71,7 +72,7 @@ impl<A> RBTreeBuilder<A> {
         }
     }
 
-    /// The first member, `None` where there is none. It reads no links. O(1).
+    /// The first member, `None` if there is none. It reads no links. O(1).
     #[inline]
     pub fn first(&self) -> Option<Place>
         ensures { result ≡ (ends_of self.now).head }
@@ -79,7 +80,7 @@ impl<A> RBTreeBuilder<A> {
         self.front.get()
     }
 
-    /// The last member, `None` where there is none. It reads no links. O(1).
+    /// The last member, `None` if there is none. It reads no links. O(1).
     #[inline]
     pub fn last(&self) -> Option<Place>
         ensures { result ≡ (ends_of self.now).tail }
@@ -87,7 +88,8 @@ impl<A> RBTreeBuilder<A> {
         self.back.get()
     }
 
-    /// The tree of all members in their order, with the builder's adapter. It is as low as a tree of so many members can be.
+    /// Makes a tree of all members in their order, with the builder's adapter. No tree with this number of members is
+    /// lower.
     ///
     /// It requires that the table represents the members, as it does after [`new`](Self::new) and each [`push_back`](Self::push_back). No
     /// link is acquired or released, and a collection that shares no member with the builder stays as it was. It reads no key and takes no
@@ -113,10 +115,10 @@ impl<A> RBTreeBuilder<A> {
 }
 
 impl<A: KeyAdapter> RBTreeBuilder<A> {
-    /// Puts the object after all members, unless its link is refused.
+    /// Inserts the object after all members, unless its link is refused.
     ///
-    /// It requires that the object's place is covered. A refused object comes back, and the builder and all links are as they were.
-    /// O(1).
+    /// It requires that the object's place is covered. If the link is refused, the object is returned, and the builder and all
+    /// links are as they were. O(1).
     pub fn push_back<L: RBTreeOps>(
         &mut self,
         links: &mut L,
@@ -140,9 +142,9 @@ impl<A: KeyAdapter> RBTreeBuilder<A> {
         Ok(())
     }
 
-    /// Takes the object at the front off the vine and returns it, or `None` if the builder has no members.
+    /// Removes the first member and returns it, or `None` if the builder has no members.
     ///
-    /// It requires that the table represents the members, of which the others stay in their order. It looks at no key. O(1).
+    /// It requires that the table represents the members. The other members stay in their order. It compares no keys. O(1).
     pub fn pop_front<L: RBTreeOps>(&mut self, links: &mut L) -> Option<UnsafeRef<A::Value>>
         requires shown { RepresentsVineSome L.node (L.table links.old) (ends_of self.old) }
         ensures answer { (s : List Place) → RepresentsVine L.node (L.table links.old) (ends_of self.old) s → result ≡ first s }
@@ -163,8 +165,8 @@ impl<A: KeyAdapter> RBTreeBuilder<A> {
 }
 
 impl<A: Copy, E: TreeHead> RBTree<A, E> {
-    /// A builder that has all members of this tree in their order, and its adapter: to put more after them, or to build the tree anew,
-    /// as low as can be.
+    /// Makes a builder of the tree, with all its members in their order and its adapter. Use it to append members, or to rebuild the
+    /// tree with the least height.
     ///
     /// It requires that the table represents the members. No link is acquired or released, and a collection that shares no member with the tree
     /// stays as it was. It reads no key and takes no memory. O(n).

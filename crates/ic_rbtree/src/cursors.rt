@@ -1,4 +1,4 @@
-//! The cursors of a tree: one that reads, one that edits, and one that edits and keeps the tree.
+//! The cursors of a tree: one that reads, one that edits, and one that edits and owns the tree.
 //!
 //! ```text
 //! let mut cursor = tree.front(&links); // on the first member
@@ -24,15 +24,15 @@ use ic_link_ops::rbtree::RBTreeOps;
 use ic_link_ops::{LinkOps, PlaceWord};
 use ic_unsafe_ref::UnsafeRef;
 
-/// A position in a tree: on a member, or null, which stands between the last and the first.
+/// A cursor that reads: on a member, or at null, which is between the last member and the first.
 ///
-/// A move is O(log n).
+/// Each move takes O(log n).
 pub type Cursor<'a, A, L, E = Root> = ic_cursors::Cursor<'a, RBTree<A, E>, L>;
 
 impl<A: KeyAdapter, E: TreeHead> RBTree<A, E> {
     ghost use Rattle.ic_rbtree.specs.Cursor.{tree_of, links_of, position, site_of};
 
-    /// A cursor at null.
+    /// A cursor at null. O(1).
     #[inline]
     pub fn cursor<'a, L: RBTreeOps>(&'a self, links: &'a L) -> Cursor<'a, A, L, E>
         ensures tree { tree_of result ≡ self.now }
@@ -42,7 +42,7 @@ impl<A: KeyAdapter, E: TreeHead> RBTree<A, E> {
         Cursor::new(self, links, PlaceWord::of(None))
     }
 
-    /// A cursor on the object, which has to be a member.
+    /// A cursor on the object, which has to be a member. O(1).
     #[inline]
     pub fn cursor_from_ptr<'a, L: RBTreeOps>(
         &'a self,
@@ -58,9 +58,9 @@ impl<A: KeyAdapter, E: TreeHead> RBTree<A, E> {
         Cursor::new(self, links, PlaceWord::of(Some(object.place())))
     }
 
-    /// A cursor on the first member, null in an empty tree. O(log n), and O(1) where it is kept.
+    /// A cursor on the first member, null in an empty tree. O(log n), or O(1) if the tree stores it.
     ///
-    /// It requires that the tree is represented, unless it keeps its ends.
+    /// It requires that the table represents the tree, unless the tree stores its ends.
     #[inline]
     pub fn front<'a, L: RBTreeOps>(&'a self, links: &'a L) -> Cursor<'a, A, L, E>
         requires shown { HasEnds L.node (L.table links.now) (E.kept (head_of self.now)) }
@@ -71,9 +71,9 @@ impl<A: KeyAdapter, E: TreeHead> RBTree<A, E> {
         Cursor::new(self, links, PlaceWord::of(self.first(links)))
     }
 
-    /// A cursor on the last member, null in an empty tree. O(log n), and O(1) where it is kept.
+    /// A cursor on the last member, null in an empty tree. O(log n), or O(1) if the tree stores it.
     ///
-    /// It requires that the tree is represented, unless it keeps its ends.
+    /// It requires that the table represents the tree, unless the tree stores its ends.
     #[inline]
     pub fn back<'a, L: RBTreeOps>(&'a self, links: &'a L) -> Cursor<'a, A, L, E>
         requires shown { HasEnds L.node (L.table links.now) (E.kept (head_of self.now)) }
@@ -85,15 +85,16 @@ impl<A: KeyAdapter, E: TreeHead> RBTree<A, E> {
     }
 }
 
-/// A position in a tree that it edits, with the tree and the table of its links.
+/// A cursor that edits. It borrows the tree and the table of its links.
 ///
-/// A move, an insert and a removal are O(log n), a replacement is O(1). None looks at a key but `insert`: the order is the caller's.
+/// A move, an insert and a removal take O(log n), a replacement O(1). Only `insert` compares keys. With all other edits the caller
+/// chooses the order.
 pub type CursorMut<'a, A, L, E = Root> = ic_cursors::CursorMut<'a, RBTree<A, E>, L>;
 
 impl<A: KeyAdapter, E: TreeHead> RBTree<A, E> {
     ghost use Rattle.ic_rbtree.specs.CursorMut.{tree_of, links_of, position, site_of, IsBorrowed};
 
-    /// A cursor at null that edits.
+    /// A cursor at null that edits. O(1).
     #[inline]
     pub fn cursor_mut<'a, L: RBTreeOps>(&'a mut self, links: &'a mut L) -> CursorMut<'a, A, L, E>
         ensures borrows { IsBorrowed self.entry links.entry result }
@@ -102,7 +103,7 @@ impl<A: KeyAdapter, E: TreeHead> RBTree<A, E> {
         CursorMut::new(self, links, PlaceWord::of(None))
     }
 
-    /// A cursor that edits, on the object, which has to be a member.
+    /// A cursor that edits, on the object, which has to be a member. O(1).
     #[inline]
     pub fn cursor_mut_from_ptr<'a, L: RBTreeOps>(
         &'a mut self,
@@ -118,9 +119,9 @@ impl<A: KeyAdapter, E: TreeHead> RBTree<A, E> {
         CursorMut::new(self, links, current)
     }
 
-    /// A cursor that edits, on the first member, null in an empty tree. O(log n), and O(1) where it is kept.
+    /// A cursor that edits, on the first member, null in an empty tree. O(log n), or O(1) if the tree stores it.
     ///
-    /// It requires that the tree is represented, unless it keeps its ends.
+    /// It requires that the table represents the tree, unless the tree stores its ends.
     #[inline]
     pub fn front_mut<'a, L: RBTreeOps>(&'a mut self, links: &'a mut L) -> CursorMut<'a, A, L, E>
         requires shown { HasEnds L.node (L.table links.old) (E.kept (head_of self.old)) }
@@ -131,9 +132,9 @@ impl<A: KeyAdapter, E: TreeHead> RBTree<A, E> {
         CursorMut::new(self, links, current)
     }
 
-    /// A cursor that edits, on the last member, null in an empty tree. O(log n), and O(1) where it is kept.
+    /// A cursor that edits, on the last member, null in an empty tree. O(log n), or O(1) if the tree stores it.
     ///
-    /// It requires that the tree is represented, unless it keeps its ends.
+    /// It requires that the table represents the tree, unless the tree stores its ends.
     #[inline]
     pub fn back_mut<'a, L: RBTreeOps>(&'a mut self, links: &'a mut L) -> CursorMut<'a, A, L, E>
         requires shown { HasEnds L.node (L.table links.old) (E.kept (head_of self.old)) }
@@ -145,14 +146,14 @@ impl<A: KeyAdapter, E: TreeHead> RBTree<A, E> {
     }
 }
 
-/// A position in a tree that it keeps. Its calls take the table of the tree's links each time, and cost what those of
-/// [`CursorMut`](crate::CursorMut) do.
+/// A cursor that owns its tree. Each call takes the table of the tree's links, and costs as much as the same call of
+/// [`CursorMut`](crate::CursorMut).
 pub type CursorOwning<A, E = Root> = ic_cursors::CursorOwning<RBTree<A, E>>;
 
 impl<A: KeyAdapter, E: TreeHead> RBTree<A, E> {
     ghost use Rattle.ic_rbtree.specs.CursorOwning.{tree_of, position, site_of};
 
-    /// A cursor at null that keeps the tree.
+    /// A cursor at null that owns the tree. O(1).
     #[inline]
     pub fn cursor_owning(self) -> CursorOwning<A, E>
         ensures tree { tree_of result ≡ self }
@@ -161,7 +162,7 @@ impl<A: KeyAdapter, E: TreeHead> RBTree<A, E> {
         CursorOwning::new(self, PlaceWord::of(None))
     }
 
-    /// A cursor that keeps the tree, on the object, which has to be a member.
+    /// A cursor that owns the tree, on the object, which has to be a member. O(1).
     #[inline]
     pub fn cursor_owning_from_ptr<L: RBTreeOps>(
         self,
@@ -177,9 +178,10 @@ impl<A: KeyAdapter, E: TreeHead> RBTree<A, E> {
         CursorOwning::new(self, PlaceWord::of(Some(object.place())))
     }
 
-    /// A cursor that keeps the tree, on the first member, null in an empty tree. O(log n), and O(1) where it is kept.
+    /// A cursor that owns the tree, on the first member, null in an empty tree. O(log n), or O(1) if the tree stores
+    /// it.
     ///
-    /// It requires that the tree is represented, unless it keeps its ends.
+    /// It requires that the table represents the tree, unless the tree stores its ends.
     #[inline]
     pub fn front_owning<L: RBTreeOps>(self, links: &L) -> CursorOwning<A, E>
         requires shown { HasEnds L.node (L.table links.now) (E.kept (head_of self)) }
@@ -190,9 +192,9 @@ impl<A: KeyAdapter, E: TreeHead> RBTree<A, E> {
         CursorOwning::new(self, at)
     }
 
-    /// A cursor that keeps the tree, on the last member, null in an empty tree. O(log n), and O(1) where it is kept.
+    /// A cursor that owns the tree, on the last member, null in an empty tree. O(log n), or O(1) if the tree stores it.
     ///
-    /// It requires that the tree is represented, unless it keeps its ends.
+    /// It requires that the table represents the tree, unless the tree stores its ends.
     #[inline]
     pub fn back_owning<L: RBTreeOps>(self, links: &L) -> CursorOwning<A, E>
         requires shown { HasEnds L.node (L.table links.now) (E.kept (head_of self)) }

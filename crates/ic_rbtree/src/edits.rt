@@ -1,7 +1,7 @@
-//! What a tree gives the cursors: moves and edits at a position, each O(log n), and a replacement, O(1).
+//! What a tree implements for cursors: moves and edits at a position, each in O(log n), and a replacement in O(1).
 //!
-//! "After" is the gap after the position's member, or the first gap at null; "before" is the gap before it, or
-//! the last gap at null. An edit looks at no key. What each does, the traits say.
+//! "After" is the gap after the position's member, or the first gap at null; "before" is the gap before it, or the last
+//! gap at null. No edit compares keys. The traits document what each call does.
 
 ghost use Rattle.std.specs.Prelude.{◌≡◌, None, Option, List, [], ◌∷◌, ◌++◌};
 ghost use Rattle.ic_link_ops.specs.Prelude.{Place, IsCovered, ChangesOnlyIn, site, IsValidCursor, HasMember, releases};
@@ -22,9 +22,9 @@ use ic_link_ops::{LinkOps, PlaceWord, Side};
 use ic_unsafe_ref::{Place, UnsafeRef};
 
 impl<A: KeyAdapter, E: TreeHead> RBTree<A, E> {
-    /// The first member, `None` in an empty tree. O(log n), and O(1) where it is kept.
+    /// The first member, `None` in an empty tree. O(log n), or O(1) if the tree stores it.
     ///
-    /// It requires that the tree is represented, unless it keeps its ends.
+    /// It requires that the table represents the tree, unless the tree stores its ends.
     #[inline]
     pub fn first<L: RBTreeOps>(&self, links: &L) -> Option<Place>
         requires shown { HasEnds L.node (L.table links.now) (E.kept (head_of self.now)) }
@@ -33,9 +33,9 @@ impl<A: KeyAdapter, E: TreeHead> RBTree<A, E> {
         self.head.end(links, Side::Left)
     }
 
-    /// The last member, `None` in an empty tree. O(log n), and O(1) where it is kept.
+    /// The last member, `None` in an empty tree. O(log n), or O(1) if the tree stores it.
     ///
-    /// It requires that the tree is represented, unless it keeps its ends.
+    /// It requires that the table represents the tree, unless the tree stores its ends.
     #[inline]
     pub fn last<L: RBTreeOps>(&self, links: &L) -> Option<Place>
         requires shown { HasEnds L.node (L.table links.now) (E.kept (head_of self.now)) }
@@ -44,7 +44,7 @@ impl<A: KeyAdapter, E: TreeHead> RBTree<A, E> {
         self.head.end(links, Side::Right)
     }
 
-    /// Takes the object, which has to be a member, off the tree. O(log n), and no look.
+    /// Removes the object, which has to be a member, from the tree. O(log n). It compares no keys.
     ///
     /// The other members stay in their order, and so does every other collection of the table.
     #[inline]
@@ -61,7 +61,7 @@ impl<A: KeyAdapter, E: TreeHead> RBTree<A, E> {
         remove(links, &mut self.head, object.place());
     }
 
-    // Puts the object into the gap beside the position, and returns whether its link was acquired.
+    // Inserts the object into the gap beside the position, and returns whether its link was acquired.
     #[inline]
     fn insert_beside<L: RBTreeOps>(
         &mut self,

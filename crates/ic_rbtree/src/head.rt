@@ -1,4 +1,4 @@
-//! What a tree keeps of its members: its root alone, or its first and its last member too.
+//! What a tree stores about its members: its root alone, or also its first and its last member.
 //!
 //! ```text
 //! let tree: RBTree<ByDeadline> = RBTree::new(ByDeadline);                   // one word
@@ -15,34 +15,34 @@ ghost use Rattle.ic_rbtree.specs.Insertion.{Attaches};
 ghost use Rattle.ic_rbtree.specs.Kept.{Kept, RootAndEnds, alone, ended, root_kept, last_kept, end_with, end_for, TellsEnds, IsEmptied, IsBelow, EndIs, HasEnds};
 ghost use Rattle.ic_rbtree.specs.Transplants.{TakesAway, TakesPlace};
 
+use crate::bounded::step_bounded;
 use crate::nodes::NodeStore;
 use crate::readings::{is_across, is_at, other};
 use crate::repair::insertion::attach;
 use crate::repair::removal::unlink;
 use crate::repair::writers::take_place;
 use crate::steps;
-use crate::within::step_within;
 use ic_link_ops::rbtree::RBTreeOps;
 use ic_link_ops::{PlaceWord, Side};
 use ic_unsafe_ref::Place;
 use std::marker::Model;
 
-/// What a tree keeps of its members: the root, and what its kind keeps beside it.
+/// What a tree stores about its members: the root, and what its kind stores beside it.
 ///
-/// A rotation moves no end of a tree, so ends are kept where a place comes in, where one leaves, and where one stands for another.
+/// A rotation does not change the ends of a tree. So only the calls that insert, remove or replace a member update stored ends.
 pub trait TreeHead: Drop {
-    // what is kept, as clauses see it
+    // What is stored, as contracts see it.
     ghost kept: { Self → Kept };
 
-    /// What a tree with no members keeps.
+    /// What a tree with no members stores.
     fn empty() -> Self
         ensures { IsEmptied (kept result) };
 
-    /// The root, `None` where the tree has no members. O(1).
+    /// The root, `None` if the tree has no members. O(1).
     fn root(&self) -> Option<Place>
         ensures { result ≡ root_kept (kept self.now) };
 
-    /// Puts `place` in on this side of `parent`, as [`RBTree::attach`](crate::RBTree::attach) does. O(log n).
+    /// Inserts `place` on this side of `parent`, as [`RBTree::attach`](crate::RBTree::attach) does. O(log n).
     fn attach<N: NodeStore>(
         &mut self,
         nodes: &mut N,
@@ -57,7 +57,7 @@ pub trait TreeHead: Drop {
         ensures ends { (gap : Cut) → IsBelow parent side gap → IsDistinct (join gap) → TellsEnds (kept self.old) (join gap)
             → TellsEnds (kept self.new) (insert gap place) };
 
-    /// Takes the member at `place` out, as [`RBTree::unlink`](crate::RBTree::unlink) does. O(log n).
+    /// Removes the member at `place`, as [`RBTree::unlink`](crate::RBTree::unlink) does. O(log n).
     fn unlink<N: NodeStore>(&mut self, nodes: &mut N, place: Place)
         requires { IsSafe N.node (N.table nodes.old) (root_kept (kept self.old)) (Some place ∷ []) }
         ensures taken { TakesAway N.node (N.table nodes.old) (N.table nodes.new) (root_kept (kept self.old)) (root_kept (kept self.new)) place }
@@ -66,7 +66,7 @@ pub trait TreeHead: Drop {
         ensures ends { (front back : List Place) → Represents N.node (N.table nodes.old) (root_kept (kept self.old)) (front ++ place ∷ back)
             → TellsEnds (kept self.old) (front ++ place ∷ back) → TellsEnds (kept self.new) (front ++ back) };
 
-    /// Puts `new` in place of the member at `place`, as [`RBTree::take_place`](crate::RBTree::take_place) does. O(1).
+    /// Replaces the member at `place` by `new`, as [`RBTree::take_place`](crate::RBTree::take_place) does. O(1).
     fn take_place<N: NodeStore>(&mut self, nodes: &mut N, place: Place, new: Place)
         requires safe { IsSafeBut N.node (N.table nodes.old) (root_kept (kept self.old)) new (Some place ∷ Some new ∷ []) }
         requires apart { place ≢ new }
@@ -76,24 +76,25 @@ pub trait TreeHead: Drop {
         ensures ends { (front back : List Place) → IsDistinct (front ++ place ∷ back) → TellsEnds (kept self.old) (front ++ place ∷ back)
             → TellsEnds (kept self.new) (front ++ new ∷ back) };
 
-    /// The outermost member on this side, `None` where the tree has no members. O(log n), and O(1) where it is kept.
+    /// The outermost member on this side, `None` if the tree has no members. O(log n), or O(1) if the tree stores it.
     fn end<L: RBTreeOps>(&self, links: &L, side: Side) -> Option<Place>
         requires shown { HasEnds L.node (L.table links.now) (kept self.now) }
         ensures { EndIs L.node side (L.table links.now) (kept self.now) result };
 
-    /// The last member as it is kept, `None` in an empty tree, and where no end is kept. O(1).
+    /// The last member as it is stored; `None` in an empty tree, and if the tree does not store its ends. O(1).
     fn kept_last(&self) -> Option<Place>
         ensures { result ≡ last_kept (kept self.now) };
 
-    /// Becomes the head of the tree with this root, in which another call has joined the members of both trees with `place` between them.
+    /// Updates the head after a call has joined the members of both trees, with `place` between them, into the tree with this root.
     /// `other` has no members then. O(1).
     fn join(&mut self, root: Option<Place>, place: Place, other: &mut Self)
         ensures root { root_kept (kept self.new) ≡ root }
         ensures ends { (s t : List Place) → TellsEnds (kept self.old) s → TellsEnds (kept other.old) t → TellsEnds (kept self.new) (s ++ place ∷ t) }
         ensures emptied { IsEmptied (kept other.new) };
 
-    /// Becomes the head of the tree with the root `front`, and returns that of the tree with the root `back`, into which another call has
-    /// parted its members. `place` is the first member of the second tree. O(1), and O(log n) where the ends are kept.
+    /// Updates the head after a call has split its members into the trees with the roots `front` and `back`. This head becomes that of
+    /// the first tree, and the head of the second is returned. `place` is the first member of the second tree. O(1), or O(log n) if the
+    /// ends are stored.
     fn split<L: RBTreeOps>(
         &mut self,
         links: &L,
@@ -108,9 +109,9 @@ pub trait TreeHead: Drop {
             → TellsEnds (kept self.new) s × TellsEnds (kept result) (place ∷ t) };
 }
 
-/// The root alone, in one word.
+/// A head that stores the root alone, in one word.
 ///
-/// A clause sees it as an `Option<Place>`.
+/// In contracts it is an `Option<Place>`.
 #[derive(Drop)]
 pub struct Root {
     word: PlaceWord,
@@ -146,7 +147,7 @@ impl TreeHead for Root {
         self.word.get()
     }
 
-    #[inline]
+    #[inline(always)]
     fn attach<N: NodeStore>(
         &mut self,
         nodes: &mut N,
@@ -199,9 +200,9 @@ impl TreeHead for Root {
     }
 }
 
-/// The root, the first member and the last one.
+/// A head that stores the root, the first member and the last one.
 ///
-/// Good for timers and run queues, where the first leaves, and what comes mostly goes after the others.
+/// Good for timers and run queues: the first member is removed, and new ones mostly go after all others.
 #[derive(Drop)]
 pub struct WithEnds {
     root: PlaceWord,
@@ -228,7 +229,7 @@ impl WithEnds {
     }
 }
 
-// The end once `new` stands in the place of the member `out`.
+// The end after `new` has replaced the member `out`.
 #[inline]
 fn end_for(out: Place, new: Place, end: Option<Place>) -> Option<Place>
     ensures { result ≡ end_for out new end }
@@ -236,7 +237,7 @@ fn end_for(out: Place, new: Place, end: Option<Place>) -> Option<Place>
     if is_at(end, out) { Some(new) } else { end }
 }
 
-// The end on side d once the member at `place` is out: the next one inwards, where that was the end.
+// The end on side d after the member at `place` is removed: if that was the end, the next member inwards is.
 #[inline]
 fn end_without<N: NodeStore>(
     nodes: &N,
@@ -250,7 +251,7 @@ fn end_without<N: NodeStore>(
         → result ≡ end_on d (front ++ back) }
 {
     if is_at(end, place) {
-        step_within(nodes, root, Some(place), other(d))
+        step_bounded(nodes, root, Some(place), other(d))
     } else {
         end
     }

@@ -1,4 +1,4 @@
-//! A walk that takes the members off.
+//! A walk that removes the members.
 //!
 //! ```text
 //! let mut rest = tree.into_iter(&mut links);
@@ -26,10 +26,10 @@ use ic_link_ops::{LinkOps, PlaceWord, Side};
 use ic_unsafe_ref::{Place, UnsafeRef};
 use std::marker::PhantomData;
 
-/// The members of a tree that are not given out yet: from the front by `next`, from the back by `next_back`.
+/// A walk that removes and returns the members of a tree: `next` takes the first, and `next_back` the last.
 ///
-/// Each member that is given out is unlinked, and no other. When the two ends meet, both are exhausted. If the walk is
-/// dropped, the rest stays linked: call [`finish`](Self::finish) to unlink it.
+/// The walk unlinks each member that it returns, and no other. When the two ends meet, both are exhausted. If the walk
+/// is dropped, the remaining members stay linked: call [`finish`](Self::finish) to unlink them.
 pub struct IntoIter<'a, A, L> {
     front: PlaceWord,
     back: PlaceWord,
@@ -61,10 +61,11 @@ impl<'a, A: KeyAdapter, L: RBTreeOps> Iterator for IntoIter<'a, A, L> {
 
     ghost remaining = { item_count (members_left L.node L.table) };
 
-    /// Takes the next object off the tree. O(log n), and O(1) on average over all of them.
+    /// Removes the first remaining member and returns it, or `None` if none is left. O(log n), and O(1) on average over
+    /// the whole walk.
     ///
-    /// A child of it stays linked, whatever its color, and also where it has no parent left: it comes up in its place, and
-    /// nothing is repaired.
+    /// A child of the removed member takes its position and stays linked, whatever its color is, and also if it has no
+    /// parent then. No colors are repaired.
     #[inline]
     fn next(&mut self) -> Option<UnsafeRef<A::Value>> {
         let place = take_end(self.links, &mut self.front, &mut self.back, Side::Left)?;
@@ -79,7 +80,7 @@ impl<'a, A: KeyAdapter, L: RBTreeOps> DoubleEndedIterator for IntoIter<'a, A, L>
 
     ghost next_back_gives = { TakesLast L.node L.table L.Trace };
 
-    /// Takes the next object from the back off the tree, as [`next`](Self::next) does at the front.
+    /// Removes the last remaining member and returns it, as [`next`](Self::next) does at the front.
     #[inline]
     fn next_back(&mut self) -> Option<UnsafeRef<A::Value>> {
         let place = take_end(self.links, &mut self.back, &mut self.front, Side::Right)?;
@@ -90,7 +91,7 @@ impl<'a, A: KeyAdapter, L: RBTreeOps> DoubleEndedIterator for IntoIter<'a, A, L>
 impl<'a, A, L: RBTreeOps> IntoIter<'a, A, L> {
     ghost use Rattle.ic_rbtree.specs.IntoIter.{Leaves, CanTake};
 
-    /// The table, as the walk has changed it so far.
+    /// The table in its current state. O(1).
     #[inline]
     pub fn links(&self) -> &L
         ensures { result.now ≡ self.now.links.now }
@@ -98,7 +99,7 @@ impl<'a, A, L: RBTreeOps> IntoIter<'a, A, L> {
         self.links
     }
 
-    /// Unlinks the members that were not given out, from the front on. One step for each of them, and no memory.
+    /// Unlinks the members that the walk has not returned, from the front on. One step for each of them, and no memory. O(n).
     pub fn finish(self)
         requires can_take { CanTake L.node L.table self }
         ensures released { (w : List Place) → Leaves L.node L.table self.entry w
@@ -119,7 +120,8 @@ impl<'a, A, L: RBTreeOps> IntoIter<'a, A, L> {
 impl<A: KeyAdapter, E: TreeHead> RBTree<A, E> {
     ghost use Rattle.ic_rbtree.specs.IntoIter.{Leaves};
 
-    /// A walk that takes the members off, from either end. Nothing is unlinked yet. O(log n), and O(1) where the ends are kept.
+    /// A walk that removes the members, from either end. This call unlinks nothing yet. O(log n), or O(1) if the tree stores
+    /// its ends.
     pub fn into_iter<'a, L: RBTreeOps>(self, links: &'a mut L) -> IntoIter<'a, A, L>
         requires shown { RepresentsKeptSome E.kept L.node (L.table links.old) (head_of self) }
         ensures tree { (s : List Place) → RepresentsKept E.kept L.node (L.table links.entry.now) (head_of self) s
@@ -138,9 +140,9 @@ impl<A: KeyAdapter, E: TreeHead> RBTree<A, E> {
     }
 }
 
-// Takes the member at the near end off, the outermost one on this side, and unlinks it.
+// Removes the member at the near end, which is the outermost one on this side, and unlinks it.
 //
-// It has no child on this side, and its other child comes up in its place. Colors stay, and nobody keeps a root.
+// It has no child on this side, and its other child takes its position. Colors stay, and no root is stored.
 fn take_end<L: RBTreeOps>(
     links: &mut L,
     near: &mut PlaceWord,
@@ -169,7 +171,7 @@ fn take_end<L: RBTreeOps>(
     Some(place)
 }
 
-// A subtree hangs on this side of a member now, if there is one.
+// Makes a subtree the child of a member on this side, if there is such a member.
 fn hang<L: RBTreeOps>(links: &mut L, parent: Option<Place>, side: Side, to: Option<Place>)
     requires parent { IsNamed L.node (L.table links.old) parent }
     requires named { IsNamed L.node (L.table links.old) to }
@@ -181,7 +183,8 @@ fn hang<L: RBTreeOps>(links: &mut L, parent: Option<Place>, side: Side, to: Opti
     }
 }
 
-// The outermost member on this side, with nothing there but what is at this child and below, or else the parent.
+// The outermost member on this side, given that all members there are at this child and below; if there is no child,
+// the parent.
 fn outer<L: RBTreeOps>(
     links: &L,
     below: Option<Place>,

@@ -25,10 +25,10 @@ use ic_unsafe_ref::{Objects, Place, Values};
 use std::alloc::AllocError;
 use std::marker::PhantomData;
 
-/// The objects of a tree that are not given out yet: from the front by `next`, from the back by `next_back`.
+/// A walk over the objects of a tree: `next` returns them from the front, `next_back` from the back.
 ///
-/// When the two ends meet, both are exhausted. `A::Key: 'a` holds of every key that is a part of its object: it is said for
-/// callers that are generic in the adapter.
+/// When the two ends meet, both are exhausted. The bound `A::Key: 'a` holds for every key that is a part of its object.
+/// Only callers that are generic in the adapter have to write it.
 pub struct Iter<'a, A: KeyAdapter, L, O = Objects<<A as KeyAdapter>::Value>>
 where
     A::Key: 'a,
@@ -66,7 +66,7 @@ impl<'a, A: KeyAdapter, L: RBTreeOps, O: Values<A::Value>> Iterator for Iter<'a,
 
     ghost remaining = { item_count (objects_left L.node L.table O.values) };
 
-    /// The next object. O(log n): one step in the tree, and one look-up of the object.
+    /// The next object, or `None` if none is left. O(log n): one step in the tree, and one look-up of the object.
     fn next(&mut self) -> Option<&'a A::Value> {
         let place = self.head?;
         let objects: &'a O = self.objects;
@@ -89,7 +89,7 @@ impl<'a, A: KeyAdapter, L: RBTreeOps, O: Values<A::Value>> DoubleEndedIterator
 
     ghost next_back_gives = { GivesLast (objects_left L.node L.table O.values) };
 
-    /// The next object from the back. O(log n), as `next`.
+    /// The next object from the back, or `None` if none is left. O(log n), as `next`.
     fn next_back(&mut self) -> Option<&'a A::Value> {
         let place = self.tail?;
         let objects: &'a O = self.objects;
@@ -126,7 +126,7 @@ impl<A: KeyAdapter, L: RBTreeOps, O: Values<A::Value>> Iter<'_, A, L, O> {
     ghost use Rattle.ic_link_ops.specs.Sequences.{first};
     ghost use Rattle.ic_rbtree.specs.Iter.{rest_of, CanWalk};
 
-    /// The place of the member that `next` would give, `None` when the walk is exhausted. O(1).
+    /// The place of the member that `next` would return, `None` if the walk is exhausted. O(1).
     #[inline]
     pub fn get_ptr(&self) -> Option<Place>
         requires can_walk { CanWalk L.node L.table O.values self.now }
@@ -140,7 +140,7 @@ impl<A: KeyAdapter, E: TreeHead> RBTree<A, E> {
     ghost use Rattle.ic_link_ops.specs.PlacedObjects.{RepresentsPlaced, values_at};
     ghost use Rattle.ic_rbtree.specs.Iter.{objects_left, CanWalk};
 
-    /// A walk over the objects of the tree, from either end. It requires that all members are placed.
+    /// A walk over the objects of the tree, from either end. It requires that all members are placed. O(log n), and O(1) where the ends are kept.
     pub fn iter<'a, L: RBTreeOps, O: Values<A::Value>>(
         &'a self,
         links: &'a L,

@@ -1,4 +1,4 @@
-//! Two trees become one, and one becomes two.
+//! Calls that join two trees into one, or split one into two.
 //!
 //! ```text
 //! early.append(&mut links, &mut late);            // all of `late` after all of `early`; `late` is empty now
@@ -27,10 +27,12 @@ use ic_link_ops::{AlreadyLinked, LinkOps, Side};
 use ic_unsafe_ref::UnsafeRef;
 
 impl<A, E: TreeHead> RBTree<A, E> {
-    /// Moves all members of `other` after those of this tree, in their order, and leaves `other` empty. It looks at no key.
+    /// Moves all members of `other` after those of this tree, in their order, and leaves `other` empty. It compares no
+    /// keys.
     ///
-    /// It requires that the two trees share no member. Trees that share none with either stay, and no link is acquired or released. It
-    /// appends as `LinkedList::append` of std does; `BTreeMap::append` puts each entry where its key belongs. O(log n).
+    /// It requires that the two trees share no member. Trees that share no member with either stay as they are, and no link is
+    /// acquired or released. It appends as `LinkedList::append` of std does; `BTreeMap::append` puts each entry where its key belongs.
+    /// O(log n).
     pub fn append<N: NodeStore>(&mut self, nodes: &mut N, other: &mut RBTree<A, E>)
         requires shown { RepresentsPartsSome (RepresentsKept E.kept N.node) (N.table nodes.old) (head_of self.old) (head_of other.old) }
         ensures appended { (gap : Cut) → RepresentsParts (RepresentsKept E.kept N.node) (N.table nodes.old) (head_of self.old) (head_of other.old) gap
@@ -50,11 +52,11 @@ impl<A, E: TreeHead> RBTree<A, E> {
 }
 
 impl<A: KeyAdapter, E: TreeHead> RBTree<A, E> {
-    /// Puts the object after all members of this tree and moves all of `other` after it, unless the object's link is refused. `other`
-    /// is empty then. It looks at no key.
+    /// Inserts the object after all members of this tree and moves all members of `other` after it, unless the object's link is
+    /// refused. `other` is empty then. It compares no keys.
     ///
-    /// It requires that the object's place is covered, and that the two trees share no member. A refused object comes back, and both
-    /// trees and their links are as they were. O(log n).
+    /// It requires that the object's place is covered, and that the two trees share no member. If the link is refused, the object is
+    /// returned, and both trees and their links are as they were. O(log n).
     pub fn join<L: RBTreeOps>(
         &mut self,
         links: &mut L,
@@ -81,12 +83,12 @@ impl<A: KeyAdapter, E: TreeHead> RBTree<A, E> {
         Ok(())
     }
 
-    /// Keeps the members before the object, which has to be a member, and hands out the object and all after it, as a tree with
-    /// the same adapter. It looks at no key, and no link is acquired or released.
+    /// Keeps the members before the object, which has to be a member, and returns the object and all members after it as a tree
+    /// with the same adapter. It compares no keys, and no link is acquired or released.
     ///
-    /// Trees that share no member with this one stay. O(log n): it joins the subtrees beside one way up, each in the time of a difference of
-    /// heights (Cormen, Leiserson, Rivest and Stein, problem 13-2). The heights are handed on, so that a turn measures no tree, and the
-    /// differences sum to a multiple of the height of the tree.
+    /// Trees that share no member with this one stay as they are. O(log n): it joins the subtrees beside one path up, each in time
+    /// proportional to a difference of heights (Cormen, Leiserson, Rivest and Stein, problem 13-2). Each turn passes the heights on, so no
+    /// turn measures a tree, and the sum of the differences is at most a multiple of the tree's height.
     pub fn split_off<L: RBTreeOps>(
         &mut self,
         links: &mut L,

@@ -1,4 +1,4 @@
-//! Searches and inserts by keys: descents from the root, and what they ask of the objects.
+//! Searches and inserts by keys: descents from the root, and how they compare objects.
 //!
 //! ```text
 //! tree.insert(&mut links, &objects, object)?; // after all with no greater key

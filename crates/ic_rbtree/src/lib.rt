@@ -1,6 +1,6 @@
-//! The red-black tree: objects in order, which come and leave anywhere.
+//! The red-black tree: objects in order, which are inserted and removed anywhere.
 //!
-//! The order is what cursors make it, or that of keys, where objects come by the keyed calls alone.
+//! The caller chooses the order by cursors. If only the keyed calls insert objects, it is the order of the keys.
 //!
 //! ```text
 //! let mut tree = RBTree::new(ByDeadline);
@@ -8,16 +8,16 @@
 //! let first = tree.front_mut(&mut links).remove();
 //! ```
 //!
-//! A tree with [`WithEnds`] keeps its first and its last member beside its root, for timers and queues. All calls are the same.
+//! A tree with [`WithEnds`] also stores its first and its last member, for timers and queues. It has the same calls.
 //!
 //! ```text
 //! let mut timers = RBTree::with_ends(ByDeadline);
 //! let due = timers.pop_front(&mut links); // no descent
 //! ```
 //!
-//! Who keeps trees in words of his own makes a tree of the root that he keeps, makes one edit by the layer under these calls, and
-//! reads the root again. That layer runs over whatever implements [`NodeStore`], and requires only that links lead out of no set of
-//! linked places.
+//! You may store trees in words of your own. For an edit, make a tree of the root that you store, call the layer under these calls,
+//! and store the root that the tree has then. That layer runs over every implementation of [`NodeStore`]. It requires only a set of
+//! linked places that contains the places of the call and out of which no link leads.
 //!
 //! ```text
 //! let mut tree = RBTree::from_root((), root);
@@ -26,6 +26,7 @@
 //! ```
 #![tactic(auto)]
 
+mod bounded;
 mod builder;
 mod contains;
 mod cursors;
@@ -45,8 +46,8 @@ mod steps;
 mod tree;
 mod vine;
 mod whole;
-mod within;
 
+pub use bounded::step_bounded;
 pub use builder::RBTreeBuilder;
 pub use cursors::{Cursor, CursorMut, CursorOwning};
 pub use head::{Root, TreeHead, WithEnds};
@@ -62,4 +63,3 @@ pub use keys::key_adapter::{Bound, KeyAdapter};
 pub use keys::probe::{KeyProbe, Probe};
 pub use nodes::NodeStore;
 pub use tree::{RBTree, RBTreeCached};
-pub use within::step_within;

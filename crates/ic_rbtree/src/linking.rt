@@ -1,8 +1,8 @@
-//! A place that is linked and put in, a member that is taken off and unlinked, and one for the other.
+//! Calls that link a place and insert it, remove a member and unlink it, or replace one by the other.
 //!
-//! The repair follows Cormen, Leiserson, Rivest and Stein, Introduction to Algorithms, chapter 13, with these departures:
-//! mirrored cases are written once, by sides, and compiled for each side; a missing child is no node of its own; a member with two
-//! children is replaced by the next one only when that one is out of the tree and the colors are right.
+//! The repair follows Cormen, Leiserson, Rivest and Stein, Introduction to Algorithms, chapter 13, with these departures: mirrored
+//! cases are written once, by sides, and compiled for each side; a missing child has no node; a child without a sibling that takes
+//! its parent's position turns black at once, since it was red.
 
 ghost use Rattle.std.specs.Prelude.{◌≡◌, Some, List, [], ◌∷◌};
 ghost use Rattle.std.specs.Bool.{OnTrue, OnFalse};
@@ -20,8 +20,8 @@ use ic_link_ops::rbtree::RBTreeOps;
 use ic_link_ops::{LinkOps, Side};
 use ic_unsafe_ref::{Place, Values};
 
-// Links the place as a new member on this side of `parent`, which has no child there, and says whether the link could be
-// had. With no parent the tree is empty.
+// Links the place as a new member on this side of `parent`, which has no child there, and returns whether the link was
+// acquired. If there is no parent, the tree is empty.
 pub(crate) fn insert<L: RBTreeOps, E: TreeHead>(
     links: &mut L,
     head: &mut E,
@@ -46,8 +46,8 @@ pub(crate) fn insert<L: RBTreeOps, E: TreeHead>(
     true
 }
 
-// Links the place as a new member where the probe's order wants it: after the members that compare equal. It says whether
-// the link could be had. Where it could not, nothing is looked at.
+// Links the place as a new member where it belongs by the probe's order, after the members that compare equal. It returns
+// whether the link was acquired. If not, no key is compared.
 #[inline]
 pub(crate) fn insert_in_order<L: RBTreeOps, E: TreeHead, V, P: Probe<V>, O: Values<V>>(
     links: &mut L,
@@ -76,7 +76,7 @@ pub(crate) fn insert_in_order<L: RBTreeOps, E: TreeHead, V, P: Probe<V>, O: Valu
     true
 }
 
-// Takes the member off the tree, and unlinks it.
+// Removes the member from the tree, and unlinks it.
 pub(crate) fn remove<L: RBTreeOps, E: TreeHead>(links: &mut L, head: &mut E, place: Place)
     requires member { (gap : Cut) × RepresentsKept E.kept L.node (L.table links.old) head.old (join gap) × IsBefore gap (Some place) }
     ensures removed { (gap : Cut) → RepresentsKept E.kept L.node (L.table links.old) head.old (join gap) → IsBefore gap (Some place)
@@ -87,7 +87,7 @@ pub(crate) fn remove<L: RBTreeOps, E: TreeHead>(links: &mut L, head: &mut E, pla
     links.release_link(place);
 }
 
-// In place of a member stands another place, and the member is unlinked. It says whether the link could be had.
+// Links another place instead of a member, and unlinks the member. It returns whether the link was acquired.
 pub(crate) fn replace<L: RBTreeOps, E: TreeHead>(
     links: &mut L,
     head: &mut E,

@@ -1,4 +1,4 @@
-//! Members that leave at an end, and one that comes after all others: no key is looked at.
+//! Removals at both ends, and an insert after all members. These calls compare no keys.
 //!
 //! ```text
 //! let due = timers.pop_front(&mut links);
@@ -19,8 +19,8 @@ use ic_link_ops::{AlreadyLinked, LinkOps, Side};
 use ic_unsafe_ref::UnsafeRef;
 
 impl<A: KeyAdapter, E: TreeHead> RBTree<A, E> {
-    /// Takes the first object off the tree and returns it, `None` if the tree is empty. O(log n), and O(1) on average over removals where
-    /// the ends are kept, since it makes no descent then.
+    /// Removes the first object and returns it, `None` if the tree is empty. O(log n). If the tree stores its ends, it makes no descent,
+    /// and takes O(1) on average over removals.
     #[inline]
     pub fn pop_front<L: RBTreeOps>(&mut self, links: &mut L) -> Option<UnsafeRef<A::Value>>
         requires shown { RepresentsKeptSome E.kept L.node (L.table links.old) (head_of self.old) }
@@ -38,7 +38,7 @@ impl<A: KeyAdapter, E: TreeHead> RBTree<A, E> {
         Some(object)
     }
 
-    /// Takes the last object off the tree and returns it, `None` if the tree is empty. O(log n), as [`pop_front`](Self::pop_front).
+    /// Removes the last object and returns it, `None` if the tree is empty. O(log n), as [`pop_front`](Self::pop_front).
     #[inline]
     pub fn pop_back<L: RBTreeOps>(&mut self, links: &mut L) -> Option<UnsafeRef<A::Value>>
         requires shown { RepresentsKeptSome E.kept L.node (L.table links.old) (head_of self.old) }
@@ -56,10 +56,11 @@ impl<A: KeyAdapter, E: TreeHead> RBTree<A, E> {
         Some(object)
     }
 
-    /// Inserts the object after all others, whatever its key is, unless its link is refused. It makes no look. O(log n), and O(1) on
-    /// average over inserts where the ends are kept, since it makes no descent then.
+    /// Inserts the object after all others, whatever its key is, unless its link is refused. It compares no keys. O(log n). If the
+    /// tree stores its ends, it makes no descent, and takes O(1) on average over inserts.
     ///
-    /// It requires that the object's place is covered. A refused object comes back, and the tree and its links are as they were.
+    /// It requires that the object's place is covered. If the link is refused, the object is returned, and the tree and its
+    /// links are as they were.
     #[inline]
     pub fn push_back<L: RBTreeOps>(
         &mut self,

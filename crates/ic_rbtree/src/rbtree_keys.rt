@@ -1,4 +1,4 @@
-//! Searches by a probe: what is searched compares itself with the objects, and counts its looks.
+//! Searches by a probe: the probe compares the searched key with the objects, and counts its comparisons.
 //!
 //! ```text
 //! let mut probe = KeyProbe::new(ByDeadline, &5);

@@ -1,4 +1,4 @@
-//! What the members of a tree tell of where they stand, by sides.
+//! Functions that read a member's position in the tree, by sides.
 
 ghost use Rattle.std.specs.Prelude.{◌≡◌, Some};
 ghost use Rattle.ic_unsafe_ref.specs.declared.place.Place.{Place};
@@ -68,7 +68,7 @@ pub(crate) fn only_child<N: NodeStore>(links: &N, place: Place) -> Option<Place>
     ensures { result ≡ or_else (node_at N.node (N.table links.now) place).left
         (node_at N.node (N.table links.now) place).right }
 {
-    // as a word, which both ways lead to
+    // The word that both branches compute.
     let only = match links.left(place) {
         Some(left) => PlaceWord::of(Some(left)),
         None => PlaceWord::of(links.right(place)),
@@ -76,7 +76,7 @@ pub(crate) fn only_child<N: NodeStore>(links: &N, place: Place) -> Option<Place>
     only.get()
 }
 
-/// On which side of its parent a member stands.
+/// The side of its parent on which a member is.
 pub(crate) fn side_of<N: NodeStore>(links: &N, place: Place, parent: Place) -> Side
     requires { IsNode N.node (N.table links.now) parent }
     ensures { IsSideOf N.node (N.table links.now) place parent result }
@@ -110,7 +110,7 @@ pub(crate) fn second_child<N: NodeStore>(links: &N, place: Place) -> Option<Plac
     }
 }
 
-// Red below a parent, and black at the root.
+// The color of a new member: red below a parent, and black at the root.
 pub(crate) fn color_here<N: NodeStore>(links: &N, place: Place) -> Color
     requires { IsNode N.node (N.table links.now) place }
     ensures { result ≡ color_below (node_at N.node (N.table links.now) place).parent }
@@ -121,7 +121,7 @@ pub(crate) fn color_here<N: NodeStore>(links: &N, place: Place) -> Color
     }
 }
 
-// Whether two sides are across.
+// Whether two sides are different.
 pub(crate) fn is_across(one: Side, other: Side) -> bool
     ensures { result ≡ are_across one other }
 {

@@ -1,4 +1,4 @@
-//! What puts places in and takes members out, and makes the tree red-black again.
+//! Functions that insert places and remove members, and make the tree red-black again.
 //!
 //! ```text
 //! attach(links, root, place, hole); // the place is a leaf, and the colors are right
@@ -8,5 +8,6 @@ pub(crate) mod insertion;
 pub(crate) mod removal;
 pub(crate) mod writers;
 
-// No loop of a repair makes more turns, whatever the words say: in a tree of the right shape no way down is as long.
+// The most turns that a loop of a repair makes, whatever the words contain. In a tree of the right shape every path
+// down is shorter.
 pub(crate) const TURNS: u32 = 67;

@@ -1,7 +1,7 @@
-//! From a position in a tree to the one beside it, and to the hole between them.
+//! Steps from a position in a tree to a neighbor, and to the hole between them.
 //!
-//! A step down is one to a child, a step up one to the parent. Beside a member with a child on that side stands the
-//! outermost one below that child; beside one without stands the lowest member above, on the other side of which it is.
+//! If a member has a child on the side of the step, its neighbor is the outermost member below that child, on the other
+//! side. Otherwise it is the lowest member above that has the member on its other side.
 
 ghost use Rattle.std.specs.Prelude.{◌≡◌, List, Option, Some, None};
 ghost use Rattle.ic_link_ops.specs.Prelude.{Place, Cut, join, site, IsValidCursor};
@@ -15,7 +15,7 @@ use ic_link_ops::rbtree::RBTreeOps;
 use ic_link_ops::{PlaceWord, Side};
 use ic_unsafe_ref::Place;
 
-// The member at or below a place that stands outermost on a side.
+// The outermost member on a side, at or below a place.
 #[inline]
 pub(crate) fn outermost<L: RBTreeOps>(links: &L, place: Place, side: Side) -> Place
     requires { IsInTree L.node (L.table links.now) place }
@@ -28,7 +28,7 @@ pub(crate) fn outermost<L: RBTreeOps>(links: &L, place: Place, side: Side) -> Pl
     place
 }
 
-// The lowest member above a place that stands on this side of it, `None` if there is none.
+// The lowest member above a place that is on this side of it, `None` if there is none.
 #[inline]
 pub(crate) fn above_on<L: RBTreeOps>(links: &L, place: Place, side: Side) -> Option<Place>
     requires { IsInTree L.node (L.table links.now) place }
@@ -55,8 +55,8 @@ pub(crate) fn end_on<L: RBTreeOps>(links: &L, root: Option<Place>, side: Side) -
     Some(outermost(links, root?, side))
 }
 
-// The same, as a cursor comes to it from null, once a round. Called and not inlined, so that a step from a member stands by
-// itself.
+// The same member, for a cursor that moves from null. This happens once a round, so the call is not inlined, and the code
+// of a step from a member stays short.
 #[cold]
 #[inline(never)]
 fn end_from_null<L: RBTreeOps>(links: &L, root: Option<Place>, side: Side) -> Option<Place>
@@ -66,7 +66,7 @@ fn end_from_null<L: RBTreeOps>(links: &L, root: Option<Place>, side: Side) -> Op
     end_on(links, root, side)
 }
 
-// Where a step to a side leads from a position: from null to the end on the other side.
+// The position to which a step to a side leads; from null it leads to the end on the other side.
 #[inline]
 pub(crate) fn step<L: RBTreeOps>(
     links: &L,
@@ -81,14 +81,14 @@ pub(crate) fn step<L: RBTreeOps>(
     let Some(place) = current else {
         return PlaceWord::of(end_from_null(links, root, other(side))).get();
     };
-    // as a word, which all ways lead to
+    // The word that all branches compute.
     match child(links, place, side) {
         Some(below) => PlaceWord::of(Some(outermost(links, below, other(side)))).get(),
         None => PlaceWord::of(above_on(links, place, side)).get(),
     }
 }
 
-// The hole beside a position: the member below which it is, none in an empty tree, and the side of that member.
+// The hole beside a position: the member below which it is, `None` in an empty tree, and the side of that member.
 #[inline]
 pub(crate) fn hole_beside<L: RBTreeOps>(
     links: &L,

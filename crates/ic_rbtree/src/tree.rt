@@ -19,24 +19,24 @@ ghost use Rattle.ic_rbtree.specs.Transplants.{TakesAway, TakesPlace};
 ghost use Rattle.ic_rbtree.specs.Tree.{head_of, root_in, root_of, ends_of, adapter_of};
 
 use crate::Probe;
+use crate::bounded::step_bounded;
 use crate::head::{Root, TreeHead, WithEnds};
 use crate::keys::descent::{Descent, descend};
 use crate::nodes::NodeStore;
-use crate::within::step_within;
 use ic_link_ops::Side;
 use ic_link_ops::rbtree::RBTreeOps;
 use ic_unsafe_ref::{Place, Values};
 
-/// A red-black tree of objects in an order, of which it keeps the root, and the adapter that finds their keys.
+/// A red-black tree of objects in an order. It stores its root, and the adapter that finds the keys.
 ///
-/// Good for objects in order that come and leave anywhere. Which sequence it has is what the table represents for its root. What it keeps beside
-/// the root is a parameter: nothing, or with [`WithEnds`](crate::WithEnds) its first and its last member.
+/// Good for objects in order that are inserted and removed anywhere. The tree has the sequence that the table represents for its root. A type
+/// parameter says what it stores besides the root: nothing, or with [`WithEnds`](crate::WithEnds) its first and its last member.
 pub struct RBTree<A, E = Root> {
     pub(crate) head: E,
     pub(crate) adapter: A,
 }
 
-/// A tree that keeps its first and its last member beside its root.
+/// A tree that also stores its first and its last member.
 pub type RBTreeCached<A> = RBTree<A, WithEnds>;
 
 impl<A: Drop, E: Drop> Drop for RBTree<A, E> {
@@ -58,7 +58,7 @@ impl<A: Default, E: TreeHead> Default for RBTree<A, E> {
 }
 
 impl<A> RBTree<A> {
-    /// An empty tree with this adapter: every table represents the empty sequence for it.
+    /// An empty tree with this adapter: every table represents the empty sequence for it. O(1).
     pub fn new(adapter: A) -> RBTree<A>
         ensures empty { root_of result ≡ None }
         ensures adapter { adapter_of result ≡ adapter }
@@ -68,7 +68,7 @@ impl<A> RBTree<A> {
 
     /// The tree with this root, as [`RBTree::root`] returns it, and this adapter. It reads no links. O(1).
     ///
-    /// It is another head of the same members: an edit through one of two heads leaves the other as it was.
+    /// The result is a second head of the same members: an edit through one of the two does not update the other.
     #[inline]
     pub fn from_root(adapter: A, root: Option<Place>) -> RBTree<A>
         ensures root { root_of result ≡ root }
@@ -80,7 +80,8 @@ impl<A> RBTree<A> {
         }
     }
 
-    /// The tree with its ends, which are read from the table. It requires that the tree is represented. O(log n).
+    /// The same tree, which also stores its ends. The call finds them in the table. It requires that the table
+    /// represents the tree. O(log n).
     pub fn keep_ends<L: RBTreeOps>(self, links: &L) -> RBTree<A, WithEnds>
         requires shown { RepresentsSome L.node (L.table links.now) (root_of self) }
         ensures root { (ends_of result).root ≡ root_of self }
@@ -98,7 +99,7 @@ impl<A> RBTree<A> {
 }
 
 impl<A> RBTree<A, WithEnds> {
-    /// An empty tree with this adapter that keeps its ends: every table represents the empty sequence for it.
+    /// An empty tree with this adapter that stores its ends: every table represents the empty sequence for it. O(1).
     pub fn with_ends(adapter: A) -> RBTree<A, WithEnds>
         ensures empty { ends_of result ≡ no_ends }
         ensures adapter { adapter_of result ≡ adapter }
@@ -106,7 +107,7 @@ impl<A> RBTree<A, WithEnds> {
         RBTree::empty(adapter)
     }
 
-    /// The tree without its ends. O(1).
+    /// The same tree, which stores only its root. O(1).
     #[inline]
     pub fn forget_ends(self) -> RBTree<A>
         ensures root { root_of result ≡ (ends_of self).root }
@@ -130,7 +131,7 @@ impl<A, E: TreeHead> RBTree<A, E> {
         }
     }
 
-    /// The root, `None` where the tree has no members. It reads no links. O(1).
+    /// The root, `None` if the tree has no members. It reads no links. O(1).
     #[inline]
     pub fn root(&self) -> Option<Place>
         ensures { result ≡ root_in E.kept self.now }
@@ -138,7 +139,7 @@ impl<A, E: TreeHead> RBTree<A, E> {
         self.head.root()
     }
 
-    /// Whether the tree has no members. It reads no links.
+    /// Whether the tree has no members. It reads no links. O(1).
     #[inline]
     pub fn is_empty(&self) -> bool
         ensures { IsTrue result ↔ (root_in E.kept self.now ≡ None) }
@@ -148,7 +149,7 @@ impl<A, E: TreeHead> RBTree<A, E> {
 }
 
 impl<A: Copy, E> RBTree<A, E> {
-    /// The adapter that the tree was made with.
+    /// The adapter that the tree was made with. O(1).
     #[inline]
     pub fn adapter(&self) -> A
         ensures { result ≡ adapter_of self.now }
@@ -157,14 +158,16 @@ impl<A: Copy, E> RBTree<A, E> {
     }
 }
 
-// The layer under the calls of a tree, over whatever has nodes. A set of places is closed if each of it is linked, and the
-// children and the parents of all of them and the root are none or in it.
+// The layer under the calls of a tree, over any store of nodes. A set of places is closed if each place in it is linked,
+// and the root, and the children and the parents of all places in it, are none or in the set.
 impl<A, E: TreeHead> RBTree<A, E> {
-    /// Puts `place` in on this side of `parent`, which has no child there, and repairs the colors. With no parent the tree is
-    /// empty.
+    /// Inserts `place` on this side of `parent`, which has no child there, and repairs the colors. If there is no parent, the
+    /// tree is empty.
     ///
-    /// It requires a set that has `place` and `parent` and is closed, but that `place` may lead anywhere. It ends and leaves that
-    /// set closed whatever the words say, and of a tree it makes one with `place`. O(log n).
+    /// It requires a set that contains `place` and `parent` and is closed, except that the links of `place` may lead anywhere.
+    /// The call terminates and leaves that set closed, whatever the words contain. If the table holds a tree, the result is that
+    /// tree with `place` inserted. O(log n).
+    #[inline(always)]
     pub fn attach<N: NodeStore>(
         &mut self,
         nodes: &mut N,
@@ -184,10 +187,10 @@ impl<A, E: TreeHead> RBTree<A, E> {
         self.head.attach(nodes, parent, side, place);
     }
 
-    /// Takes the member at `place` out, and repairs the colors. The place stays linked.
+    /// Removes the member at `place`, and repairs the colors. The place stays linked.
     ///
-    /// It requires a closed set that has `place`. It ends and leaves that set closed whatever the words say, and of a tree it makes
-    /// one without `place`. O(log n).
+    /// It requires a closed set that contains `place`. The call terminates and leaves that set closed, whatever the words contain.
+    /// If the table holds a tree, the result is that tree without `place`. O(log n).
     pub fn unlink<N: NodeStore>(&mut self, nodes: &mut N, place: Place)
         requires { IsSafe N.node (N.table nodes.old) (root_in E.kept self.old) (Some place ∷ []) }
         ensures taken { TakesAway N.node (N.table nodes.old) (N.table nodes.new) (root_in E.kept self.old) (root_in E.kept self.new) place }
@@ -201,10 +204,11 @@ impl<A, E: TreeHead> RBTree<A, E> {
         self.head.unlink(nodes, place);
     }
 
-    /// Puts `new` in place of the member at `place`, in its color. Both stay linked.
+    /// Replaces the member at `place` by `new`, with its color. Both stay linked.
     ///
-    /// It requires two places, and for a set that has both and is closed, but that `new` may lead anywhere. It leaves that set closed
-    /// whatever the words say, and of a tree it makes one with `new` where `place` was. O(1).
+    /// It requires two different places, and a set that contains both and is closed, except that the links of `new` may lead
+    /// anywhere. The call leaves that set closed, whatever the words contain. If the table holds a tree, the result is that tree with
+    /// `new` instead of `place`. O(1).
     pub fn take_place<N: NodeStore>(&mut self, nodes: &mut N, place: Place, new: Place)
         requires safe { IsSafeBut N.node (N.table nodes.old) (root_in E.kept self.old) new (Some place ∷ Some new ∷ []) }
         requires apart { place ≢ new }
@@ -219,24 +223,25 @@ impl<A, E: TreeHead> RBTree<A, E> {
         self.head.take_place(nodes, place, new);
     }
 
-    /// Where a step to a side leads from a position: to the member beside it, from null to the end on the other side, from that end
-    /// to null.
+    /// The position to which a step to a side leads: the next member on that side; from null the end on the other side; from the
+    /// last member on that side null.
     ///
-    /// It requires a closed set that has the position. It ends whatever the words say. O(log n), and O(1) on average over a walk.
+    /// It requires a closed set that contains the position. The call terminates, whatever the words contain. O(log n), and O(1)
+    /// on average over a walk.
     #[inline]
     pub fn step<N: NodeStore>(&self, nodes: &N, current: Option<Place>, side: Side) -> Option<Place>
         requires { IsSafe N.node (N.table nodes.now) (root_in E.kept self.now) (current ∷ []) }
         ensures { (gap : Cut) → Represents N.node (N.table nodes.now) (root_in E.kept self.now) (join gap) → IsBeside side gap current
             → IsBeside (across side) gap result }
     {
-        step_within(nodes, self.head.root(), current, side)
+        step_bounded(nodes, self.head.root(), current, side)
     }
 
-    /// Goes down from the root to the gap to which a probe sends: after the members that are less than what is searched, before
+    /// Goes down from the root to the gap where the probe's key belongs: after the members that are less than the key, before
     /// those that are greater, and past equal ones to the side `equals`.
     ///
-    /// It requires that an object stands at each member, and that the probe's count is at most `u64::MAX - 66`. O(log n): v looks in a
-    /// tree of n members, where `2^v <= (n + 1)^2`, and `2^(v + 1) <= (n + 1)^2` where n is at least 1.
+    /// It requires that all members are placed, and that the probe's count is at most `u64::MAX - 66`. O(log n): v comparisons in a
+    /// tree of n members, with `2^v <= (n + 1)^2`, and `2^(v + 1) <= (n + 1)^2` if n is at least 1.
     #[inline]
     pub fn descend<L: RBTreeOps, V, P: Probe<V>, O: Values<V>>(
         &self,

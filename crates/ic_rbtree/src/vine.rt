@@ -1,7 +1,7 @@
-//! A vine, a tree without left children: linked places in order, of which each is the right child of the one before.
+//! A vine is a tree without left children: linked places in order, each the right child of the one before.
 //!
-//! A tree becomes a vine, and a vine a tree, in place and in O(n), as in Day, Stout and Warren's algorithm. A vine has no colors and no
-//! parents: only right children are read.
+//! These functions make a vine of a tree and a tree of a vine, in place and in O(n), as in Day, Stout and Warren's algorithm. They read
+//! only the right children of a vine, not its colors and parents.
 //!
 //! ```text
 //! let first = tree_to_vine(links, root, None, TURNS);
@@ -25,7 +25,7 @@ use crate::repair::writers::{adopt, set_node};
 use ic_link_ops::{Color, PlaceWord};
 use ic_unsafe_ref::Place;
 
-// How many members a vine has from its first one on.
+// The number of members of a vine, from its first one on.
 pub(crate) fn vine_length<N: NodeStore>(links: &N, first: Option<Place>) -> u64
     requires { (s : List Place) × IsWalk (along N.node) (Table.entry (N.table links.now)) first s }
     ensures { (s : List Place) → IsWalk (along N.node) (Table.entry (N.table links.now)) first s → result ≡ length s }
@@ -40,7 +40,7 @@ pub(crate) fn vine_length<N: NodeStore>(links: &N, first: Option<Place>) -> u64
     u64::MAX
 }
 
-// A linked place becomes the last of a vine that ended with `back`.
+// Appends a linked place to a vine that ended with `back`.
 pub(crate) fn hang_after<N: NodeStore>(
     links: &mut N,
     front: &mut PlaceWord,
@@ -60,7 +60,8 @@ pub(crate) fn hang_after<N: NodeStore>(
     }
 }
 
-// The end of a vine, whose member at the other end has `neighbor` beside it now: there is none left where that is none.
+// The end of a vine after a removal at the other end, whose member there is `neighbor` now. If that is `None`, the vine
+// is empty.
 #[inline]
 pub(crate) fn end_beyond(neighbor: Option<Place>, end: Option<Place>) -> Option<Place>
     ensures { result ≡ end_of neighbor None end }
@@ -71,7 +72,7 @@ pub(crate) fn end_beyond(neighbor: Option<Place>, end: Option<Place>) -> Option<
     }
 }
 
-// The color of a member with this black height, which counts it.
+// The color of a member, given its black height, which counts the member itself.
 fn color_at(height: u32) -> Color
     ensures { weight result + (height - 1) ≡ height }
 {
@@ -81,17 +82,18 @@ fn color_at(height: u32) -> Color
     }
 }
 
-// The tree of the first `count` members of a vine, and the member after them. Each way down it has `height` black members: its sizes
-// left and right differ by one at most, all levels but the lowest are full, and the members of that one are red if it is not full.
+// Makes a tree of the first `count` members of a vine, and returns it with the member after them. Each path down has `height` black
+// members: at each member the sizes left and right differ by at most one, so all levels except the lowest are full. If the lowest
+// level is not full, its members are red.
 pub(crate) fn vine_to_tree<N: NodeStore>(
     links: &mut N,
     first: Option<Place>,
     count: u64,
     height: u32,
 ) -> (Option<Place>, Option<Place>)
-    requires { (s : List Place) × (behind : Option Place) × IsVineOf N.node (N.table links.old) first count height s behind }
-    ensures grown { (s : List Place) (behind : Option Place) → IsVineOf N.node (N.table links.old) first count height s behind
-        → BecomesTree N.node (N.table links.old) (N.table links.new) result.0 result.1 height s behind }
+    requires { (s : List Place) × (after : Option Place) × IsVineOf N.node (N.table links.old) first count height s after }
+    ensures grown { (s : List Place) (after : Option Place) → IsVineOf N.node (N.table links.old) first count height s after
+        → BecomesTree N.node (N.table links.old) (N.table links.new) result.0 result.1 height s after }
     ensures keeps_links { N.KeepsLinks links.old links.new }
 {
     if count == 0 {
@@ -111,28 +113,28 @@ pub(crate) fn vine_to_tree<N: NodeStore>(
     (Some(place), rest)
 }
 
-// The members of the tree with this root become a vine before `behind`, of which this is the first.
+// Makes a vine of the members of the tree with this root, with `after` after them. Returns the first member.
 pub(crate) fn tree_to_vine<N: NodeStore>(
     links: &mut N,
     root: Option<Place>,
-    behind: Option<Place>,
+    after: Option<Place>,
     turns: u32,
 ) -> Option<Place>
     requires tree { (up : Option Place) × (t : Tree) × IsTreeOf N.node (N.table links.old) root up t × (height t ≤ turns) }
-    requires named { IsNamed N.node (N.table links.old) behind }
+    requires named { IsNamed N.node (N.table links.old) after }
     ensures laid { (up : Option Place) (t : Tree) → IsTreeOf N.node (N.table links.old) root up t → height t ≤ turns
-        → BecomesVine N.node (N.table links.old) (N.table links.new) result (in_order t) behind }
+        → BecomesVine N.node (N.table links.old) (N.table links.new) result (in_order t) after }
     ensures keeps_links { N.KeepsLinks links.old links.new }
 {
     let Some(place) = root else {
-        return behind;
+        return after;
     };
     if turns == 0 {
-        return behind;
+        return after;
     }
     let left = links.left(place);
     let right = links.right(place);
-    let next = tree_to_vine(links, right, behind, turns - 1);
+    let next = tree_to_vine(links, right, after, turns - 1);
     links.set_right(place, next);
     tree_to_vine(links, left, Some(place), turns - 1)
 }

@@ -17,9 +17,9 @@ use ic_link_ops::rbtree::RBTreeOps;
 use std::mem;
 
 impl<A: KeyAdapter, E: TreeHead> RBTree<A, E> {
-    /// Takes all objects off the tree: each member is unlinked, in order, and the tree is empty.
+    /// Removes all objects from the tree: each member is unlinked, in order, and the tree is empty.
     ///
-    /// One step for each member, and no memory. Trees that share no member with this one stay.
+    /// One step for each member, and no memory. Trees that share no member with this one stay as they are. O(n).
     pub fn clear<L: RBTreeOps>(&mut self, links: &mut L)
         requires shown { RepresentsKeptSome E.kept L.node (L.table links.old) (head_of self.old) }
 
@@ -33,7 +33,7 @@ impl<A: KeyAdapter, E: TreeHead> RBTree<A, E> {
         self.take().dispose(links);
     }
 
-    /// Takes all objects off a tree that is given up. What [`clear`](Self::clear) says of the table holds here as well.
+    /// Removes all objects from a tree and consumes the tree. The table changes as in [`clear`](Self::clear). O(n).
     pub fn dispose<L: RBTreeOps>(self, links: &mut L)
         requires shown { RepresentsKeptSome E.kept L.node (L.table links.old) (head_of self) }
 
@@ -49,8 +49,8 @@ impl<A: KeyAdapter, E: TreeHead> RBTree<A, E> {
 impl<A: Copy, E: TreeHead> RBTree<A, E> {
     /// Empties the tree, and leaves the objects that were in it linked. O(1): it reads no table.
     ///
-    /// A linked object goes into no tree, until the table is made to forget its link, by the call `force_unlink` of a
-    /// plain one.
+    /// The objects stay linked, so no tree accepts them until the table unlinks them. For a plain table, `force_unlink`
+    /// does this.
     #[inline]
     pub fn fast_clear(&mut self)
         ensures empty { IsEmptied (E.kept (head_of self.new)) }
@@ -59,7 +59,7 @@ impl<A: Copy, E: TreeHead> RBTree<A, E> {
         let _ = self.take();
     }
 
-    /// Hands out all of the tree, and leaves it empty. O(1): it reads no table, and no link changes.
+    /// Returns all of the tree, and leaves it empty. O(1): it reads no table, and no link changes.
     #[inline]
     pub fn take(&mut self) -> RBTree<A, E>
         ensures whole { result ≡ self.old }

@@ -125,24 +125,24 @@ module _ {E : Type 0} {n : E → Neighbors} where
   -- OUT: p leaves the circle where its two neighbors are turned to each other
   pub circle_closed : {t0 t1 t2 : Place → E} (p : Place) (r : List Place) → IsCircle n t0 (p ∷ r)
       → TurnsAfter (IsBetween n) t0 t1 (last r) (Some p) (first r) → TurnsBefore (IsBetween n) t1 t2 (first r) (Some p) (last r) → IsCircle n t2 r
-  circle_closed {t0} {t1} {t2} p r c behind before = record {
+  circle_closed {t0} {t1} {t2} p r c after before = record {
     distinct = c.distinct.1;
     chain = chain_first (IsBetween n) t1 t2 (Some p) (last r) r (first r) before c.distinct.1
-        (chain_last (IsBetween n) t0 t1 (Some p) r (Some p) (first r) behind c.distinct.1 c.chain.1);
+        (chain_last (IsBetween n) t0 t1 (Some p) r (Some p) (first r) after c.distinct.1 c.chain.1);
   }
 
   -- and so of any stretch
   pub circle_bypassed : {t0 t1 t2 : Place → E} (out r : List Place) → IsCircle n t0 (out ++ r)
       → TurnsAfter (IsBetween n) t0 t1 (last r) (first (out ++ r)) (first r)
       → TurnsBefore (IsBetween n) t1 t2 (first r) (last_or (last (out ++ r)) out) (last r) → IsCircle n t2 r
-  circle_bypassed {t0} {t1} {t2} out r c behind before =
+  circle_bypassed {t0} {t1} {t2} out r c after before =
       let b = IsBetween n in
       let distinct = distinct_right out r c.distinct in
       let cut = chain_cut b t0 (last (out ++ r)) out r (first (out ++ r)) c.chain in
       record {
         distinct = distinct;
         chain = chain_first b t1 t2 (last_or (last (out ++ r)) out) (last r) r (first r) before distinct
-            (chain_last b t0 t1 (last_or (last (out ++ r)) out) r (first (out ++ r)) (first r) behind distinct cut.1);
+            (chain_last b t0 t1 (last_or (last (out ++ r)) out) r (first (out ++ r)) (first r) after distinct cut.1);
       }
 
   -- IN: p, which stands between the last and the first already, is put between them where both are turned to it
@@ -150,15 +150,15 @@ module _ {E : Type 0} {n : E → Neighbors} where
       → IsBetween n (t0 p) (last r) (first r)
       → TurnsAfter (IsBetween n) t0 t1 (last r) (first r) (Some p) → TurnsBefore (IsBetween n) t1 t2 (first r) (last r) (Some p)
       → IsCircle n t2 (p ∷ r)
-  circle_filled p [] {b} e c out stands behind before = absurd (none_not b (sym e))
-  circle_filled {t0} {t1} {t2} p (x ∷ r) e c out stands behind before =
-      let kept : t2 p ≡ t0 p = before.others p (λ e. out.0 (sym (some_same e))) ∙ behind.others p (last_not None (x ∷ r) p (none_not p) out) in
+  circle_filled p [] {b} e c out stands after before = absurd (none_not b (sym e))
+  circle_filled {t0} {t1} {t2} p (x ∷ r) e c out stands after before =
+      let kept : t2 p ≡ t0 p = before.others p (λ e. out.0 (sym (some_same e))) ∙ after.others p (last_not None (x ∷ r) p (none_not p) out) in
       record {
         distinct = (out, c.distinct);
         chain = (
           rw kept stands,
           chain_first (IsBetween n) t1 t2 (last (x ∷ r)) (Some p) (x ∷ r) (Some p) before c.distinct
-              (chain_last (IsBetween n) t0 t1 (last (x ∷ r)) (x ∷ r) (Some x) (Some p) behind c.distinct c.chain),
+              (chain_last (IsBetween n) t0 t1 (last (x ∷ r)) (x ∷ r) (Some x) (Some p) after c.distinct c.chain),
         );
       }
 

@@ -21,9 +21,9 @@ module _ {E : Type 0} {n : E → Neighbors} {t0 t1 : Place → E} {h k x y : Pla
   joined_at_back s t c d to_x to_y = joins (h ∷ s) (k ∷ t) c d (apart_too h s k u t c other apart d) (sym to_x ∙ c.chain.0.prev) (sym to_y ∙ d.chain.0.prev)
 
   -- a place and the second head were: the second ring, and then its head, stand after the place
-  pub joined_behind : (front back t : List Place) → IsCircle n t0 (h ∷ (front ++ back)) → Some x ≡ last (h ∷ front) → IsCircle n t0 (k ∷ t) → y ≡ k
+  pub joined_at_end : (front back t : List Place) → IsCircle n t0 (h ∷ (front ++ back)) → Some x ≡ last (h ∷ front) → IsCircle n t0 (k ∷ t) → y ≡ k
       → IsCircle n t1 (h ∷ (front ++ ((t ++ k ∷ []) ++ back)))
-  joined_behind front back t c is_x d is_y =
+  joined_at_end front back t c is_x d is_y =
       let r = back ++ h ∷ front in
       let v = t ++ k ∷ [] in
       let one = absent_swap (k ∷ t) (h ∷ (front ++ back)) (disjoint_sym (h ∷ (front ++ back)) (k ∷ t) (apart_too h (front ++ back) k u t c other apart d)) r

@@ -32,7 +32,7 @@ module _ {E : Type 0} {n : E → Neighbors} (t : Table E) (covered : (q : Place)
       let cut = chain_cut (IsBetween n) t.entry (last (end ∷ (given ++ x ∷ w))) (end ∷ given) (x ∷ w) (Some end) c.chain in
       let walk : IsWalk n t.entry (Some x) (last (x ∷ w)) (x ∷ w) = record {
         before = last (end ∷ given);
-        behind = Some end;
+        after = Some end;
         part = record { distinct = distinct_right (end ∷ given) (x ∷ w) c.distinct; chain = cut.1; starts = refl; ends = refl };
       } in
       rw (starts, goes, c.chain.0.prev, ends) (walk_represented t covered (Some x) (last (x ∷ w)) (x ∷ w) walk)

@@ -1,4 +1,4 @@
--- What clauses see of a cursor that edits.
+-- A cursor that edits, as contracts see it.
 use Rattle.std.specs.Prelude.{◌≡◌, List, [], ◌∷◌}
 use Rattle.std.specs.Borrow.{MutBor}
 use Rattle.ic_link_ops.specs.Prelude.{Place, Table, ChangesOnlyIn}
@@ -8,7 +8,7 @@ use Rattle.ic_ring.specs.RingCursors.{IsValidCursor}
 use Rattle.ic_ring.specs.declared.cursor_mut.CursorMut.{CursorMut}
 
 module _ {T L : Type 0} where
-  -- the table, the head of the ring, and where the cursor stands
+  -- the table, the head of the ring, and the place that the cursor is on
   abbrev pub links_of : CursorMut T L → L
   links_of c = c.links.now
 
@@ -18,28 +18,28 @@ module _ {T L : Type 0} where
   abbrev pub at_of : CursorMut T L → Place
   at_of c = c.at
 
-  -- it edits this table, which is as it was
+  -- the cursor edits this table, which is as it was
   abbrev pub IsBorrowed : MutBor L → CursorMut T L → Type 0
   IsBorrowed links c = (c.links.ghost_name ≡ links.ghost_name) × (c.links.now ≡ links.now)
 
-  -- it edits the same ring of the same table
+  -- the cursor edits the same ring of the same table
   abbrev pub SameRing : CursorMut T L → CursorMut T L → Type 0
   SameRing old new = (head_of new ≡ head_of old) × (new.links.ghost_name ≡ old.links.ghost_name)
 
   module _ {E : Type 0} (neighbors : E → Neighbors) (table : L → Table E) where
-    -- THE TABLE SHOWS s for the ring of the cursor
+    -- THE TABLE REPRESENTS s for the ring of the cursor
     abbrev pub RepresentsAt : CursorMut T L → List Place → Type 0
     RepresentsAt c s = Represents neighbors (table (links_of c)) (head_of c) s
 
-    -- it stands in the ring
+    -- the cursor is on a place of its ring
     abbrev pub IsValid : CursorMut T L → Type 0
     IsValid c = IsValidCursor neighbors (table (links_of c)) (head_of c) (at_of c)
 
-    -- nothing is changed but entries of the ring and of these places
+    -- no entries are changed except those of the ring and of these places
     abbrev pub ChangesOnlyInRing : CursorMut T L → CursorMut T L → (List Place → List Place) → Type 0
     ChangesOnlyInRing old new and = (s : List Place) → RepresentsAt old s → ChangesOnlyIn (table (links_of old)) (table (links_of new)) (and s)
 
-    -- AN EDIT LEAVES THE CURSOR in its ring, which has changed alone: the others stay, and each entry but its own and those of these places
+    -- AN EDIT LEAVES THE CURSOR in its ring, and changes no other ring. No entries are changed except those of the ring and of these places
     pub record StaysInRing (old new : CursorMut T L) (and : List Place → List Place) : Type 0 where
       pub stands : IsValid new
       pub same : SameRing old new

@@ -1,4 +1,4 @@
--- What clauses see of a walk over a ring's objects.
+-- A walk over a ring's objects, as contracts see it.
 use Rattle.std.specs.Prelude.{◌≡◌, Some, List, ◌++◌}
 use Rattle.ic_link_ops.specs.Prelude.{Place, Objects, first_or, Table, ArePlaced, values_at}
 use Rattle.ic_link_ops.specs.LinkedList.{Neighbors}
@@ -7,16 +7,16 @@ use Rattle.ic_ring.specs.declared.iter.Iter.{Iter}
 
 -- `values`: the values by place
 module _ {T L O E : Type 0} (neighbors : E → Neighbors) (table : L → Table E) (values : O → Objects T) where
-  -- the objects that the walk has not given out yet
+  -- the objects that the walk has not returned yet
   abbrev pub objects_left : Iter T L O → List T
   objects_left t = values_at (values t.objects.now) (members_until neighbors (table t.links.now) (Some t.front) t.end)
 
-  -- these members are left: read from the walk's end, they are the last ones of the ring
+  -- these members remain: read from the walk's end, they are the last ones of the ring
   pub record IsLeft (t : Iter T L O) (w : List Place) : Type 0 where
     pub given : List Place
     pub ring : Represents neighbors (table t.links.now) t.end (given ++ w)
     pub starts : Some t.front ≡ first_or w (Some t.end)
 
-  -- there are such members, all of them placed
+  -- some sequence of members remains, maybe the empty one, and all of them are placed
   abbrev pub CanWalk : Iter T L O → Type 0
   CanWalk t = (w : List Place) × IsLeft t w × ArePlaced (values t.objects.now) w

@@ -1,4 +1,4 @@
-//! Calls that name no ring: a place stands in one ring at most, and its own neighbors lead to the others.
+//! Calls that take no ring. A place is in at most one ring, and its neighbors lead to the ring's other places.
 //!
 //! ```text
 //! remove(&mut links, &object);                 // from whichever ring it is in
@@ -17,21 +17,21 @@ use ic_link_ops::linked_list::LinkedListOps;
 use ic_link_ops::{AlreadyLinked, LinkOps};
 use ic_unsafe_ref::{Place, UnsafeRef};
 
-/// The place after one that stands in a ring. After the last member stands the head. O(1).
+/// The place after one that is in a ring. After the last member comes the head. O(1).
 ///
-/// It requires that the place stands in a ring of the table.
+/// It requires that the place is in a ring of the table.
 #[inline]
 pub fn next<L: LinkedListOps>(links: &L, place: Place) -> Place
     requires ring { InRing L.neighbors (L.table links.now) place }
-    ensures behind { (s : List Place) → Represents L.neighbors (L.table links.now) place s → Some result ≡ first_or s (Some place) }
+    ensures after { (s : List Place) → Represents L.neighbors (L.table links.now) place s → Some result ≡ first_or s (Some place) }
     ensures ring { InRing L.neighbors (L.table links.now) result }
 {
     next_of(links, place)
 }
 
-/// The place before one that stands in a ring. Before the first member stands the head. O(1).
+/// The place before one that is in a ring. Before the first member comes the head. O(1).
 ///
-/// It requires that the place stands in a ring of the table.
+/// It requires that the place is in a ring of the table.
 #[inline]
 pub fn prev<L: LinkedListOps>(links: &L, place: Place) -> Place
     requires ring { InRing L.neighbors (L.table links.now) place }
@@ -41,52 +41,52 @@ pub fn prev<L: LinkedListOps>(links: &L, place: Place) -> Place
     prev_of(links, place)
 }
 
-// Puts the place between two neighbors of a ring, and answers whether its link was acquired.
+// Links the place between two neighbors of a ring, and returns whether its link was acquired.
 #[inline]
 pub(crate) fn insert_between<L: LinkedListOps>(
     links: &mut L,
     before: Place,
     place: Place,
-    behind: Place,
+    after: Place,
 ) -> bool
     requires covered { IsCovered (L.table links.old) place }
-    requires ring { InRing L.neighbors (L.table links.old) behind }
-    requires before { (neighbors_at L.neighbors (L.table links.old) behind).prev ≡ Some before }
-    ensures inserted { (s : List Place) → Represents L.neighbors (L.table links.old) behind s
-        → OnTrue result (IsCircle L.neighbors (L.table links.new).entry (place ∷ behind ∷ s)) }
+    requires ring { InRing L.neighbors (L.table links.old) after }
+    requires before { (neighbors_at L.neighbors (L.table links.old) after).prev ≡ Some before }
+    ensures inserted { (s : List Place) → Represents L.neighbors (L.table links.old) after s
+        → OnTrue result (IsCircle L.neighbors (L.table links.new).entry (place ∷ after ∷ s)) }
     ensures acquired { OnTrue result (L.Trace links.old links.new (acquires place ∷ [])) }
     ensures refused { OnFalse result (L.Refused links.old links.new place) }
-    ensures others { OthersStay L.neighbors (L.table links.old) (L.table links.new) (behind ∷ []) }
+    ensures others { OthersStay L.neighbors (L.table links.old) (L.table links.new) (after ∷ []) }
     ensures extent { (L.table links.new).extent ≡ (L.table links.old).extent }
-    ensures beside { (q : Place) → q ≢ before → q ≢ place → q ≢ behind → (L.table links.new).entry q ≡ (L.table links.old).entry q }
+    ensures beside { (q : Place) → q ≢ before → q ≢ place → q ≢ after → (L.table links.new).entry q ≡ (L.table links.old).entry q }
 {
-    if !links.link_between(place, Some(before), Some(behind)) {
+    if !links.link_between(place, Some(before), Some(after)) {
         return false;
     }
-    turn_to(links, before, place, behind);
+    turn_to(links, before, place, after);
     true
 }
 
-// Takes the place out from between its two neighbors, and unlinks it.
+// Removes the place from between its two neighbors, and unlinks it.
 #[inline]
-pub(crate) fn unlink<L: LinkedListOps>(links: &mut L, before: Place, place: Place, behind: Place)
+pub(crate) fn unlink<L: LinkedListOps>(links: &mut L, before: Place, place: Place, after: Place)
     requires ring { InRing L.neighbors (L.table links.old) place }
     requires before { (neighbors_at L.neighbors (L.table links.old) place).prev ≡ Some before }
-    requires behind { (neighbors_at L.neighbors (L.table links.old) place).next ≡ Some behind }
+    requires after { (neighbors_at L.neighbors (L.table links.old) place).next ≡ Some after }
     ensures taken { (r : List Place) → Represents L.neighbors (L.table links.old) place r → IsCircle L.neighbors (L.table links.new).entry r }
     ensures released { L.Trace links.old links.new (releases place ∷ []) }
     ensures others { OthersStay L.neighbors (L.table links.old) (L.table links.new) (place ∷ []) }
     ensures extent { (L.table links.new).extent ≡ (L.table links.old).extent }
-    ensures beside { (q : Place) → q ≢ before → q ≢ place → q ≢ behind → (L.table links.new).entry q ≡ (L.table links.old).entry q }
+    ensures beside { (q : Place) → q ≢ before → q ≢ place → q ≢ after → (L.table links.new).entry q ≡ (L.table links.old).entry q }
 {
-    bypass(links, before, behind);
+    bypass(links, before, after);
     links.release_link(place);
 }
 
-/// Takes the object out of its ring, whichever that is, and unlinks it. O(1). Linux: `list_del`.
+/// Removes the object from its ring, whichever that is, and unlinks it. O(1). Linux: `list_del`.
 ///
-/// It requires that the object stands in a ring of the table. The ring's other members stay in their order, and every other ring and every
-/// list of the table stays as it is. A ring with no members is closed by the removal of its head.
+/// It requires that the object is in a ring of the table. The ring's other members stay in their order, and every other ring and every
+/// list of the table stays as it is. To end a ring with no members, remove its head.
 #[inline]
 pub fn remove<T, L: LinkedListOps>(links: &mut L, object: &UnsafeRef<T>)
     requires member { InRing L.neighbors (L.table links.old) object.now }
@@ -103,11 +103,11 @@ pub fn remove<T, L: LinkedListOps>(links: &mut L, object: &UnsafeRef<T>)
     unlink(links, prev, place, next);
 }
 
-/// Puts the object before a place that stands in a ring, unless its link is refused. O(1), and it takes no memory.
+/// Inserts the object before a place that is in a ring, unless its link is refused. O(1), and it takes no memory.
 ///
-/// Before a head it is the last member. It requires that the object's place is covered, and that the other place stands in a ring. A
-/// refused object comes back, and nothing has changed: over a plain table that is so exactly if the object is linked in it. Linux:
-/// `list_add_tail`.
+/// Before a head it becomes the last member. It requires that the object's place is covered, and that the other place is in a ring.
+/// If the link is refused, the object is returned and nothing has changed. A plain table refuses the link exactly if the object is
+/// linked in it. Linux: `list_add_tail`.
 #[inline]
 pub fn insert_before<T, L: LinkedListOps>(
     links: &mut L,
@@ -135,9 +135,9 @@ pub fn insert_before<T, L: LinkedListOps>(
     Ok(())
 }
 
-/// Puts the object after a place that stands in a ring, unless its link is refused. O(1), and it takes no memory.
+/// Inserts the object after a place that is in a ring, unless its link is refused. O(1), and it takes no memory.
 ///
-/// After a head it is the first member. It requires and returns what [`insert_before`] does. Linux: `list_add`.
+/// After a head it becomes the first member. It requires and returns what [`insert_before`] does. Linux: `list_add`.
 #[inline]
 pub fn insert_after<T, L: LinkedListOps>(
     links: &mut L,
@@ -165,10 +165,11 @@ pub fn insert_after<T, L: LinkedListOps>(
     Ok(())
 }
 
-/// Puts the object where another one stands in a ring, and unlinks that, unless its own link is refused. O(1), and it takes no memory.
+/// Replaces an object in a ring by another one, and unlinks the first, unless the link of the other is refused. O(1), and it takes no
+/// memory.
 ///
-/// It requires that the object's place is covered, and that the other one stands in a ring. A refused object comes back, and nothing has
-/// changed. Linux: `list_replace`.
+/// It requires that the new object's place is covered, and that the old one is in a ring. If the link is refused, the new object is
+/// returned and nothing has changed. Linux: `list_replace`.
 #[inline]
 pub fn replace<T, L: LinkedListOps>(
     links: &mut L,

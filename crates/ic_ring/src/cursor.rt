@@ -20,7 +20,7 @@ use ic_unsafe_ref::{Objects, Place};
 use std::alloc::{AllocError, Allocator};
 use std::marker::PhantomData;
 
-/// A position in a ring: on a member, or on the head, which stands between the last member and the first.
+/// A cursor that reads: on a member, or on the head, which is between the last member and the first.
 pub struct Cursor<'a, T, L> {
     links: &'a L,
     of: PhantomData<T>,
@@ -47,7 +47,7 @@ pub(crate) fn member_on(head: Place, at: Place) -> Option<Place>
     if at == head { None } else { Some(at) }
 }
 
-// The object of that member.
+// The object at a place of the ring with this head, none at the head.
 #[inline]
 pub(crate) fn object_on<T, A: Allocator>(
     objects: &Objects<T, A>,
@@ -105,7 +105,7 @@ impl<'a, T, L: LinkedListOps> Cursor<'a, T, L> {
 
     /// Moves to the next member, from the head to the first one, and from the last one to the head. O(1).
     ///
-    /// It requires that the cursor stands in the ring. The gap that was after the cursor is then before it.
+    /// It requires that the cursor is valid. The gap that was after the cursor is before it afterwards.
     #[inline]
     pub fn move_next(&mut self)
         requires stands { IsValid L.neighbors L.table self.old }
@@ -118,7 +118,7 @@ impl<'a, T, L: LinkedListOps> Cursor<'a, T, L> {
 
     /// Moves to the previous member, from the head to the last one, and from the first one to the head. O(1).
     ///
-    /// It requires that the cursor stands in the ring. The gap that was before the cursor is then after it.
+    /// It requires that the cursor is valid. The gap that was before the cursor is after it afterwards.
     #[inline]
     pub fn move_prev(&mut self)
         requires stands { IsValid L.neighbors L.table self.old }
@@ -165,7 +165,7 @@ impl<T> Ring<T> {
 
     /// A cursor on a member, or on the head, that reads. O(1).
     ///
-    /// It requires that the place stands in this ring.
+    /// It requires that the place is in this ring.
     #[inline]
     pub fn cursor_at<'a, L: LinkedListOps>(&self, links: &'a L, at: Place) -> Cursor<'a, T, L>
         requires here { (r : List Place) × Represents L.neighbors (L.table links.now) self.now r × IsMember at (self.now ∷ r) }

@@ -16,7 +16,7 @@ ghost use Rattle.ic_ring.specs.RingCursors.{IsAfter, IsBefore, IsOn, MovesOn, Mo
 
 use crate::beside::{insert_after, insert_before, replace, unlink};
 use crate::cursor::{Cursor, member_on, object_on};
-use crate::exchanges::splice_behind;
+use crate::exchanges::splice_after_place;
 use crate::ring::Ring;
 use crate::surgery::{next_of, prev_of};
 use ic_link_ops::linked_list::LinkedListOps;
@@ -25,7 +25,7 @@ use ic_unsafe_ref::{Objects, Place, UnsafeRef};
 use std::alloc::Allocator;
 use std::marker::PhantomData;
 
-/// A position in a ring that it edits, with the table of its links: on a member, or on the head.
+/// A cursor that edits, on a member or on the head. It borrows the table of the ring's links.
 pub struct CursorMut<'a, T, L> {
     links: &'a mut L,
     of: PhantomData<T>,
@@ -102,7 +102,7 @@ impl<'a, T, L: LinkedListOps> CursorMut<'a, T, L> {
 
     /// Moves to the next member, from the head to the first one, and from the last one to the head. O(1).
     ///
-    /// It requires that the cursor stands in the ring. The gap that was after the cursor is then before it.
+    /// It requires that the cursor is valid. The gap that was after the cursor is before it afterwards.
     #[inline]
     pub fn move_next(&mut self)
         requires stands { IsValid L.neighbors L.table self.old }
@@ -116,7 +116,7 @@ impl<'a, T, L: LinkedListOps> CursorMut<'a, T, L> {
 
     /// Moves to the previous member, from the head to the last one, and from the first one to the head. O(1).
     ///
-    /// It requires that the cursor stands in the ring. The gap that was before the cursor is then after it.
+    /// It requires that the cursor is valid. The gap that was before the cursor is after it afterwards.
     #[inline]
     pub fn move_prev(&mut self)
         requires stands { IsValid L.neighbors L.table self.old }
@@ -128,10 +128,11 @@ impl<'a, T, L: LinkedListOps> CursorMut<'a, T, L> {
         self.at = prev_of(&*self.links, self.at);
     }
 
-    /// Puts the object after the cursor, on the head before the first member, unless its link is refused. O(1), and no memory.
+    /// Inserts the object after the cursor, unless its link is refused. On the head this is before the first member. O(1), and
+    /// no memory.
     ///
-    /// It requires that the cursor stands in the ring, and that the object's place is covered. The cursor stays where it is. A refused
-    /// object comes back, and nothing has changed.
+    /// It requires that the cursor is valid, and that the object's place is covered. The cursor stays where it is. If the link is
+    /// refused, the object is returned and nothing has changed.
     #[inline]
     pub fn insert_after(&mut self, object: UnsafeRef<T>) -> Result<(), AlreadyLinked<T>>
         requires covered { IsCovered (L.table (links_of self.old)) object }
@@ -147,7 +148,8 @@ impl<'a, T, L: LinkedListOps> CursorMut<'a, T, L> {
         insert_after(self.links, self.at, object)
     }
 
-    /// Puts the object before the cursor, on the head after the last member, unless its link is refused. O(1), and no memory.
+    /// Inserts the object before the cursor, unless its link is refused. On the head this is after the last member. O(1), and
+    /// no memory.
     ///
     /// It requires and returns what [`CursorMut::insert_after`] does.
     #[inline]
@@ -165,10 +167,9 @@ impl<'a, T, L: LinkedListOps> CursorMut<'a, T, L> {
         insert_before(self.links, self.at, object)
     }
 
-    /// Takes the member that the cursor is on out of the ring, unlinks it and returns it, `None` on the head. O(1).
+    /// Removes the member that the cursor is on, unlinks it and returns it, `None` on the head. O(1).
     ///
-    /// It requires that the cursor stands in the ring. The cursor goes on to the next member, or to the head. On the head nothing has
-    /// changed.
+    /// It requires that the cursor is valid. The cursor moves to the next member, or to the head. On the head nothing changes.
     #[inline]
     pub fn remove(&mut self) -> Option<UnsafeRef<T>>
         requires stands { IsValid L.neighbors L.table self.old }
@@ -192,10 +193,10 @@ impl<'a, T, L: LinkedListOps> CursorMut<'a, T, L> {
         Some(UnsafeRef::new(place))
     }
 
-    /// Puts the object in the place of the member that the cursor is on, which is unlinked and returned. O(1), and no memory.
+    /// Replaces the member that the cursor is on by the object, unlinks that member and returns it. O(1), and no memory.
     ///
-    /// It requires that the cursor stands in the ring, and that the object's place is covered. The cursor is on the object then. On the head,
-    /// and where the object's link is refused, the object comes back and nothing has changed.
+    /// It requires that the cursor is valid, and that the object's place is covered. The cursor is on the object then. On the head, and if
+    /// the object's link is refused, the object is returned and nothing has changed.
     #[inline]
     pub fn replace_with(&mut self, object: UnsafeRef<T>) -> Result<UnsafeRef<T>, ReplaceError<T>>
         requires covered { IsCovered (L.table (links_of self.old)) object }
@@ -222,9 +223,10 @@ impl<'a, T, L: LinkedListOps> CursorMut<'a, T, L> {
         Ok(out)
     }
 
-    /// Puts all members of another ring after the cursor. The other ring is empty then. O(1), and no link step.
+    /// Moves all members of another ring after the cursor. The other ring is empty then. O(1), and no link is acquired
+    /// or released.
     ///
-    /// It requires that the cursor stands in its ring, and that they are two rings. The cursor stays where it is. Linux: `list_splice_init`.
+    /// It requires that the cursor is valid, and that the two rings are different. The cursor stays where it is. Linux: `list_splice_init`.
     #[inline]
     pub fn splice_after(&mut self, given: &Ring<T>)
         requires stands { IsValid L.neighbors L.table self.old }
@@ -240,10 +242,11 @@ impl<'a, T, L: LinkedListOps> CursorMut<'a, T, L> {
             → ChangesOnlyInRing L.neighbors L.table self.old self.new (λ s. (head_of self.old ∷ s) ++ (given.now ∷ t)) }
         ensures same { SameRing self.old self.new }
     {
-        splice_behind(self.links, self.at, given.head());
+        splice_after_place(self.links, self.at, given.head());
     }
 
-    /// Puts all members of another ring before the cursor. The other ring is empty then. O(1), and no link step.
+    /// Moves all members of another ring before the cursor. The other ring is empty then. O(1), and no link is acquired
+    /// or released.
     ///
     /// It requires what [`CursorMut::splice_after`] does. The cursor stays where it is. Linux: `list_splice_tail_init`.
     #[inline]
@@ -262,12 +265,13 @@ impl<'a, T, L: LinkedListOps> CursorMut<'a, T, L> {
         ensures same { SameRing self.old self.new }
     {
         let prev = prev_of(&*self.links, self.at);
-        splice_behind(self.links, prev, given.head());
+        splice_after_place(self.links, prev, given.head());
     }
 
-    /// Moves the members after the cursor to the front of another ring, on the head all of them. O(1), and no link step.
+    /// Moves the members after the cursor, or all members on the head, to the front of another ring. O(1), and no link
+    /// is acquired or released.
     ///
-    /// It requires that the cursor stands in its ring, and that they are two rings. The cursor stays where it is.
+    /// It requires that the cursor is valid, and that the two rings are different. The cursor stays where it is.
     #[inline]
     pub fn split_after(&mut self, rest: &Ring<T>)
         requires stands { IsValid L.neighbors L.table self.old }
@@ -307,7 +311,7 @@ impl<T> Ring<T> {
 
     /// A cursor on a member, or on the head, that edits. O(1).
     ///
-    /// It requires that the place stands in this ring.
+    /// It requires that the place is in this ring.
     #[inline]
     pub fn cursor_mut_at<'a, L: LinkedListOps>(
         &self,

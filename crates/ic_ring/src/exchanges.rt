@@ -1,4 +1,4 @@
-//! One edit that joins two rings, and cuts one in two: two places exchange what stands after them.
+//! One edit that joins two rings, or cuts one in two: two places exchange their next places.
 //!
 //! ```text
 //! ready.splice_back(&mut links, &late);        // all of `late` after all of `ready`
@@ -16,11 +16,11 @@ use ic_link_ops::LinkOps;
 use ic_link_ops::linked_list::LinkedListOps;
 use ic_unsafe_ref::Place;
 
-/// Two places that stand in rings exchange what stands after them. O(1), and no link step.
+/// Exchanges the next places of two places that are in rings. O(1), and no link is acquired or released.
 ///
-/// So two rings are joined: after the first place stands what stood after the second, up to that, and then what stood after the first.
-/// One ring is cut so between the two. The same call again takes it back, and a place and itself exchange nothing. It requires that both places
-/// stand in rings of the table.
+/// If the places are in two rings, these are joined: after the first place come the places that followed the second, up to the second itself,
+/// and then those that followed the first. If they are in one ring, it is cut in two. The same call again reverts this. If both places are the
+/// same, nothing changes. It requires that both places are in rings of the table.
 #[inline]
 pub fn exchange<L: LinkedListOps>(links: &mut L, first: Place, second: Place)
     requires first { InRing L.neighbors (L.table links.old) first }
@@ -43,9 +43,10 @@ pub fn exchange<L: LinkedListOps>(links: &mut L, first: Place, second: Place)
     links.set_prev(after_first, Some(second));
 }
 
-// Puts all members of the ring with the second head after a place of another ring. The ring with that head is empty then.
+// Moves all members of the ring with the second head after a place of another ring. The ring with that head is empty
+// then.
 #[inline]
-pub(crate) fn splice_behind<L: LinkedListOps>(links: &mut L, at: Place, given: Place)
+pub(crate) fn splice_after_place<L: LinkedListOps>(links: &mut L, at: Place, given: Place)
     requires ring { InRing L.neighbors (L.table links.old) at }
     requires apart { (t : List Place) × Represents L.neighbors (L.table links.old) given t × IsAbsent at (given ∷ t) }
     ensures spliced { (r t : List Place) → Represents L.neighbors (L.table links.old) at r → Represents L.neighbors (L.table links.old) given t
@@ -61,9 +62,10 @@ pub(crate) fn splice_behind<L: LinkedListOps>(links: &mut L, at: Place, given: P
 }
 
 impl<T> Ring<T> {
-    /// Puts all members of another ring after those of this one. The other ring is empty then. O(1), and no link step.
+    /// Moves all members of another ring after those of this one. The other ring is empty then. O(1), and no link is
+    /// acquired or released.
     ///
-    /// It requires that they are two rings. Linux: `list_splice_tail_init`.
+    /// It requires that the two rings are different. Linux: `list_splice_tail_init`.
     #[inline]
     pub fn splice_back<L: LinkedListOps>(&self, links: &mut L, given: &Ring<T>)
         requires shown { InRing L.neighbors (L.table links.old) self.now }
@@ -83,9 +85,10 @@ impl<T> Ring<T> {
         exchange(links, last, given_head);
     }
 
-    /// Moves what stands after a place of this ring to the front of another ring. After the head that is all. O(1), and no link step.
+    /// Moves the members after a place of this ring to the front of another ring. If the place is the head, these are all members.
+    /// O(1), and no link is acquired or released.
     ///
-    /// It requires that the place stands in this ring, as its head or as a member, and that they are two rings.
+    /// It requires that the place is in this ring, as its head or as a member, and that the two rings are different.
     #[inline]
     pub fn split_after<L: LinkedListOps>(&self, links: &mut L, at: Place, rest: &Ring<T>)
         requires cut { (front back : List Place) × Represents L.neighbors (L.table links.old) self.now (front ++ back) × (Some at ≡ last (self.now ∷ front)) }

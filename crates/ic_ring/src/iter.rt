@@ -21,9 +21,9 @@ use ic_unsafe_ref::{Objects, Place, Values};
 use std::alloc::AllocError;
 use std::marker::PhantomData;
 
-/// The objects of a ring that are not given out yet: from the front by `next`, and from the back by `next_back`.
+/// A walk over the objects of a ring: `next` returns them from the front, and `next_back` from the back.
 ///
-/// It keeps the first place of what is left and the one after the last, which is the head at first. Where the two are one, nothing is left.
+/// It stores the first remaining place and the one after the last, which is the head at first. If the two are the same, no object is left.
 pub struct Iter<'a, T, L, O = Objects<T>> {
     links: &'a L,
     objects: &'a O,
@@ -56,7 +56,7 @@ impl<'a, T, L: LinkedListOps, O: Values<T>> Iterator for Iter<'a, T, L, O> {
 
     ghost remaining = { item_count (objects_left L.neighbors L.table O.values) };
 
-    /// The next object. O(1): one reading of an entry, and one look-up of the object.
+    /// The next object, or `None` if none is left. O(1): one reading of an entry, and one look-up of the object.
     fn next(&mut self) -> Option<&'a T> {
         let place = self.front;
         if place == self.end {
@@ -76,7 +76,7 @@ impl<'a, T, L: LinkedListOps, O: Values<T>> DoubleEndedIterator for Iter<'a, T, 
 
     ghost next_back_gives = { GivesLast (objects_left L.neighbors L.table O.values) };
 
-    /// The next object from the back. O(1), as `next`.
+    /// The next object from the back, or `None` if none is left. O(1), as `next`.
     fn next_back(&mut self) -> Option<&'a T> {
         if self.front == self.end {
             return None;

@@ -1,8 +1,8 @@
 //! Rings: doubly linked lists whose head is a place of the same table.
 //!
-//! A head and its members stand in a circle, so that each place has a neighbor on either side. A member leaves, moves and gets neighbors
-//! without its ring being named, and no edit tests for an end. These are the lists of Linux (`list.h`), over places. Good where objects
-//! change their queue often, and where who removes an object does not know its queue.
+//! A head and its members form a circle, so each place has a neighbor on either side. Calls that remove a member, move it or insert
+//! beside it do not take its ring, and no edit tests for an end. These are the lists of Linux (`list.h`), over places. Good for objects
+//! that often move from queue to queue, and for callers that remove an object without knowing its queue.
 //!
 //! ```text
 //! let mut links = linked_list::LinkOps::new(rt.alloc());
@@ -15,7 +15,7 @@
 //! remove(&mut links, &first); // from whichever ring it is in
 //! ```
 //!
-//! [`Cursor`] reads a ring, and [`CursorMut`] edits it where it stands.
+//! [`Cursor`] reads a ring, and [`CursorMut`] edits it at a position.
 #![tactic(auto)]
 
 mod beside;

@@ -1,4 +1,4 @@
-//! Objects that change their place, in their ring or to another one, and keep their link.
+//! Calls that move an object within its ring or to another one. The object stays linked.
 //!
 //! ```text
 //! move_before(&mut links, place, &object);   // from whichever ring it is in
@@ -16,7 +16,7 @@ use ic_link_ops::LinkOps;
 use ic_link_ops::linked_list::LinkedListOps;
 use ic_unsafe_ref::{Place, UnsafeRef};
 
-// Takes the place out of its ring. It stays linked.
+// Removes the place from its ring. It stays linked.
 #[inline]
 fn detach<L: LinkedListOps>(links: &mut L, place: Place)
     requires ring { InRing L.neighbors (L.table links.old) place }
@@ -32,28 +32,28 @@ fn detach<L: LinkedListOps>(links: &mut L, place: Place)
     bypass(links, prev, next);
 }
 
-// Puts the linked place, which is in no ring, between two neighbors of a ring.
+// Inserts the linked place, which is in no ring, between two neighbors of a ring.
 #[inline]
-fn insert_linked<L: LinkedListOps>(links: &mut L, before: Place, place: Place, behind: Place)
+fn insert_linked<L: LinkedListOps>(links: &mut L, before: Place, place: Place, after: Place)
     requires held { IsLinked L.linked (L.table links.old) place }
-    requires ring { InRing L.neighbors (L.table links.old) behind }
-    requires before { (neighbors_at L.neighbors (L.table links.old) behind).prev ≡ Some before }
-    ensures put { (s : List Place) → Represents L.neighbors (L.table links.old) behind s → IsAbsent place (behind ∷ s)
-        → IsCircle L.neighbors (L.table links.new).entry (place ∷ behind ∷ s) }
+    requires ring { InRing L.neighbors (L.table links.old) after }
+    requires before { (neighbors_at L.neighbors (L.table links.old) after).prev ≡ Some before }
+    ensures put { (s : List Place) → Represents L.neighbors (L.table links.old) after s → IsAbsent place (after ∷ s)
+        → IsCircle L.neighbors (L.table links.new).entry (place ∷ after ∷ s) }
     ensures trace_stays { L.Trace links.old links.new [] }
-    ensures others { (r : List Place) → IsCircle L.neighbors (L.table links.old).entry r → IsAbsent place r → IsAbsent behind r
+    ensures others { (r : List Place) → IsCircle L.neighbors (L.table links.old).entry r → IsAbsent place r → IsAbsent after r
         → IsCircle L.neighbors (L.table links.new).entry r }
     ensures extent { (L.table links.new).extent ≡ (L.table links.old).extent }
-    ensures beside { (q : Place) → q ≢ before → q ≢ place → q ≢ behind → (L.table links.new).entry q ≡ (L.table links.old).entry q }
+    ensures beside { (q : Place) → q ≢ before → q ≢ place → q ≢ after → (L.table links.new).entry q ≡ (L.table links.old).entry q }
 {
-    set_neighbors(links, place, before, behind);
-    turn_to(links, before, place, behind);
+    set_neighbors(links, place, before, after);
+    turn_to(links, before, place, after);
 }
 
-/// Moves the object before a place that stands in a ring, from whichever ring it is in. O(1), and its link is not given up.
+/// Moves the object from whichever ring it is in before a place that is in a ring. O(1), and the object stays linked.
 ///
-/// Before a head it is the last member. It requires that both stand in rings of the table, and are two places. Linux:
-/// `list_move_tail`.
+/// Before a head it becomes the last member. It requires that both are in rings of the table, and are different places.
+/// Linux: `list_move_tail`.
 #[inline]
 pub fn move_before<T, L: LinkedListOps>(links: &mut L, at: Place, object: &UnsafeRef<T>)
     requires ring { InRing L.neighbors (L.table links.old) at }
@@ -77,9 +77,9 @@ pub fn move_before<T, L: LinkedListOps>(links: &mut L, at: Place, object: &Unsaf
     insert_linked(links, prev, place, at);
 }
 
-/// Moves the object after a place that stands in a ring, from whichever ring it is in. O(1), and its link is not given up.
+/// Moves the object from whichever ring it is in after a place that is in a ring. O(1), and the object stays linked.
 ///
-/// After a head it is the first member. It requires what [`move_before`] does. Linux: `list_move`.
+/// After a head it becomes the first member. It requires what [`move_before`] does. Linux: `list_move`.
 #[inline]
 pub fn move_after<T, L: LinkedListOps>(links: &mut L, at: Place, object: &UnsafeRef<T>)
     requires ring { InRing L.neighbors (L.table links.old) at }
@@ -104,10 +104,10 @@ pub fn move_after<T, L: LinkedListOps>(links: &mut L, at: Place, object: &Unsafe
 }
 
 impl<T> Ring<T> {
-    /// Moves the object to the back of this ring, from whichever ring it is in. O(1), and its link is not given up.
+    /// Moves the object to the back of this ring, from whichever ring it is in. O(1), and the object stays linked.
     ///
-    /// It requires that the object stands in a ring of the table, and is not the head of this one. Good for queues of what was used last.
-    /// Linux: `list_move_tail`.
+    /// It requires that the object is in a ring of the table, and is not the head of this one. Good for queues in the order of the last
+    /// use. Linux: `list_move_tail`.
     #[inline]
     pub fn move_to_back<L: LinkedListOps>(&self, links: &mut L, object: &UnsafeRef<T>)
         requires shown { InRing L.neighbors (L.table links.old) self.now }
@@ -126,7 +126,7 @@ impl<T> Ring<T> {
         move_before(links, self.head(), object);
     }
 
-    /// Moves the object to the front of this ring, from whichever ring it is in. O(1), and its link is not given up.
+    /// Moves the object to the front of this ring, from whichever ring it is in. O(1), and the object stays linked.
     ///
     /// It requires what [`Ring::move_to_back`] does. Linux: `list_move`.
     #[inline]

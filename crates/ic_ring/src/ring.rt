@@ -16,10 +16,10 @@ use ic_link_ops::{AlreadyLinked, LinkOps};
 use ic_unsafe_ref::{Place, UnsafeRef};
 use std::marker::{Model, PhantomData};
 
-/// A ring of objects, named by its head: a place of the table at which no object is linked. Good for queues.
+/// A ring of objects, given by its head, which is a place of the table without an object. Good for queues.
 ///
-/// The head never changes, so no call writes the ring itself. A clause sees the head. Which members the ring has is what the table represents
-/// for it.
+/// The head never changes, so no call writes the ring itself. Contracts see the head; the ring has the members that the table represents for
+/// it.
 pub struct Ring<T> {
     head: Place,
     of: PhantomData<T>,
@@ -40,10 +40,10 @@ impl<T> Drop for Ring<T> {
 }
 
 impl<T> Ring<T> {
-    /// A ring with no members, at this head, unless its link is refused. O(1), and it takes no memory.
+    /// Makes a ring with no members and this head, unless the head's link is refused. O(1), and it takes no memory.
     ///
-    /// It requires that the head is covered. The head is linked to itself, so that no list or ring of the table takes it in. Where its link
-    /// is refused, nothing has changed. Linux: `INIT_LIST_HEAD`.
+    /// It requires that the head is covered. The head is linked to itself, so no list or ring of the table accepts it. If its link is
+    /// refused, nothing has changed. Linux: `INIT_LIST_HEAD`.
     #[inline]
     pub fn open<L: LinkedListOps>(links: &mut L, head: Place) -> Option<Ring<T>>
         requires covered { IsCovered (L.table links.old) head }
@@ -59,9 +59,10 @@ impl<T> Ring<T> {
         Some(Ring::from_head(head))
     }
 
-    /// The ring with this head, for who keeps the heads of his rings himself. O(1).
+    /// The ring with this head, for callers who store the heads of their rings themselves. O(1).
     ///
-    /// It requires nothing of it: which members the ring has, if any, is what a table represents for it. [`Ring::head`] reads it again.
+    /// It requires nothing of the head: the ring has the members, if any, that a table represents for it. [`Ring::head`] returns the
+    /// head.
     #[inline]
     pub fn from_head(head: Place) -> Ring<T>
         ensures { result ≡ head }
@@ -117,10 +118,10 @@ impl<T> Ring<T> {
         self.first(links).is_none()
     }
 
-    /// Puts the object at the back of the ring, unless its link is refused. O(1), and it takes no memory.
+    /// Inserts the object at the back of the ring, unless its link is refused. O(1), and it takes no memory.
     ///
-    /// It requires that the object's place is covered. A refused object comes back, and nothing has changed: over a plain table that is so
-    /// exactly if the object is linked in it. Linux: `list_add_tail`.
+    /// It requires that the object's place is covered. If the link is refused, the object is returned and nothing has changed. A plain
+    /// table refuses the link exactly if the object is linked in it. Linux: `list_add_tail`.
     #[inline]
     pub fn push_back<L: LinkedListOps>(
         &self,
@@ -146,7 +147,7 @@ impl<T> Ring<T> {
         Ok(())
     }
 
-    /// Puts the object at the front of the ring, unless its link is refused. O(1), and it takes no memory.
+    /// Inserts the object at the front of the ring, unless its link is refused. O(1), and it takes no memory.
     ///
     /// It requires and returns what [`Ring::push_back`] does. Good for stacks. Linux: `list_add`.
     #[inline]
@@ -174,7 +175,7 @@ impl<T> Ring<T> {
         Ok(())
     }
 
-    /// Takes the object at the front off the ring and returns it, or `None` if the ring is empty. O(1).
+    /// Removes the object at the front of the ring and returns it, or `None` if the ring is empty. O(1).
     #[inline]
     pub fn pop_front<L: LinkedListOps>(&self, links: &mut L) -> Option<UnsafeRef<T>>
         requires shown { InRing L.neighbors (L.table links.old) self.now }
@@ -194,7 +195,7 @@ impl<T> Ring<T> {
         Some(UnsafeRef::new(front))
     }
 
-    /// Takes the object at the back off the ring and returns it, or `None` if the ring is empty. O(1).
+    /// Removes the object at the back of the ring and returns it, or `None` if the ring is empty. O(1).
     #[inline]
     pub fn pop_back<L: LinkedListOps>(&self, links: &mut L) -> Option<UnsafeRef<T>>
         requires shown { InRing L.neighbors (L.table links.old) self.now }
@@ -214,7 +215,8 @@ impl<T> Ring<T> {
         Some(UnsafeRef::new(back))
     }
 
-    /// Takes all objects off the ring: each member is unlinked, and the head is linked to itself. O(n), and no memory.
+    /// Removes all objects from the ring: each member is unlinked, and the head is linked to itself. O(n), and no
+    /// memory.
     pub fn clear<L: LinkedListOps>(&self, links: &mut L)
         requires shown { InRing L.neighbors (L.table links.old) self.now }
 

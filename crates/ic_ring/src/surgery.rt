@@ -1,7 +1,7 @@
-//! What reads and writes neighbors.
+//! Functions that read and write neighbors.
 //!
-//! The calls that write them require no ring, but only that the places which they write are linked: they are for who keeps rings in words
-//! of his own and tests them himself.
+//! The calls that write neighbors do not require a ring, but only that the places which they write are linked. They are for callers who
+//! store rings in words of their own and test them themselves.
 //!
 //! ```text
 //! bypass(&mut links, before, after);         // out: what stood between the two has left the ring
@@ -17,8 +17,8 @@ use ic_link_ops::LinkOps;
 use ic_link_ops::linked_list::LinkedListOps;
 use ic_unsafe_ref::Place;
 
-// The place, where there is one. The program does not test it: at none it reads the first of no places, and since no index is tested, the
-// compiler drops that branch.
+// The place in an option that is `Some`. The compiled program does not test this: for `None` the function would read the first element of
+// an empty slice. The compiler removes bounds checks here, so it drops that branch.
 #[inline(always)]
 fn there(place: Option<Place>) -> Place
     requires there { IsSome place }
@@ -33,7 +33,7 @@ fn there(place: Option<Place>) -> Place
     }
 }
 
-// The place after one that stands in a ring.
+// The place after one that is in a ring.
 #[inline]
 pub(crate) fn next_of<L: LinkedListOps>(links: &L, place: Place) -> Place
     requires { InRing L.neighbors (L.table links.now) place }
@@ -42,7 +42,7 @@ pub(crate) fn next_of<L: LinkedListOps>(links: &L, place: Place) -> Place
     there(links.next(place))
 }
 
-// The place before one that stands in a ring.
+// The place before one that is in a ring.
 #[inline]
 pub(crate) fn prev_of<L: LinkedListOps>(links: &L, place: Place) -> Place
     requires { InRing L.neighbors (L.table links.now) place }
@@ -51,64 +51,66 @@ pub(crate) fn prev_of<L: LinkedListOps>(links: &L, place: Place) -> Place
     there(links.prev(place))
 }
 
-/// Turns two places to each other. What stood between them, however many, has left their ring, and stays linked. O(1).
+/// Makes two places neighbors of each other. The places between them, however many, have left the ring then, and stay
+/// linked. O(1).
 ///
-/// It requires only that both are linked. Whatever the other words say, it writes these two alone, and links and unlinks nothing. Linux:
-/// `__list_del`.
+/// It requires only that both are linked. Whatever the other words contain, it writes these two entries alone, and links and unlinks
+/// nothing. Linux: `__list_del`.
 #[inline]
-pub fn bypass<L: LinkedListOps>(links: &mut L, before: Place, behind: Place)
+pub fn bypass<L: LinkedListOps>(links: &mut L, before: Place, after: Place)
     requires before { IsLinked L.linked (L.table links.old) before }
-    requires behind { IsLinked L.linked (L.table links.old) behind }
+    requires after { IsLinked L.linked (L.table links.old) after }
     ensures closed { (p : Place) (r : List Place) → IsCircle L.neighbors (L.table links.old).entry (p ∷ r)
-        → Some before ≡ last r → Some behind ≡ first r → IsCircle L.neighbors (L.table links.new).entry r }
+        → Some before ≡ last r → Some after ≡ first r → IsCircle L.neighbors (L.table links.new).entry r }
     ensures stretch { (out r : List Place) → IsCircle L.neighbors (L.table links.old).entry (out ++ r)
-        → Some before ≡ last r → Some behind ≡ first r → IsCircle L.neighbors (L.table links.new).entry r }
-    ensures turned { TurnsTo L.neighbors (L.table links.old) (L.table links.new) before behind behind before }
+        → Some before ≡ last r → Some after ≡ first r → IsCircle L.neighbors (L.table links.new).entry r }
+    ensures turned { TurnsTo L.neighbors (L.table links.old) (L.table links.new) before after after before }
     ensures trace_stays { L.Trace links.old links.new [] }
     ensures extent { (L.table links.new).extent ≡ (L.table links.old).extent }
-    ensures others { (q : Place) → q ≢ before → q ≢ behind → (L.table links.new).entry q ≡ (L.table links.old).entry q }
+    ensures others { (q : Place) → q ≢ before → q ≢ after → (L.table links.new).entry q ≡ (L.table links.old).entry q }
 {
-    links.set_next(before, Some(behind));
-    links.set_prev(behind, Some(before));
+    links.set_next(before, Some(after));
+    links.set_prev(after, Some(before));
 }
 
-/// Turns two places to a third one, which stands between them already, and is in their ring then. O(1).
+/// Makes two places neighbors of a third one, whose entry already names both. The third place is in their ring then.
+/// O(1).
 ///
-/// It requires only that both are linked, and that the table's words have room for the third. Whatever the other words say, it writes these
-/// two alone, and links and unlinks nothing. Linux: `__list_add`, whose other two writes are the table's `link_between`.
+/// It requires only that both are linked, and that the table can name the third. Whatever the other words contain, it writes these two
+/// entries alone, and links and unlinks nothing. Linux: `__list_add`, whose other two writes are the table's `link_between`.
 #[inline]
-pub fn turn_to<L: LinkedListOps>(links: &mut L, before: Place, place: Place, behind: Place)
+pub fn turn_to<L: LinkedListOps>(links: &mut L, before: Place, place: Place, after: Place)
     requires before { IsLinked L.linked (L.table links.old) before }
-    requires behind { IsLinked L.linked (L.table links.old) behind }
+    requires after { IsLinked L.linked (L.table links.old) after }
     requires place { L.CanName place }
     ensures filled { (r : List Place) → IsCircle L.neighbors (L.table links.old).entry r → IsAbsent place r
-        → Some before ≡ last r → Some behind ≡ first r
-        → IsBetween L.neighbors ((L.table links.old).entry place) (Some before) (Some behind)
+        → Some before ≡ last r → Some after ≡ first r
+        → IsBetween L.neighbors ((L.table links.old).entry place) (Some before) (Some after)
         → IsCircle L.neighbors (L.table links.new).entry (place ∷ r) }
-    ensures turned { TurnsTo L.neighbors (L.table links.old) (L.table links.new) before behind place place }
+    ensures turned { TurnsTo L.neighbors (L.table links.old) (L.table links.new) before after place place }
     ensures trace_stays { L.Trace links.old links.new [] }
     ensures extent { (L.table links.new).extent ≡ (L.table links.old).extent }
-    ensures others { (q : Place) → q ≢ before → q ≢ behind → (L.table links.new).entry q ≡ (L.table links.old).entry q }
+    ensures others { (q : Place) → q ≢ before → q ≢ after → (L.table links.new).entry q ≡ (L.table links.old).entry q }
 {
     links.set_next(before, Some(place));
-    links.set_prev(behind, Some(place));
+    links.set_prev(after, Some(place));
 }
 
-// Puts the linked place between two others. They are not turned to it.
+// Sets both neighbors of the linked place. It does not change the neighbors' entries.
 #[inline]
 pub(crate) fn set_neighbors<L: LinkedListOps>(
     links: &mut L,
     place: Place,
     before: Place,
-    behind: Place,
+    after: Place,
 )
     requires linked { IsLinked L.linked (L.table links.old) place }
     requires before { L.CanName before }
-    requires behind { L.CanName behind }
-    ensures stands { IsBetween L.neighbors ((L.table links.new).entry place) (Some before) (Some behind) }
+    requires after { L.CanName after }
+    ensures stands { IsBetween L.neighbors ((L.table links.new).entry place) (Some before) (Some after) }
     ensures frame { ChangesOnly (L.table links.old) (L.table links.new) place }
     ensures trace_stays { L.Trace links.old links.new [] }
 {
     links.set_prev(place, Some(before));
-    links.set_next(place, Some(behind));
+    links.set_next(place, Some(after));
 }

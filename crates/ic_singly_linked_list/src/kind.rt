@@ -1,4 +1,4 @@
-//! The kind of singly linked lists: each entry names the place after, and a list keeps its first member alone.
+//! The kind of singly linked lists: each entry names the place after, and a list stores only its first member.
 //!
 //! ```text
 //! let list: Chain<SinglyLinked, Job> = Chain::new();
@@ -14,10 +14,10 @@ use ic_link_ops::{LinkOps, PlaceWord};
 use ic_unsafe_ref::Place;
 use std::marker::Model;
 
-/// Lists whose entries name the place after alone.
+/// Lists whose entries name only the place after.
 pub struct SinglyLinked;
 
-/// What such a list keeps of its last member: nothing.
+/// What such a list stores about its last member: nothing.
 #[derive(Drop)]
 pub struct NoTail;
 
@@ -104,7 +104,7 @@ impl<L: SinglyLinkedListOps> ForwardLinks<L> for SinglyLinked {
         links.set_next(place, to);
     }
 
-    // No entry says what stands before its place.
+    // No entry names the place before.
     #[inline]
     fn set_prev(links: &mut L, place: Place, from: Option<Place>, to: Option<Place>) {
         let _ = &*links;

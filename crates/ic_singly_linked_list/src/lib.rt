@@ -1,7 +1,8 @@
-//! A singly linked list over any table with the next place in an entry.
+//! A singly linked list over any table whose entries name the next place.
 //!
-//! Each operation takes the table of the link field. Linking takes no memory, and one object can be in lists of
-//! several fields. Entries do not lead back, so members are inserted and removed after a known one. [`Chain`] has all calls.
+//! Each operation takes the table of the link field. Linking takes no memory, and one object can be in lists of several
+//! fields. An entry does not name the place before, so calls insert and remove members after a known one. [`Chain`] has all
+//! calls.
 //!
 //! ```text
 //! let mut links = singly_linked_list::LinkOps::new(rt.alloc());
@@ -24,23 +25,23 @@ pub use ic_link_ops::singly_linked_list::{Link, LinkOps, SinglyLinkedListOps};
 use ic_unsafe_ref::Objects;
 pub use kind::{NoTail, SinglyLinked};
 
-/// A singly linked list of objects, of which it keeps the first.
+/// A singly linked list of objects. It stores its first member.
 ///
-/// Good for stacks and free lists, and where an entry should be one word. A clause sees its first member; which sequence it has
-/// is what the table represents for that.
+/// Good for stacks and free lists, and if an entry should be one word. Contracts see its first member; the list has the
+/// sequence that the table represents for it.
 pub type SinglyLinkedList<T> = Chain<SinglyLinked, T>;
 
-/// A position in a list: on a member, or null, which stands before the first.
+/// A cursor that reads: on a member, or at null, which is before the first member.
 pub type Cursor<'a, T, L> = ic_cursors::Cursor<'a, SinglyLinkedList<T>, L>;
 
-/// A position in a list that it edits, with the list and the table of its links.
+/// A cursor that edits. It borrows the list and the table of its links.
 pub type CursorMut<'a, T, L> = ic_cursors::CursorMut<'a, SinglyLinkedList<T>, L>;
 
-/// A position in a list that it keeps. Its calls take the table of the list's links each time.
+/// A cursor that owns its list. Each call takes the table of the list's links.
 pub type CursorOwning<T> = ic_cursors::CursorOwning<SinglyLinkedList<T>>;
 
-/// The objects of a list that are not given out yet, from the front.
+/// A walk over the objects of a list, from the front.
 pub type Iter<'a, T, L, O = Objects<T>> = ic_chain::Iter<'a, SinglyLinked, T, L, O>;
 
-/// The members of a list that are not given out yet, from the front. Each that is given out is unlinked.
+/// A walk that removes the members of a list, from the front. It unlinks each member that it returns.
 pub type IntoIter<'a, T, L> = ic_chain::IntoIter<'a, SinglyLinked, T, L>;

@@ -1,4 +1,4 @@
-//! What calls of a collection are answered as, of objects that are numbers.
+//! Answers for the results of a collection's calls, for objects that are numbers.
 //!
 //! ```text
 //! object(list.pop_front(&mut links)) // `none`, or the index of the place where the object stands
@@ -8,12 +8,12 @@ use crate::notes::{Answer, Text};
 use ic_link_ops::ReplaceError;
 use ic_unsafe_ref::{Objects, Place, UnsafeRef};
 
-/// What a place is answered as: its index.
+/// Returns the answer for a place: its index.
 pub fn number(place: Place) -> Answer {
     Answer::Number(place.index() as u64)
 }
 
-/// What an object that comes back is answered as: where it stands.
+/// Returns the answer for an object that a call returns: the index of its place.
 pub fn object(found: Option<UnsafeRef<u64>>) -> Answer {
     match found {
         Some(object) => number(object.place()),
@@ -21,7 +21,7 @@ pub fn object(found: Option<UnsafeRef<u64>>) -> Answer {
     }
 }
 
-/// What a position is answered as: the member's place, `none` at null.
+/// Returns the answer for a position: the place of the member, or `none` at null.
 pub fn standing(at: Option<Place>) -> Answer {
     match at {
         Some(place) => number(place),
@@ -29,7 +29,7 @@ pub fn standing(at: Option<Place>) -> Answer {
     }
 }
 
-/// What an object's value is answered as.
+/// Returns the answer for an object's value.
 pub fn value(found: Option<&u64>) -> Answer {
     match found {
         Some(value) => Answer::Number(*value),
@@ -37,7 +37,8 @@ pub fn value(found: Option<&u64>) -> Answer {
     }
 }
 
-/// What was replaced: where it stands, or `null` or `linked`, or `another` where not the object at that place came back.
+/// Returns the answer for a replacement: the place of the replaced member, or `null` or `linked`, or `another` if the returned object is not the one
+/// at that place.
 pub fn replaced(given: Result<UnsafeRef<u64>, ReplaceError<u64>>, place: Place) -> Answer {
     match &given {
         Ok(out) => number(out.place()),
@@ -49,7 +50,7 @@ pub fn replaced(given: Result<UnsafeRef<u64>, ReplaceError<u64>>, place: Place) 
     }
 }
 
-/// Places an object of that value, and returns where it stands: `full` or `memory` where it can't.
+/// Places an object with this value, and returns the answer: its place, or `full` or `memory` if it can't.
 pub fn placed(objects: &mut Objects<u64>, value: u64) -> Answer {
     let Some(next) = objects.next_place() else {
         return Answer::Refused("full");

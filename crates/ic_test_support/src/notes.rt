@@ -1,4 +1,4 @@
-//! What the calls of a test answered, note by note, and the text of it.
+//! The results of a test's calls, note by note, and their text.
 //!
 //! ```text
 //! notes.add(object(list.pop_front(&mut links)), " "); // `0 `, or `none `
@@ -7,7 +7,7 @@
 use std::alloc::Global;
 use std::fmt::{self, Write};
 
-/// What a call answers.
+/// The result of a call, as a test notes it.
 #[derive(Drop)]
 pub enum Answer {
     /// There is none: `none`.
@@ -16,7 +16,7 @@ pub enum Answer {
     Number(u64),
     /// Whether something holds: `yes` or `no`.
     Truth(bool),
-    /// Refused, for a reason in a word.
+    /// The call was refused, for a reason in one word.
     Refused(&'static str),
 }
 
@@ -32,9 +32,9 @@ impl fmt::Display for Answer {
     }
 }
 
-/// A text that is written piece by piece, and whether all of it could be.
+/// A text that is written piece by piece, and whether all of it could be written.
 ///
-/// No piece has an outcome, so that what writes many has one way out: a check proves each by itself.
+/// Writing a piece returns nothing, so that a function that writes many pieces has a single exit. The check would prove every exit separately.
 #[derive(Drop)]
 pub struct Text {
     text: String,
@@ -55,12 +55,12 @@ impl Text {
         self.is_whole &= self.text.write_str(word).is_ok();
     }
 
-    /// Writes the answer, and what is to stand after it.
-    pub fn add(&mut self, answer: Answer, behind: &str) {
-        self.is_whole &= write!(self.text, "{answer}{behind}").is_ok();
+    /// Writes the answer, and the text that comes after it.
+    pub fn add(&mut self, answer: Answer, after: &str) {
+        self.is_whole &= write!(self.text, "{answer}{after}").is_ok();
     }
 
-    /// Whether all of it could be written, and it has these words and no others. How they are spaced does not count.
+    /// Returns whether the whole text could be written, and has exactly these words. The spaces between them do not count.
     pub fn has_words(&self, words: &str) -> bool {
         self.is_whole && self.text.split_whitespace().eq(words.split_whitespace())
     }

@@ -1,8 +1,7 @@
 //! An allocator for tests that refuses one chosen request for memory.
 //!
-//! It is for tests in which each growth is refused in turn: the test makes the container over a
-//! `&Rationed`, names the request that is to fail, and looks at what the call answers and at what
-//! the container then holds. The block that a container had stays its own when a growth is refused.
+//! It is for tests in which each growth is refused in turn: the test makes the container over a `&Rationed`, names the request that is to fail, and
+//! checks what the call returns and what the container then has. If a growth is refused, the container keeps the block that it had.
 
 ghost use Rattle.std.specs.Prelude.{◌≡◌, ◌+◌, ◌<◌, ◌↔◌, min, IsTrue};
 
@@ -18,7 +17,7 @@ struct Count {
 }
 
 impl Count {
-    // A refused number of `u64::MAX` stands for none, also where the count has come to its end.
+    // If the number to refuse is `u64::MAX`, none is refused, even when the count has reached that number.
     fn is_refused(self) -> bool
         ensures { IsTrue result ↔ ((self.asked ≡ self.refused) × (self.refused < u64.MAX)) }
     {
@@ -50,7 +49,7 @@ impl Count {
     }
 }
 
-// Counts one more request, for so many bytes, and says whether it is the one to refuse.
+// Counts one more request, for this many bytes, and returns whether it is the one to refuse.
 fn refuses_next(count: &Cell<Count>, size: usize) -> bool {
     let before = count.get();
     count.set(before.one_more(size));
@@ -82,14 +81,13 @@ impl<A: Allocator> Rationed<A> {
         }
     }
 
-    /// How many requests for memory it has been asked since it was made, a refused one included.
-    /// The count stays at `u64::MAX` once it is there.
+    /// Returns how many requests for memory have been made to it, including a refused one. The count stays at `u64::MAX` once it is there.
     pub fn requests(&self) -> u64 {
         self.count.get().asked
     }
 
-    /// How many bytes those requests were for in all, a refused one included, whatever was given back.
-    /// The sum stays at `u64::MAX` once it is there.
+    /// Returns how many bytes all these requests were for, including a refused one. Freed memory is not subtracted. The sum stays at `u64::MAX` once
+    /// it is there.
     pub fn bytes(&self) -> u64 {
         self.count.get().bytes
     }

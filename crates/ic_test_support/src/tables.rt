@@ -1,4 +1,4 @@
-//! What tests read of a whole table.
+//! Functions by which tests read a whole table.
 //!
 //! ```text
 //! write_linked(&mut text, &links); // `0 2 ` where the places 0 and 2 are linked
@@ -13,7 +13,7 @@ use crate::notes::Text;
 use ic_link_ops::{PlainTable, Words};
 use ic_unsafe_ref::{Objects, Place};
 
-/// Whether an object stands at each place that is covered.
+/// Returns whether there is an object at each covered place.
 pub fn are_placed<W: Words>(links: &PlainTable<W>, objects: &Objects<u64>) -> bool
     ensures placed { IsTrue result → (q : Place) → IsCovered (table W.width W.unlinked links.now) q → is_placed objects.now q ≡ true }
 {

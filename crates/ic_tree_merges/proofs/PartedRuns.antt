@@ -137,7 +137,7 @@ module _ {E : Type 0} (n : E → Node) where
 
           pub sift_common : Parting cmp s u (k.common ++ p ∷ []) k.rest (drop 1 k.x) k.y → Sifting old new s u next right ends rest_ends (count + 1)
           sift_common parting =
-              let behind = after_apart k.common p (k.rest ++ drop 1 k.x) common_first in
+              let after = after_apart k.common p (k.rest ++ drop 1 k.x) common_first in
               let e : (k.common ++ p ∷ []) ++ (k.rest ++ drop 1 k.x) ≡ k.common ++ p ∷ (k.rest ++ drop 1 k.x) = append_assoc k.common (p ∷ []) (k.rest ++ drop 1 k.x) in
               record {
                 common = k.common ++ p ∷ [];
@@ -147,8 +147,8 @@ module _ {E : Type 0} (n : E → Node) where
                 y = k.y;
                 distinct = subst IsDistinct (sym e) common_first;
                 common_vine = h.shows;
-                rest_vine = vine_still n h (disjoint_front k.rest (drop 1 k.x) (p ∷ k.common) behind) k.rest_vine;
-                run = record { chain = run_still n h (drop 1 k.x) (disjoint_back k.rest (drop 1 k.x) (p ∷ k.common) behind) left_rest.2; starts = is ∙ left_rest.1; placed = left_placed.1 };
+                rest_vine = vine_still n h (disjoint_front k.rest (drop 1 k.x) (p ∷ k.common) after) k.rest_vine;
+                run = record { chain = run_still n h (drop 1 k.x) (disjoint_back k.rest (drop 1 k.x) (p ∷ k.common) after) left_rest.2; starts = is ∙ left_rest.1; placed = left_placed.1 };
                 parting = parting;
                 cut = k.cut;
                 next = k.next;
@@ -180,7 +180,7 @@ module _ {E : Type 0} (n : E → Node) where
 
           pub sift_rest : Parting cmp s u k.common (k.rest ++ p ∷ []) (drop 1 k.x) k.y → Sifting old new s u next right common_ends ends (count + 1)
           sift_rest parting =
-              let behind = after_apart k.rest p (drop 1 k.x) rest_first in
+              let after = after_apart k.rest p (drop 1 k.x) rest_first in
               let e : (k.rest ++ p ∷ []) ++ drop 1 k.x ≡ k.rest ++ p ∷ drop 1 k.x = append_assoc k.rest (p ∷ []) (drop 1 k.x) in
               record {
                 common = k.common;
@@ -191,7 +191,7 @@ module _ {E : Type 0} (n : E → Node) where
                 distinct = subst (λ (z : List Place). IsDistinct (k.common ++ z)) (sym e) now_distinct;
                 common_vine = vine_still n h (middle_apart k.common k.rest p (drop 1 k.x) now_distinct) k.common_vine;
                 rest_vine = h.shows;
-                run = record { chain = run_still n h (drop 1 k.x) behind left_rest.2; starts = is ∙ left_rest.1; placed = left_placed.1 };
+                run = record { chain = run_still n h (drop 1 k.x) after left_rest.2; starts = is ∙ left_rest.1; placed = left_placed.1 };
                 parting = parting;
                 cut = k.cut;
                 next = k.next;

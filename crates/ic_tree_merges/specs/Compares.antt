@@ -1,4 +1,4 @@
--- What clauses see of an order by keys.
+-- An order by keys, as contracts see it.
 use Rattle.std.specs.Prelude.{ℕ}
 use Rattle.std.specs.declared.cmp.Ordering.{Ordering}
 use Rattle.ic_tree_merges.specs.declared.compares.ByKeys.{ByKeys}

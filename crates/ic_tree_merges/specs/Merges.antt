@@ -1,4 +1,4 @@
--- What a merge of two sequences makes, and what two parts of a sequence are.
+-- The merge of two sequences, and the split of a sequence in two parts.
 use Rattle.std.specs.Prelude.{◌≡◌, ◌⊎◌, Bool, not, Option, Some, None, List, [], ◌∷◌, ◌++◌}
 use Rattle.std.specs.Cmp.{IsTotalOrder}
 use Rattle.std.specs.List.{filter, list_any}
@@ -14,8 +14,8 @@ module _ {X : Type 0} (cmp : X → X → Ordering) where
   abbrev pub is_less : X → X → Bool
   is_less x y = is_lt (cmp x y)
 
-  -- MERGED: r has what s and t have. If the order is one and both were in order, so is r; and what is equal keeps its order, that of s before that of
-  -- t
+  -- MERGED: r has the members of s and t. If the comparison is an order and both were in order, so is r; equal members keep their order, those of s
+  -- before those of t
   pub record Merges (s t r : List X) : Type 0 where
     pub permutes : IsPermutation (s ++ t) r
     pub sorted : IsTotalOrder cmp → IsSorted cmp s → IsSorted cmp t → IsSorted cmp r
@@ -25,27 +25,27 @@ module _ {X : Type 0} (cmp : X → X → Ordering) where
   abbrev pub has_equal : List X → X → Bool
   has_equal t x = list_any (λ y. is_eq (cmp x y)) t
 
--- s is both parts, each in its order
+-- s interleaves both parts, each in its order
 abbrev pub Interleaves : {X : Type 0} → List X → List X → List X → Type 0
 Interleaves a b [] = (a ≡ []) × (b ≡ [])
 Interleaves {X} a b (z ∷ s) = ((a' : List X) × (a ≡ z ∷ a') × Interleaves a' b s) ⊎ ((b' : List X) × (b ≡ z ∷ b') × Interleaves a b' s)
 
 module _ {X : Type 0} (cmp : X → X → Ordering) where
-  -- PARTED: s is what is common and what is not, each in its order. If the order is one and both s and t were in order, what is common is equal to
-  -- one of t, and the rest is not
+  -- SPLIT: s interleaves the common members and the rest, each in its order. If the comparison is an order and both s and t were in order, each
+  -- common member is equal to one of t, and the rest are not
   pub record Parts (s t common rest : List X) : Type 0 where
     pub interleaved : Interleaves common rest s
     pub common_is : IsTotalOrder cmp → IsSorted cmp s → IsSorted cmp t → common ≡ filter (has_equal cmp t) s
     pub rest_is : IsTotalOrder cmp → IsSorted cmp s → IsSorted cmp t → rest ≡ filter (λ x. not (has_equal cmp t x)) s
 
 module _ {V : Type 0} (order : V → V → Ordering) where
-  -- the order of what may stand at a place: nothing goes before what does
+  -- the order of optional objects: a missing one goes before any other
   abbrev pub compared_values : Option V → Option V → Ordering
   compared_values None None = Equal
   compared_values None (Some b) = Less
   compared_values (Some a) None = Greater
   compared_values (Some a) (Some b) = order a b
 
-  -- THE ORDER OF PLACES: that of the objects that stand there
+  -- THE ORDER OF PLACES is the order of the objects at them
   abbrev pub compared_at : Objects V → Place → Place → Ordering
   compared_at objects p q = compared_values (object_at objects p) (object_at objects q)

@@ -1,4 +1,4 @@
--- Two trees that are made one, and one that is parted in two.
+-- Two trees that are merged, and one that is split in two.
 use Rattle.std.specs.Prelude.{Option, List, ◌++◌}
 use Rattle.std.specs.declared.cmp.Ordering.{Ordering}
 use Rattle.ic_link_ops.specs.Prelude.{Place, Objects, IsDisjoint, Table, ChangesOnlyIn, ArePlaced}
@@ -8,7 +8,7 @@ use Rattle.ic_tree_merges.specs.Merges.{Merges, Parts}
 
 -- `Represents t head s`: the table represents s for the tree with this head
 module _ {E H : Type 0} (Represents : Table E → H → List Place → Type 0) where
-  -- TWO of them that share no member, with an object at each member
+  -- TWO TREES that share no member, with an object at each member
   pub record TwoRepresented {V : Type 0} (objects : Objects V) (t : Table E) (a b : H) : Type 0 where
     pub first : List Place
     pub second : List Place
@@ -19,14 +19,14 @@ module _ {E H : Type 0} (Represents : Table E → H → List Place → Type 0) w
     pub other_placed : ArePlaced objects second
 
   module _ (cmp : Place → Place → Ordering) (old new : Table E) where
-    -- MERGED: one of both, and nothing but entries of members is changed
+    -- MERGED: one list has the members of both, and no entries are changed except those of members
     pub record MergesTo (head : H) (s u : List Place) : Type 0 where
       pub merged : List Place
       pub shown : Represents new head merged
       pub is : Merges cmp s u merged
       pub frame : ChangesOnlyIn old new (s ++ u)
 
-    -- PARTED: what is common to s and u, and the rest of s, and nothing but entries of s is changed
+    -- SPLIT: the members of s that are common to s and u, and the rest of s; no entries are changed except those of s
     pub record PartsTo (common_head rest_head : H) (s u : List Place) : Type 0 where
       pub common : List Place
       pub rest : List Place
@@ -36,7 +36,8 @@ module _ {E H : Type 0} (Represents : Table E → H → List Place → Type 0) w
       pub is : Parts cmp s u common rest
       pub frame : ChangesOnlyIn old new s
 
-    -- UNITED: s with what is in u alone, and the rest of u, and nothing but entries of members is changed
+    -- UNITED: s together with the members that are in u alone, and the rest of u; no entries are changed except those
+    -- of members
     pub record UnitesTo (head doubles_head : H) (s u : List Place) : Type 0 where
       pub united : List Place
       pub doubles : List Place
@@ -48,6 +49,6 @@ module _ {E H : Type 0} (Represents : Table E → H → List Place → Type 0) w
       pub frame : ChangesOnlyIn old new (s ++ u)
 
 module _ {E : Type 0} (n : E → Node) where
-  -- THE TREE with this root IS AS LOW AS CAN BE, whatever members the table represents for it
+  -- THE TREE with this root HAS THE LEAST HEIGHT for the members that the table represents for it
   abbrev pub RepresentsLowest : Table E → Option Place → Type 0
   RepresentsLowest t root = (s : List Place) (h : Represents n t root s) → IsLowest h.tree

@@ -1,4 +1,4 @@
-//! An order of values, as a call that compares two.
+//! An order of values, as a call that compares two values.
 //!
 //! ```text
 //! let mut order = ByKeys::new(ByDeadline); // the order of a keyed tree
@@ -12,18 +12,19 @@ ghost use Rattle.ic_tree_merges.specs.Compares.{adapter_of, looks_of};
 use ic_rbtree::KeyAdapter;
 use std::cmp::Ordering;
 
-/// How values stand to each other, for a merge. It may count how often it was asked.
+/// How values compare, for a merge. The order may count its calls.
 pub trait Compares<V> {
-    // How the first stands to the second: `Less` where it goes before.
+    // How the first compares with the second: `Less` if it goes before.
     ghost order: { Self → V → V → Ordering };
 
-    // How many looks it has made, as far as it counts.
+    // The number of looks that it has counted.
     ghost looks: { Self → ℕ };
 
-    // It counts each look.
+    // The order counts each look.
     ghost Counts: { Type 0 };
 
-    /// How `a` stands to `b`: `Less` where it goes before. It compares as before then, and counts one look more at most.
+    /// How `a` compares with `b`: `Less` if `a` goes before. The order compares as before afterwards, and counts at most
+    /// one look more.
     fn compare(&mut self, a: &V, b: &V) -> Ordering
         ensures answer { result ≡ order self.old a.now b.now }
         ensures same { order self.new ≡ order self.old }
@@ -31,7 +32,7 @@ pub trait Compares<V> {
         ensures each_counted { Counts → looks self.old < 18446744073709551615 → looks self.new ≡ looks self.old + 1 };
 }
 
-/// The order of keys, as an adapter finds them: that of a keyed tree.
+/// The order of the keys that an adapter finds, which is the order of a keyed tree.
 #[derive(Drop)]
 pub struct ByKeys<A> {
     adapter: A,
@@ -39,7 +40,7 @@ pub struct ByKeys<A> {
 }
 
 impl<A> ByKeys<A> {
-    /// The order of the keys that this adapter finds. It has made no look.
+    /// The order of the keys that this adapter finds. It has made no look. O(1).
     #[inline]
     pub fn new(adapter: A) -> ByKeys<A>
         ensures adapter { adapter_of result ≡ adapter }
@@ -48,7 +49,8 @@ impl<A> ByKeys<A> {
         ByKeys { adapter, looks: 0 }
     }
 
-    /// How many looks it has made: how often it compared two values. The count stays at `u64::MAX` once it is there.
+    /// The number of looks that it has made: how often it compared two values. The count stays at `u64::MAX` once it
+    /// has that value. O(1).
     #[inline]
     pub fn looks(&self) -> u64
         ensures { result ≡ looks_of self.now }

@@ -1,7 +1,7 @@
-//! Trees in order, merged and parted in O(n + m), with no memory: union, intersection and difference.
+//! Union, intersection and difference of trees in order, in O(n + m) and with no memory.
 //!
-//! Each tree becomes a vine, the vines are merged or parted by their right children alone, and what comes out is built anew, as low as
-//! can be. No link is acquired or released.
+//! Each tree becomes a vine, which is a list along right children. The vines are merged or split, and each result is built into a tree
+//! of the least height. No link is acquired or released.
 //!
 //! ```text
 //! let mut order = ByKeys::new(ByDeadline);

@@ -18,7 +18,7 @@ use ic_rbtree::{NodeStore, RBTree, RBTreeBuilder};
 use ic_unsafe_ref::{Place, Values};
 use std::cmp::Ordering;
 
-// Whether the first of the left run goes out: nothing on the right is less.
+// Whether the first member of the left run is taken: the first on the right is not less.
 #[inline]
 fn takes_left<V, O: Values<V>, C: Compares<V>>(
     objects: &O,
@@ -45,7 +45,7 @@ fn takes_left<V, O: Values<V>, C: Compares<V>>(
     }
 }
 
-// Makes one vine of two runs: of what is equal, the members on the left go first.
+// Makes one vine of two runs. Of equal members, those on the left go first.
 pub(crate) fn merge_runs<V, N: NodeStore, O: Values<V>, C: Compares<V>>(
     nodes: &mut N,
     objects: &O,
@@ -83,11 +83,12 @@ pub(crate) fn merge_runs<V, N: NodeStore, O: Values<V>, C: Compares<V>>(
     merged
 }
 
-/// Merges another tree into this one: all members of both, and of what is equal, those of this tree go first.
+/// Merges another tree into this one, which then has all members of both. Of equal members, those of this tree go
+/// first.
 ///
-/// It requires that the two trees share no member, and that an object stands at each. If both were in order, so is what comes out, in a tree as
-/// low as can be. It takes no memory, no link is acquired or released, and trees that share no member with either stay. At most n + m looks, and
-/// O(n + m).
+/// It requires that the two trees share no member, and that all members are placed. If both were in order, the result is in order, and has the
+/// least height. It takes no memory, no link is acquired or released, and trees that share no member with either stay as they are. At most n + m
+/// looks, and O(n + m).
 pub fn merge<A: Copy + Drop, V, N: NodeStore, O: Values<V>, C: Compares<V>>(
     tree: &mut RBTree<A>,
     nodes: &mut N,

@@ -35,23 +35,23 @@ impl Vine {
         }
     }
 
-    // Puts a linked place after the last member, and returns the right child that it had.
+    // Appends a linked place after the last member, and returns the right child that it had.
     #[inline]
     pub(crate) fn push_back<N: NodeStore>(&mut self, nodes: &mut N, place: Place) -> Option<Place>
         requires linked { IsNode N.node (N.table nodes.old) place }
         requires shown { RepresentsVineSome N.node (N.table nodes.old) (ends_of self.old) }
         ensures hung { (s : List Place) → RepresentsVine N.node (N.table nodes.old) (ends_of self.old) s → IsAbsent place s
             → Inserts (RepresentsVine N.node) (N.table nodes.old) (N.table nodes.new) (ends_of self.new) (at_back s) place }
-        ensures behind { result ≡ (node_at N.node (N.table nodes.old) place).right }
+        ensures after { result ≡ (node_at N.node (N.table nodes.old) place).right }
         ensures keeps_links { N.KeepsLinks nodes.old nodes.new }
     {
-        let behind = nodes.right(place);
+        let after = nodes.right(place);
         nodes.set_right(place, None);
         match self.last {
             Some(last) => nodes.set_right(last, Some(place)),
             None => self.first = Some(place),
         }
         self.last = Some(place);
-        behind
+        after
     }
 }

@@ -1,4 +1,4 @@
--- Objects: a finite map from places to values, and where the next value will stand.
+-- Objects: a finite map from places to values, and the place that the next value gets.
 use Rattle.std.specs.Prelude.{◌≡◌, ℕ, List, length, Option, None, Bool, is_some, refl}
 use Rattle.std.specs.List.{enumerate_from}
 use Rattle.std.specs.Ordering.{nat_cmp}
@@ -7,7 +7,7 @@ use Rattle.std.specs.Coded.{Coded, code_by, coded×, coded_ℕ}
 use Rattle.ic_unsafe_ref.specs.declared.place.Place.{Place}
 use Rattle.ic_unsafe_ref.specs.Places.{index_of}
 
--- the values, each under the index of its place, and the index of the place that is given next
+-- the values, each under the index of its place, and the index of the place that the next value gets
 pub record Objects (T : Type 0) : Type 0 where
   pub values : map.FinMap nat_cmp T
   pub next : ℕ
@@ -19,21 +19,21 @@ objects_code {T} code =
     (λ o. (o.values, o.next)) (λ p. record { values = p.0; next = p.1 }) (λ _. refl)
 
 module _ {T : Type 0} where
-  -- the value that stands at a place, if there is one
+  -- the value at a place, if there is one
   abbrev pub object_at : Objects T → Place → Option T
   object_at objects p = map.get objects.values (index_of p)
 
-  -- whether a value stands at a place
+  -- whether there is a value at a place
   abbrev pub is_placed : Objects T → Place → Bool
   is_placed objects p = is_some (object_at objects p)
 
-  -- the new objects are the old ones and this value, at a place that was vacant
+  -- the new objects are the old ones, with this value added at a place that was vacant
   pub record Places (old new : Objects T) (p : Place) (value : T) : Type 0 where
     pub next : index_of p ≡ old.next
     pub vacant : object_at old p ≡ None
     pub values : new.values ≡ map.insert old.values (index_of p) value
 
-  -- the new objects are the old ones but that at p, which is vacant now and given next
+  -- the new objects are the old ones without the one at p; p is vacant now, and the next object gets it
   pub record Frees (old new : Objects T) (p : Place) : Type 0 where
     pub next : new.next ≡ index_of p
     pub values : new.values ≡ map.remove old.values (index_of p)

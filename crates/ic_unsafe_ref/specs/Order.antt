@@ -6,7 +6,7 @@ use Rattle.std.specs.declared.cmp.Ordering.TheVariants.{Less, Equal}
 use Rattle.ic_unsafe_ref.specs.declared.place.Place.{Place}
 use Rattle.ic_unsafe_ref.specs.Places.{index_of}
 
--- the order is total, Equal exactly where two places are one, and Less exactly where the index is less
+-- the order is total, Equal exactly if both places are the same, and Less exactly if the first index is less
 pub record OrdersPlaces (order : Place → Place → Ordering) : Type 0 where
   pub total : IsTotalOrder order
   pub equal : (p q : Place) → (order p q ≡ Equal) ↔ (p ≡ q)

@@ -1,4 +1,4 @@
--- A place, its index, and the word that stands for a place or none.
+-- A place, its index, and the word that encodes a place or none.
 use Rattle.std.specs.Prelude.{◌≡◌, ℕ, ◌+◌, ◌-◌, ◌*◌, ◌/◌, Option, Some, None}
 use Rattle.std.proofs.Common.{inl, inr, sym, ap, subst}
 use Rattle.std.proofs.Props.{props}
@@ -7,7 +7,7 @@ use base.Stored.{coded_via}
 use Rattle.ic_unsafe_ref.specs.PlaceWords.{NamesPlace, names_or_not}
 use Rattle.ic_unsafe_ref.specs.declared.place.Place.{Place}
 
--- how many places stand before it
+-- the index of a place: how many places come before it
 unfoldable pub index_of : Place → ℕ
 index_of p = p.word / 8 - 1
 
@@ -20,11 +20,11 @@ abbrev pub word_of : Option Place → ℕ
 word_of None = 0
 word_of (Some p) = 8 * (index_of p + 1)
 
--- the place that a word names: none at 0 and at what is no place's word
+-- the place that a word names, none if the word is 0 or no place has it
 unfoldable pub place_at : ℕ → Option Place
 place_at n = elim (names_or_not n) [ inl h ↦ Some (place_of n h) | inr h ↦ None ]
 
--- a place is its word: at most one proof says that a number is the word of a place
+-- a place is its word: a number has at most one proof that it is the word of a place
 pub names_once : (n : ℕ) (h k : NamesPlace n) → h ≡ k
 names_once n = Prim.hlevel props
 

@@ -1,18 +1,18 @@
-//! What is proved, told to the compiler.
+//! Lets the compiler use facts that are proved.
 //!
 //! ```text
-//! let word = known(self.word, self.word % 8 == 0); // a multiple of 8, for all that is compiled after it
+//! let word = assert_unchecked(self.word, self.word % 8 == 0); // a multiple of 8, for all that is compiled after it
 //! ```
 
 ghost use Rattle.std.specs.Prelude.{◌≡◌, true};
 
-/// The value, where the compiler may count on a condition that is proved.
+/// Returns the value, and lets the compiler assume a condition that is proved.
 ///
-/// It requires that the condition holds. The program does not test it: the branch in which it fails reads the first of no references, and
-/// since no index is tested, the compiler drops that branch and knows the condition from there on. Before `unreachable!()` the test
-/// stays.
+/// It requires that the condition holds. The compiled program does not test it: if the condition failed, the function would read the
+/// first element of an empty slice. The compiler removes bounds checks here, so it drops that branch, and assumes the condition in all
+/// code that follows. With `unreachable!()` in that branch the compiler would keep the test.
 #[inline(always)]
-pub(crate) fn known<T: Copy>(value: T, holds: bool) -> T
+pub(crate) fn assert_unchecked<T: Copy>(value: T, holds: bool) -> T
     requires holds { holds ≡ true }
     ensures { result ≡ value }
 {

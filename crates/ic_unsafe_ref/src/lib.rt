@@ -1,7 +1,7 @@
-//! Objects that stand at places, and references to them.
+//! Objects that are kept at places, and references to them.
 //!
-//! An intrusive collection links objects which already exist. Here an object is a value in [`Objects`], it stands at a
-//! [`Place`], and a [`UnsafeRef`] names it by that place.
+//! An intrusive collection links objects which already exist. Here an object is a value in [`Objects`]. It is kept at a
+//! [`Place`], and an [`UnsafeRef`] names it by that place.
 //!
 //! ```text
 //! let mut objects = Objects::new(rt.alloc());

@@ -1,4 +1,4 @@
-//! The objects, each at its place.
+//! The store of objects, each at its place.
 //!
 //! ```text
 //! let first = UnsafeRef::from_box(&mut objects, 10)?;
@@ -16,9 +16,10 @@ use slab::Slab;
 use std::alloc::{Allocator, Global};
 use std::marker::Model;
 
-/// Values of one type, each at a place that it keeps until it is taken out.
+/// A store of values of one type. Each value keeps its place until it is removed.
 ///
-/// A clause sees them as a finite map from places to values, with the index of the place that is given next.
+/// In contracts the store is a finite map from places to values, together with the index of the place that the next
+/// value gets.
 #[derive(Drop)]
 pub struct Objects<T, A: Allocator = Global> {
     pub(crate) slab: Slab<T, A>,
@@ -44,7 +45,7 @@ impl<T, A: Allocator> Objects<T, A> {
     ghost use Rattle.std.specs.Option.{option_copied_mut};
     ghost use Rattle.ic_unsafe_ref.specs.Lends.{LendsObject};
 
-    /// Objects of which none is placed. It takes no memory until the first one is placed.
+    /// An empty store. It takes no memory until the first object is placed. O(1).
     pub fn new(alloc: A) -> Self
         ensures empty { result.values ≡ map.empty }
         ensures vacant { (place : Place) → object_at result place ≡ None }
@@ -55,7 +56,7 @@ impl<T, A: Allocator> Objects<T, A> {
         }
     }
 
-    /// How many objects there are.
+    /// The number of objects that are placed. O(1).
     #[inline]
     pub fn len(&self) -> usize
         ensures { result ≡ map.len self.now.values }
@@ -63,7 +64,7 @@ impl<T, A: Allocator> Objects<T, A> {
         self.slab.len()
     }
 
-    /// The object at `place`, if one stands there. One look-up, O(1).
+    /// The object at `place`, `None` if the place is vacant. One look-up, O(1).
     #[inline]
     pub fn get(&self, place: Place) -> Option<&T>
         ensures { option_copied result ≡ object_at self.now place }
@@ -71,9 +72,10 @@ impl<T, A: Allocator> Objects<T, A> {
         self.slab.get(place.index())
     }
 
-    /// The object at `place` to be changed, if one stands there. One look-up, O(1).
+    /// A mutable reference to the object at `place`, `None` if the place is vacant. One look-up, O(1).
     ///
-    /// What is left after the reference when it ends stands at the place then, and nothing else has changed.
+    /// When the borrow ends, the object at the place is the last value written through the reference, and nothing else
+    /// has changed.
     #[inline]
     pub fn get_mut(&mut self, place: Place) -> Option<&mut T>
         ensures* writes_back { sem 𝓛 (LendsObject T.row A.row A.Allocator self.entry place result) }
@@ -82,7 +84,7 @@ impl<T, A: Allocator> Objects<T, A> {
         self.slab.get_mut(place.index())
     }
 
-    /// Whether an object stands at `place`. One look-up, O(1).
+    /// Whether there is an object at `place`. One look-up, O(1).
     #[inline]
     pub fn is_placed(&self, place: Place) -> bool
         ensures { result ≡ is_placed self.now place }
@@ -90,7 +92,7 @@ impl<T, A: Allocator> Objects<T, A> {
         self.slab.contains(place.index())
     }
 
-    /// A reference to the object at `place`, if one stands there.
+    /// A reference to the object at `place`, `None` if the place is vacant. O(1).
     #[inline]
     pub fn at(&self, place: Place) -> Option<UnsafeRef<T>>
         ensures { result ≡ (if is_placed self.now place then Some place else None) }
@@ -102,7 +104,7 @@ impl<T, A: Allocator> Objects<T, A> {
         }
     }
 
-    /// Where the next object will stand: a vacant place, or `None` if there is no place left.
+    /// The place that the next object gets: a vacant one, or `None` if there is no place left. O(1).
     #[inline]
     pub fn next_place(&self) -> Option<Place>
         ensures { MatchOption result (2 ^ 32 ≤ self.now.next)

@@ -1,4 +1,4 @@
-//! Places: where objects stand, and how entries of links name them.
+//! Places: where objects are kept, and how entries of links name them.
 //!
 //! ```text
 //! let third = Place::new(2)?; // Some: there are 4,294,967,296 places
@@ -8,15 +8,16 @@
 ghost use Rattle.std.specs.Prelude.{◌≡◌, ℕ, ◌+◌, ◌*◌, ◌<◌, ◌≤◌, ◌%◌, ◌^◌, MatchOption};
 ghost use Rattle.ic_unsafe_ref.specs.PlaceWords.{NamesPlace, IsWord};
 
-use crate::hint::known;
+use crate::hint::assert_unchecked;
 use std::fmt;
 
-/// Where an object stands: an index, below 4,294,967,296 of each place that [`Place::new`] makes and that a table covers.
+/// A place for one object, given by its index. [`Place::new`] makes only places with an index below 4,294,967,296, and
+/// tables cover only such places.
 ///
-/// Its number is `2 * (index + 1)`. It is kept as its word, four times that, which is what links keep for a neighbor: a multiple of 8, and
-/// never 0. That is as many bytes as the words of that many links of one word, so that a word addresses an entry. A word may be any below
-/// `2^36`, twice as many as the first 4,294,967,296 places have, so that the exclusive or of two words is a word and is read with no test of
-/// its range.
+/// Its number is `2 * (index + 1)`. It is stored as its word, which is four times that number, and links store a neighbor as its word too.
+/// So a word is a multiple of 8, and never 0, and an entry of one word is found at that many bytes without a shift. A word may be any
+/// multiple of 8 below `2^36`, which is twice the range of the first 4,294,967,296 places. So the exclusive or of two words is a word again,
+/// and it is read without a test of its range.
 #[derive(Clone, Copy, PartialEq, Eq, PartialOrd, Ord)]
 pub struct Place {
     word: u64,
@@ -26,10 +27,10 @@ pub struct Place {
 impl Place {
     ghost use Rattle.ic_unsafe_ref.specs.Places.{index_of, place_at, word_of};
 
-    /// How many places a table covers at most: the first ones.
+    /// The greatest number of places that a table can cover.
     pub const COUNT: usize = 4_294_967_296;
 
-    /// The place with that index, or `None` from 4,294,967,296 on.
+    /// The place with that index, or `None` if the index is 4,294,967,296 or more. O(1).
     #[inline]
     pub fn new(index: usize) -> Option<Place>
         ensures { MatchOption result (2 ^ 32 ≤ index) (λ place. (index_of place ≡ index) × index < 2 ^ 32) }
@@ -53,22 +54,22 @@ impl Place {
         }
     }
 
-    /// The index of the place, counted from 0: how many places stand before it.
+    /// The index of the place, counted from 0. O(1).
     #[inline]
     #[tactic(auto, unfolding(crate::specs::Places::index_of))]
     pub fn index(self) -> usize
         ensures value { result ≡ index_of self }
         ensures small { result + 1 < 2 ^ 33 }
     {
-        // A multiple of 8 addresses an entry with no shift and no mask, and what is not 0 is no end.
-        let word = known(self.word, self.word % 8 == 0 && self.word != 0);
+        // A multiple of 8 addresses an entry with no shift and no mask, and a word that is not 0 never means an end.
+        let word = assert_unchecked(self.word, self.word % 8 == 0 && self.word != 0);
         (word / 8 - 1) as usize
     }
 
-    /// The place that a word names: none at 0. One test.
+    /// The place that a word names, `None` if the word is 0. One test.
     ///
-    /// Tables and collections keep neighbors and ends as such words, which take no decoding to copy. It requires a
-    /// multiple of 8 below `2^36`, as [`Place::to_word`] answers and as the exclusive or of two such words is.
+    /// Tables and collections store neighbors and ends as such words, and copy them without decoding. It requires a
+    /// multiple of 8 below `2^36`. [`Place::to_word`] returns such a word, and the exclusive or of two of them is one. O(1).
     #[inline]
     #[tactic(auto, using(crate::proofs::PlaceLemmas::place_at_other))]
     pub fn from_word(word: u64) -> Option<Place>
@@ -82,7 +83,7 @@ impl Place {
         }
     }
 
-    /// The word for a place or none: `8 * (index + 1)`, or 0.
+    /// The word for a place or none: `8 * (index + 1)`, or 0. O(1).
     #[inline]
     #[tactic(auto, using(crate::proofs::PlaceLemmas::word_is))]
     pub fn to_word(place: Option<Place>) -> u64
@@ -101,7 +102,7 @@ impl Place {
     ghost use Rattle.ic_unsafe_ref.specs.declared.place.Place.{Place};
     ghost use Rattle.ic_unsafe_ref.specs.Order.{OrdersPlaces};
 
-    /// The law of the order: it is total, and `Equal` exactly where two places are one.
+    /// The law of the order: it is total, and two places compare `Equal` exactly if they are the same.
     pub fn order_is_total()
         ensures { OrdersPlaces ⟦<Place as Ord>⟧.cmp }
     {}

@@ -13,10 +13,10 @@ use std::alloc::{AllocError, Allocator};
 use std::fmt;
 use std::marker::{Model, PhantomData};
 
-/// Names an object by the place at which it stands.
+/// A reference to an object. It names the object by its place.
 ///
-/// It owns nothing and keeps nothing alive. A place that was freed may be given again, and an old reference then names
-/// what stands there now.
+/// It owns nothing and keeps nothing alive. A place that was freed may be given to another object, and an old reference
+/// then names that object.
 pub struct UnsafeRef<T> {
     place: Place,
     of: PhantomData<T>,
@@ -37,7 +37,7 @@ impl<T> Drop for UnsafeRef<T> {
 }
 
 impl<T> UnsafeRef<T> {
-    /// The reference to whatever stands at `place`.
+    /// The reference to whatever object is at `place`. O(1).
     #[inline]
     pub fn new(place: Place) -> UnsafeRef<T>
         ensures { result ≡ place }
@@ -48,7 +48,7 @@ impl<T> UnsafeRef<T> {
         }
     }
 
-    /// Where the object stands.
+    /// The place of the object. O(1).
     #[inline]
     pub fn place(&self) -> Place
         ensures { result ≡ self.now }
@@ -56,9 +56,10 @@ impl<T> UnsafeRef<T> {
         self.place
     }
 
-    /// Places `value` where [`Objects::next_place`] says, and returns the reference to it.
+    /// Places `value` at the place that [`Objects::next_place`] returns, and returns a reference to it.
     ///
-    /// It requires that there is such a place. Where no memory is found the value comes back and nothing has changed.
+    /// It requires that there is such a place. If there is no memory for it, the value is returned in the error and
+    /// nothing has changed. O(1) on average, since the slab grows now and then.
     pub fn from_box<A: Allocator>(
         objects: &mut Objects<T, A>,
         value: T,
@@ -73,11 +74,11 @@ impl<T> UnsafeRef<T> {
         }
     }
 
-    /// Takes the object out of its place and returns it. The place is vacant then, and may be given again: another
-    /// reference to it names what stands there next.
+    /// Removes the object from its place and returns it. The place is vacant then, and a later object may get it: other
+    /// references to the removed object then name that object.
     ///
-    /// It requires that an object stands there. Links are kept apart from objects: one that is linked stays so. O(1), and it
-    /// takes no memory.
+    /// It requires that the place holds an object. Links are kept apart from objects, so a place that is linked stays
+    /// linked. O(1), and it takes no memory.
     pub fn into_box<A: Allocator>(self, objects: &mut Objects<T, A>) -> T
         requires placed { is_placed objects.old self ≡ true }
         ensures value { object_at objects.old self ≡ Some result }

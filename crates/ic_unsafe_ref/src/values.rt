@@ -8,20 +8,22 @@
 ghost use Rattle.std.specs.Prelude.{◌≡◌, true, Some};
 ghost use Rattle.ic_unsafe_ref.specs.Objects.{object_at, is_placed, at_indexes};
 
-use crate::hint::known;
+use crate::hint::assert_unchecked;
 use crate::{Objects, Place};
 use std::alloc::Allocator;
 
-/// What has a value at a place: [`Objects`], a slice or a `Vec` by the index of the place, or a table of your own.
+/// A source of values by place: [`Objects`], a slice or a `Vec` that is read at the index of the place, or a table of
+/// your own.
 ///
-/// Searches and inserts by keys read values by it alone. So keys may stand in an array of their own, where a look is one load.
+/// Searches and inserts by keys read values through this trait alone. So you can keep keys in an array of their own, where
+/// reading a key is one load.
 pub trait Values<V> {
     ghost use Rattle.ic_unsafe_ref.specs.Objects.{Objects};
 
     // The values by place.
     ghost values: { Self → Objects V };
 
-    /// The value at `place`. It requires that one stands there. One look-up, O(1).
+    /// The value at `place`. It requires that the place has a value. One look-up, O(1).
     fn value(&self, place: Place) -> &V
         requires placed { is_placed (values self.now) place ≡ true }
         ensures { object_at (values self.now) place ≡ Some result.now };
@@ -33,7 +35,7 @@ impl<V, A: Allocator> Values<V> for Objects<V, A> {
     #[inline]
     fn value(&self, place: Place) -> &V {
         let value = self.get(place);
-        known(value, value.is_some()).unwrap()
+        assert_unchecked(value, value.is_some()).unwrap()
     }
 }
 

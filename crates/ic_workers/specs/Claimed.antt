@@ -1,4 +1,5 @@
--- What workers have claimed: each of the first places once, by records that are one list of steps.
+-- What workers have claimed: each worker has tried to claim each of the first places once, and the records of all workers are parts of one list of
+-- steps.
 use Rattle.std.specs.Prelude.{◌≡◌, ◌<◌, ℕ, ◌+◌, Bool, List, [], ◌∷◌, length}
 use Rattle.std.specs.List.{AllZip}
 use Rattle.ic_link_ops.specs.Prelude.{Place, index_of}
@@ -11,7 +12,7 @@ abbrev pub IsRow : ℕ → List Place → Type 0
 IsRow from [] = Unit {0}
 IsRow from (p ∷ s) = (index_of p ≡ from) × IsRow (from + 1) s
 
--- THE FIRST PLACES WERE CLAIMED, each once and in order: by this record, and those that it got are these
+-- THE FIRST PLACES WERE CLAIMED, each once and in order, as this record says, and the claims that succeeded are for these places
 pub record ClaimedEach (places : ℕ) (record_is : List Event) (list : List Place) : Type 0 where
   pub offered : List Place
   pub row : IsRow 0 offered
@@ -21,15 +22,15 @@ pub record ClaimedEach (places : ℕ) (record_is : List Event) (list : List Plac
   pub claimed : record_is ≡ claims_of_each offered got
   pub are : list ≡ chosen offered got
 
--- THE CLAIMS OF SO MANY WORKERS ARE ONE LIST OF STEPS, by which each got its list
+-- THE CLAIMS OF ALL WORKERS ARE ONE LIST OF STEPS, from which each worker got its list
 pub record ClaimedAsOneList (workers places : ℕ) (lists : List (List Place)) : Type 0 where
   -- there is one record for each worker
   pub records : List (List Event)
   pub each : length records ≡ workers
-  -- a record has one claim of each of the first places, in order, and the worker's list has those that it got
+  -- a record has one claim of each of the first places, in order, and the worker's list has the places whose claims succeeded
   pub claimed : AllZip (ClaimedEach places) records lists
-  -- there is a word for each place, and one more
+  -- there is one more claim word than there are places
   pub words : List ℕ
   pub covers : places < length words
-  -- and the rule of claims holds of these words and records
+  -- the rule of claims holds of these words and records
   pub one : IsOneList words records

@@ -1,4 +1,4 @@
--- What a worker's party has before the first places are claimed, and what it has then.
+-- What a worker's party has before it claims the first places, and after.
 use Rattle.std.specs.Prelude.{◌≡◌, List, [], length}
 use Rattle.ic_unsafe_ref.specs.declared.place.Place.{Place}
 use Rattle.ic_link_ops.specs.declared.link_ops.LinkOps.{Ghosts}
@@ -12,7 +12,7 @@ use Rattle.ic_workers.specs.declared.party.Party.{Party}
 use Rattle.ic_workers.specs.declared.party.Gathered.{Gathered}
 
 module _ {A E : Type 0} {g : Ghosts (DoublyLinkOps A) E} where
-  -- the party has claimed nothing: it is to claim the first places, which its table covers, and its list is empty
+  -- the party has claimed nothing yet. It has the first places to claim, its table covers them, and its list is empty
   pub record IsReady (claims : Claims A) (party : Party A E g) : Type 0 where
     pub claims_are : claims_of party.links ≡ claims
     pub covers : (plain_table (links_of party.links)).extent.places ≡ places_of claims
@@ -22,14 +22,14 @@ module _ {A E : Type 0} {g : Ghosts (DoublyLinkOps A) E} where
     pub long : length party.offered.now ≡ places_of claims
 
 module _ {A : Type 0} where
-  -- the party has claimed them, and its list represents those that it got
+  -- the party has claimed them, and its list has the places whose claims succeeded
   pub record HasGathered (claims : Claims A) (gathered : Gathered A) : Type 0 where
     pub made : IsOf claims gathered.holder
     pub list : List Place
     pub shows : PlainRepresents gathered.table gathered.list list
     pub claimed : ClaimedEach (places_of claims) (record_of gathered.holder) list
 
-  -- the same of a holder and its list
+  -- the same for a holder and its list
   pub record HasTaken (claims : Claims A) (holder : Holder) (list : List Place) : Type 0 where
     pub made : IsOf claims holder
     pub claimed : ClaimedEach (places_of claims) (record_of holder) list

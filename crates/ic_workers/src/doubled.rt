@@ -1,4 +1,4 @@
-//! Places that stand in several lists.
+//! Places that are in several lists.
 
 ghost use Rattle.std.specs.Prelude.{◌≡◌, ℕ, All};
 ghost use Rattle.ic_workers.specs.SharedOut.{has, Rises, places_in};
@@ -7,7 +7,7 @@ ghost use Rattle.ic_workers.specs.Doubles.{times, doubles_below};
 use ic_unsafe_ref::Place;
 use std::alloc::Allocator;
 
-// Whether the place with that index stands in the list, which rises. It halves what is left.
+// Returns whether a rising list contains the place with this index. It is a binary search.
 fn stands_in(list: &[Place], index: usize) -> bool
     requires { (high : ℕ) × Rises 0 high list.now }
     ensures { result ≡ has list.now index }
@@ -29,7 +29,7 @@ fn stands_in(list: &[Place], index: usize) -> bool
     false
 }
 
-// In how many of the lists it stands.
+// Returns how many of the lists contain the place.
 fn lists_with<A: Allocator>(lists: &[Vec<Place, A>], index: usize) -> usize
     requires { (high : ℕ) × All (Rises 0 high) (places_in lists.now) }
     ensures { result ≡ times (places_in lists.now) index }
@@ -43,9 +43,9 @@ fn lists_with<A: Allocator>(lists: &[Vec<Place, A>], index: usize) -> usize
     count
 }
 
-/// How many of the first `places` places stand in more than one of the lists.
+/// Returns how many of the first `places` places are in more than one of the lists.
 ///
-/// It requires that each list rises, as those of [`fan_out`](crate::fan_out) do. O(places * lists * log(places)), and no memory.
+/// It requires that each list rises, as those of [`fan_out`](crate::fan_out) do. O(places * lists * log(places)). It takes no memory.
 pub fn doubles<A: Allocator>(places: usize, lists: &[Vec<Place, A>]) -> usize
     requires rises { All (Rises 0 places) (places_in lists.now) }
     ensures { result ≡ doubles_below places (places_in lists.now) }

@@ -1,4 +1,4 @@
-//! Workers, each in a thread of its own, which are all offered the same places, and get each place once between them.
+//! Workers in threads of their own. All of them try to claim the same places, and each place is claimed by exactly one of them.
 //!
 //! ```text
 //! let lists = fan_out(&rt, rt.alloc(), 4, 1000, &gate)?; // a list of places for each of 4 workers

@@ -1,4 +1,4 @@
-//! What a worker has: links and a list of its own, and what it is offered.
+//! What a worker has: its own links, its own list, and the places that it is to claim.
 
 ghost use Rattle.std.specs.Prelude.{◌≡◌, [], List, All, IfOk, length};
 ghost use Rattle.ic_unsafe_ref.specs.declared.place.Place.{Place};
@@ -17,15 +17,14 @@ use std::alloc::{AllocError, Allocator};
 use std::snapshot::Snapshot;
 use std::thread::Promise;
 
-// What all workers share: the claims, and the places that they are offered.
+// What all workers share: the claim words, and the places that they are to claim.
 #[derive(Drop)]
 pub(crate) struct Offer<'c, A: Allocator> {
     pub(crate) claims: &'c Claims<A>,
     pub(crate) offered: &'c [UnsafeRef<()>],
 }
 
-// A worker's own links and its own list, with what it is offered. Its objects are of no bytes: only their places are
-// dealt with.
+// A worker's own links and its own list, with the places that it is to claim. The objects have a size of 0 bytes, since only their places matter.
 #[derive(Drop)]
 pub(crate) struct Party<'c, A: Allocator>
 where
@@ -37,7 +36,7 @@ where
 }
 
 impl<'c, A: Allocator + Copy> Party<'c, A> {
-    // A party that has none of the offered places.
+    // Makes a party that has not claimed any of the offered places.
     pub(crate) fn new(
         alloc: A,
         offer: &Offer<'c, A>,
@@ -64,7 +63,7 @@ impl<'c, A: Allocator + Copy> Party<'c, A> {
 impl<A: Allocator> Party<'_, A> {
     ghost use Rattle.ic_atomic.specs.AtomicLinks.{claims_of};
 
-    // Claims each offered place, and keeps those that it gets in its list. The gate is told of it by this number.
+    // Tries to claim each offered place, and appends to its list the places whose claims succeed. It reports to the gate under this number.
     pub(crate) fn work<G: Gate>(self, number: usize, gate: &G) -> Gathered<A>
         requires { IsReady (claims_of self.links) self }
         ensures gathered { HasGathered (claims_of self.entry.links) result }
@@ -85,7 +84,7 @@ impl<A: Allocator> Party<'_, A> {
     }
 }
 
-// What a worker brings back: its holder, and its list with the table that represents it.
+// What a worker returns: its holder, and its list with the table that represents it.
 #[derive(Drop)]
 pub(crate) struct Gathered<A: Allocator> {
     holder: Holder,
@@ -94,7 +93,7 @@ pub(crate) struct Gathered<A: Allocator> {
 }
 
 impl<A: Allocator> Gathered<A> {
-    // Its holder, and the places in its list.
+    // Returns the worker's holder, and the places in its list.
     pub(crate) fn into_places<B: Allocator>(
         self,
         alloc: B,
@@ -113,7 +112,7 @@ impl<A: Allocator> Gathered<A> {
     }
 }
 
-// The members of a list.
+// Returns the members of a list.
 fn members<L: LinkedListOps, A: Allocator>(
     alloc: A,
     list: &LinkedList<()>,
@@ -131,8 +130,8 @@ fn members<L: LinkedListOps, A: Allocator>(
     Ok(places)
 }
 
-// What a worker's thread promises of what it brings back: that it has claimed each place of these claims, and that this
-// gate was told so of the worker of this number.
+// What a worker's thread guarantees about its result: the worker has tried to claim each place of these claims, and has reported this to the gate
+// under its number.
 #[derive(Drop)]
 pub(crate) struct ClaimedAll<A: Allocator, G> {
     pub(crate) claims: Snapshot<Claims<A>>,

@@ -1,4 +1,4 @@
-//! Threads that are all offered the same places.
+//! Threads that all try to claim the same places.
 
 ghost use Rattle.std.specs.Prelude.{◌≡◌, ◌<◌, ◌≤◌, ◌↔◌, [], All, IfOk, Err, vec_len, length};
 ghost use Rattle.std.specs.List.{AllZip};
@@ -17,7 +17,7 @@ use std::sync::Wait;
 use std::thread;
 use std::thread::Threads;
 
-// The first places, in order.
+// Returns the first places, in order.
 fn first_places<A: Allocator>(alloc: A, count: usize) -> Result<Vec<UnsafeRef<()>, A>, AllocError>
     requires { count ≤ 4294967296 }
     ensures row { IfOk result (λ places. IsRow 0 places.items) }
@@ -32,7 +32,7 @@ fn first_places<A: Allocator>(alloc: A, count: usize) -> Result<Vec<UnsafeRef<()
     Ok(places)
 }
 
-// A party for each holder.
+// Makes a party for each holder.
 fn parties<'c, A: Allocator + Copy>(
     alloc: A,
     offer: &Offer<'c, A>,
@@ -51,7 +51,7 @@ fn parties<'c, A: Allocator + Copy>(
     Ok(parties)
 }
 
-// Lets each party work in a thread of its own, numbered from 1, and answers them when all are done.
+// Lets each party work in a thread of its own, numbered from 1, and returns all of them when all are done.
 fn in_threads<R: Threads + Wait + Sync, A: Allocator + Copy + Send + Sync, G: Gate + Sync>(
     rt: &R,
     alloc: A,
@@ -96,7 +96,7 @@ fn in_threads<R: Threads + Wait + Sync, A: Allocator + Copy + Send + Sync, G: Ga
     )
 }
 
-// The holders, and the places in their lists.
+// Returns the holders, and the places in their lists.
 fn take_apart<A: Allocator + Copy>(
     alloc: A,
     claims: &Claims<A>,
@@ -117,7 +117,7 @@ fn take_apart<A: Allocator + Copy>(
     Ok((holders, lists))
 }
 
-// The lists of all holders of the claims.
+// Returns the lists of all holders of the claims.
 fn fan_out_over<R: Threads + Wait + Sync, A: Allocator + Copy + Send + Sync, G: Gate + Sync>(
     rt: &R,
     alloc: A,
@@ -144,16 +144,17 @@ fn fan_out_over<R: Threads + Wait + Sync, A: Allocator + Copy + Send + Sync, G: 
     Ok(lists)
 }
 
-/// Offers the first `places` places to so many workers in threads of their own, and returns their lists in order.
+/// Starts `workers` threads that all try to claim the first `places` places, and returns the lists of the places that they got, in the order of the
+/// workers.
 ///
-/// Each worker has links and a list of its own. It claims each place, in rising order, and puts those that it gets at the back of its list.
-/// The workers are counted from 1; the gate is told by its number how far each is, as by [`gather`](ic_atomic::gather). Which worker gets
-/// which place is left open: each gets a rising list, and each place stands in just one of them. One sequence of steps has each worker's claims in
-/// the order in which that worker made them, and explains every answer that the workers got.
+/// Each worker has links and a list of its own. It tries to claim each place, in rising order, and appends those that it gets to its list. The
+/// workers are numbered from 1, and each reports to the gate under its number how far it is, as in [`gather`](ic_atomic::gather). It is left open
+/// which worker gets which place: each gets a rising list, and each place is in exactly one of them. One sequence of steps has each worker's claims
+/// in the order in which that worker made them, and explains the result of every claim.
 ///
-/// It is refused above 4,294,967,296 places, and where no memory is found or a thread cannot be started, which is
-/// `OutOfMemory` too; workers that have begun then come to their end first. It waits for all its threads. All memory is
-/// found before the first thread is started, but for that of the lists at the end. O(workers * places).
+/// It is refused if `places` is above 4,294,967,296, if there is not enough memory, or if a thread cannot be started, which is `OutOfMemory`, too.
+/// Then it waits first until the workers that have begun are done. It waits for all its threads. It allocates all memory before it starts the first
+/// thread, except that of the lists at the end. O(workers * places).
 pub fn fan_out<R: Threads + Wait + Sync, A: Allocator + Copy + Send + Sync, G: Gate + Sync>(
     rt: &R,
     alloc: A,

@@ -1,9 +1,9 @@
--- What an answer says of the call that it answers.
+-- What the answer of a call means.
 use Rattle.ic_world.specs.declared.call.Answer.{Answer}
 use Rattle.ic_world.specs.declared.call.Answer.TheVariants as answer
 use Rattle.ic_world.specs.Calls.{Reply, done, nothing, object, field, opened, items, linked, found, looked, range, entry, refused}
 
--- the reply of the world that an answer prints
+-- the reply of the model that an answer stands for
 abbrev pub reply_in : {M : Type 0} → Answer M → Reply
 reply_in answer.Done = done
 reply_in answer.Nothing = nothing

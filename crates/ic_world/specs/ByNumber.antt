@@ -1,4 +1,4 @@
--- The collections of a world by number and by field: each live one lies in a list of its field, and a slot under its number says where.
+-- The collections of a world by number and by field: each live one is stored in a list of its field, and a slot under its number says where.
 use Rattle.std.specs.Prelude.{◌≡◌, ◌≢◌, ℕ, ◌<◌, List, [], ◌∷◌, ◌++◌, length, map, Option, Some, None, slice_index_or, slice_get, slice_set}
 use Rattle.std.specs.declared.vec.Vec.{Vec}
 use Rattle.ic_link_ops.specs.Prelude.{Place, IsMember, Table}
@@ -9,7 +9,7 @@ use Rattle.ic_world.specs.declared.collection.Collection.{Collection}
 use Rattle.ic_world.specs.declared.collections_by_number.Slot.{Slot}
 use Rattle.ic_world.specs.declared.collections_by_number.Numbered.{Numbered}
 
--- the collections in a list of the program
+-- the collections that one stored list contains
 abbrev pub items_of : {V M : Type 0} → Vec (Numbered V) M → List (Numbered V)
 items_of v = v.items
 
@@ -21,16 +21,16 @@ live_in ls f = slice_index_or ls f []
 abbrev pub disposed : ℕ
 disposed = 4294967295
 
--- what lies at an index of a field
+-- the collection at an index of a field
 abbrev pub lying : {V : Type 0} → List (List (Numbered V)) → ℕ → ℕ → Option (Numbered V)
 lying ls f i = slice_get (live_in ls f) i
 
--- as a collection of that field
+-- the same as a collection of that field
 abbrev pub in_field : {V : Type 0} → ℕ → Option (Numbered V) → Option (Collection V)
 in_field f None = None
 in_field f (Some n) = Some (record { field = f; members = n.members })
 
--- the collection whose slot this is, none where it was disposed of
+-- the collection of a slot, or none if it was disposed of
 abbrev pub in_slot : {V : Type 0} → List (List (Numbered V)) → Slot → Option (Collection V)
 in_slot ls s = in_field s.field (lying ls s.field s.index)
 
@@ -38,16 +38,16 @@ in_slot ls s = in_field s.field (lying ls s.field s.index)
 abbrev pub by_number : {V : Type 0} → List (List (Numbered V)) → List Slot → List (Option (Collection V))
 by_number ls ns = map (in_slot ls) ns
 
--- THE INVARIANT of the collections by number: slots and lists say the same
+-- THE INVARIANT of the collections by number: slots and lists agree
 pub record AreNumbered {V : Type 0} (ls : List (List (Numbered V))) (ns : List Slot) : Type 0 where
-  -- each live collection has the slot of its number
+  -- the slot under the number of each live collection leads to it
   pub found : (f i : ℕ) (n : Numbered V) → lying ls f i ≡ Some n → slice_get ns n.number ≡ Some (record { field = f; index = i })
-  -- and lies below the index of disposed ones
+  -- its index is below the index that marks disposed ones
   pub before : (f i : ℕ) (n : Numbered V) → lying ls f i ≡ Some n → i < disposed
-  -- in each slot but those of disposed ones lies a collection, with the number of the slot
+  -- each slot, except those of disposed collections, leads to a collection with the number of the slot
   pub kept : (c : ℕ) (s : Slot) → slice_get ns c ≡ Some s → s.index ≢ disposed → (m : AnyCollection V) × (lying ls s.field s.index ≡ Some (record { number = c; members = m }))
 
--- the last one is at the index of the one that was taken out
+-- the last collection is now at the index of the one that was removed
 pub record IsTakenOut {V : Type 0} (old : List (Numbered V)) (i : ℕ) (number : ℕ) (new : List (Numbered V)) : Type 0 where
   pub rest : List (Numbered V)
   pub last : Numbered V
@@ -55,11 +55,11 @@ pub record IsTakenOut {V : Type 0} (old : List (Numbered V)) (i : ℕ) (number :
   pub is : new ≡ slice_set rest i last
   pub moved : number ≡ last.number
 
--- each field has the live collections that it had
+-- each field has the same live collections as before
 abbrev pub HaveLists : {V : Type 0} → (old new : List (List (Numbered V))) → Type 0
 HaveLists old new = (g : ℕ) → live_in new g ≡ live_in old g
 
--- field f has one more, in that slot
+-- field f has one more collection, in that slot
 pub record IsEntered {V : Type 0} (old : List (List (Numbered V))) (f : ℕ) (n : Numbered V) (s : Slot) (new : List (List (Numbered V))) : Type 0 where
   pub field : s.field ≡ f
   pub index : s.index ≡ length (live_in old f)
@@ -67,7 +67,7 @@ pub record IsEntered {V : Type 0} (old : List (List (Numbered V))) (f : ℕ) (n 
   pub more : live_in new f ≡ live_in old f ++ n ∷ []
   pub others : (g : ℕ) → g ≢ f → live_in new g ≡ live_in old g
 
--- so it has, if a slot is answered; else the lists are what they were
+-- if a slot is returned, the field has one more collection in it, and otherwise the lists are as before
 abbrev pub Enters : {V : Type 0} → List (List (Numbered V)) → ℕ → Numbered V → Option Slot → List (List (Numbered V)) → Type 0
 Enters old f n None new = HaveLists old new
 Enters old f n (Some s) new = IsEntered old f n s new
@@ -76,7 +76,7 @@ Enters old f n (Some s) new = IsEntered old f n s new
 abbrev pub EachHeld : {V : Type 0} → Table Entry → List (Numbered V) → Type 0
 EachHeld {V} t list = (i : ℕ) (n : Numbered V) → slice_get list i ≡ Some n → Held t n.members
 
--- and represents the place as a member of one of them
+-- the table represents the place as a member of one of these collections
 pub record SomeHas {V : Type 0} (t : Table Entry) (p : Place) (list : List (Numbered V)) : Type 0 where
   pub index : ℕ
   pub one : Numbered V

@@ -1,4 +1,4 @@
--- THE CALLS OF ONE COLLECTION: which kinds have a call, which refusal is first, and what an accepted call answers and leaves.
+-- THE CALLS OF ONE COLLECTION: which kinds have a call, which refusal comes first, and what an accepted call returns and changes.
 use Rattle.std.specs.Prelude.{◌≡◌, ℕ, Bool, true, false, not, is_some, reverse, List, [], ◌∷◌, Option, Some, None, drop}
 use Rattle.std.specs.declared.cmp.Ordering.{Ordering}
 use Rattle.std.specs.Ordering.{nat_cmp}
@@ -35,7 +35,7 @@ pub record State : Type 0 where
   pub cursor : Option Place
   pub linked : set.FinSet nat_cmp
 
--- A REPLY is a call's answer, with places as the sequence that they are
+-- A REPLY is what a call returns, with several places as a sequence
 pub data Reply : Type 0 where
   done : Reply
   nothing : Reply
@@ -50,7 +50,7 @@ pub data Reply : Type 0 where
   entry : Bool → Place → ℕ → Reply
   refused : Refusal → Reply
 
--- the refusal r unless the test holds, and then the rest of the tests
+-- the refusal r if the test fails, or else the result of the remaining tests
 abbrev pub asks : {R : Type 0} → Bool → R → Option R → Option R
 asks true r rest = rest
 asks false r rest = Some r
@@ -64,7 +64,7 @@ object_or_nothing (Some p) = object p
 abbrev pub is_linked_in : State → Place → Bool
 is_linked_in s p = set.contains s.linked (index_of p)
 
--- the cursor is elsewhere; the members are others too; p goes into the gap; p, the member after the gap, goes out; p takes the place of
+-- Five changes: the cursor moves; the members and the cursor change; p is inserted into the gap; p, the member after the gap, is removed; p replaces
 -- `out`, the member after the gap
 abbrev pub moved : State → Option Place → State
 moved s cursor = record s { cursor = cursor }
@@ -82,7 +82,7 @@ abbrev pub swapped : State → Cut → Place → Place → Option Place → Stat
 swapped s gap p out cursor =
     record { kind = s.kind; members = replace gap p; cursor = cursor; linked = set.remove (set.insert s.linked (index_of p)) (index_of out) }
 
--- all members go out
+-- all members are removed
 abbrev pub unlinked : set.FinSet nat_cmp → List Place → set.FinSet nat_cmp
 unlinked l [] = l
 unlinked l (p ∷ s) = set.remove (unlinked l s) (index_of p)
@@ -90,11 +90,11 @@ unlinked l (p ∷ s) = set.remove (unlinked l s) (index_of p)
 abbrev pub cleared : State → State
 cleared s = record { kind = s.kind; members = []; cursor = None; linked = unlinked s.linked s.members }
 
--- the members are cut at a gap, of which the rest holds
+-- there is a gap at which the members are cut, and the rest of the statement holds of it
 abbrev pub AtGap : State → (Cut → Type 0) → Type 0
 AtGap s Rest = (gap : Cut) × (join gap ≡ s.members) × Rest gap
 
--- an object that may be named
+-- the place of an object that a call may name
 abbrev pub named_if : Option Place → List Place
 named_if None = []
 named_if (Some p) = p ∷ []
@@ -116,7 +116,7 @@ module _ {K : Type 0} where
   has_call (one.Insertion _) k = is_tree k
   has_call (one.Enter key p) k = is_tree k
 
-  -- the objects that it names
+  -- the objects that a call names
   abbrev pub names : Call K → List Place
   names (one.Put at p) = p ∷ []
   names (one.Swap at p) = p ∷ []
@@ -127,11 +127,11 @@ module _ {K : Type 0} where
   names (one.Enter key p) = p ∷ []
   names _ = []
 
--- the gap whose next member a call means: at the back, the one before the last member
+-- the gap whose next member a removal means: at the back, the gap before the last member
 abbrev pub IsFrontOf : Gap → State → Cut → Type 0
 IsFrontOf at s gap = gaps.IsFrontOf at s.members s.cursor gap
 
--- the member itself
+-- the member that a call means
 abbrev pub member_at : Gap → State → Option Place
 member_at Front s = first s.members
 member_at Back s = last s.members
@@ -154,7 +154,7 @@ refusal_of_seek (On p) s = asks_member s p None
 refusal_of_seek (With way p beside) s = asks_member s p (asks (same_position beside (beside_of way s.members p)) NotANeighbour None)
 refusal_of_seek _ s = None
 
--- THE FIRST REFUSAL of a call that the kind has, of a collection that is there and of objects that are placed
+-- THE FIRST REFUSAL of a call, if the collection exists, its kind has the call, and the named objects exist
 module _ {K : Type 0} where
   abbrev pub own_refusal : Call K → State → Option Refusal
   own_refusal (one.Put at p) s = asks_unlinked s p
@@ -167,11 +167,11 @@ module _ {K : Type 0} where
   abbrev pub refusal_of : Call K → State → Option Refusal
   refusal_of call s = asks (has_call call s.kind) WrongKind (own_refusal call s)
 
--- WHAT AN ACCEPTED CALL answers and leaves. AN OBJECT IS PUT into a gap
+-- WHAT AN ACCEPTED CALL returns and changes. AN OBJECT IS INSERTED into a gap
 abbrev pub PutReplies : Gap → Place → State → Reply → State → Type 0
 PutReplies at p s reply t = (reply ≡ done) × AtGap s (λ gap. IsGapAt at s.cursor gap × (t ≡ put s gap p (rests at s.cursor)))
 
--- A MEMBER IS TAKEN OUT, if there is one. A cursor that was on it goes on to the next
+-- A MEMBER IS REMOVED, if there is one. A cursor that was on it goes on to the next
 abbrev pub without : State → Cut → Option Place → Option Place → State
 without s gap cursor None = moved s cursor
 without s gap cursor (Some p) = taken s gap p cursor
@@ -179,7 +179,7 @@ without s gap cursor (Some p) = taken s gap p cursor
 abbrev pub TakeReplies : Gap → State → Reply → State → Type 0
 TakeReplies at s reply t = AtGap s (λ gap. IsFrontOf at s gap × (reply ≡ object_or_nothing (first gap.back)) × (t ≡ without s gap (onward at s.cursor gap) (first gap.back)))
 
--- A MEMBER IS SWAPPED for p. A cursor that was on it is on p
+-- A MEMBER IS REPLACED by p. A cursor that was on it is then on p
 abbrev pub SwapReplies : Gap → Place → State → Reply → State → Type 0
 SwapReplies at p s reply t = AtGap s (λ gap. IsFrontOf at s gap × (out : Place) × (first gap.back ≡ Some out) × (reply ≡ object out) × (t ≡ swapped s gap p out (onto at s.cursor p)))
 
@@ -188,14 +188,14 @@ abbrev pub MoveReplies : Direction → State → Reply → State → Type 0
 MoveReplies Next s reply t = AtGap s (λ gap. IsAfter gap s.cursor × (reply ≡ object_or_nothing (first gap.back)) × (t ≡ moved s (first gap.back)))
 MoveReplies Prev s reply t = AtGap s (λ gap. IsBefore gap s.cursor × (reply ≡ object_or_nothing (last gap.front)) × (t ≡ moved s (last gap.front)))
 
--- A SEARCH answers a member or none, with the looks of a descent, and puts the cursor there
+-- A SEARCH returns a member or none, with the number of keys that it compared, and puts the cursor there
 abbrev pub SearchReplies : (Option Place → Type 0) → (ℕ → Type 0) → State → Reply → State → Type 0
 SearchReplies IsFound WithinBoundFor s (found position looks) t = IsFound position × WithinBoundFor looks × (t ≡ moved s position)
 SearchReplies IsFound WithinBoundFor s _ t = ⊥
 
 -- `cmp`: the order of the keys. `key_of`: the key of a value. `objects`: the values by place
 module _ {V K : Type 0} (cmp : K → K → Ordering) (key_of : V → K) (objects : Objects V) where
-  -- how a key stands to that of the object at each place, how the end of a bound does, and how the key of the object at p does
+  -- how a key, the key of a bound, and the key of the object at p compare with the key of the object at each place
   abbrev pub key_at : K → Place → Ordering
   key_at key = compared (order_of cmp key_of key) objects
 
@@ -205,12 +205,13 @@ module _ {V K : Type 0} (cmp : K → K → Ordering) (key_of : V → K) (objects
   abbrev pub own_at : Place → Place → Ordering
   own_at p = compared (own_order cmp key_of objects p) objects
 
-  -- AN OBJECT IS PUT BY ITS KEY: after members with that key
+  -- AN OBJECT IS INSERTED BY ITS KEY: after members with the same key
   abbrev pub InsertionReplies : Place → Option Place → State → Reply → State → Type 0
   InsertionReplies p cursor s (looked looks) t = AtGap s (λ gap. IsBorder (less_at (own_at p)) gap × (t ≡ put s gap p cursor)) × WithinComparisonBound looks s.members
   InsertionReplies p cursor s _ t = ⊥
 
-  -- AN ENTRY is occupied by a member with the key; or vacant, at the gap where it would stand, and the object goes there if it is unlinked
+  -- AN ENTRY is occupied by a member with the key, or vacant. If it is vacant and the object is unlinked, the object is inserted into the gap where
+  -- the key belongs
   abbrev pub EntryReplies : K → Place → State → Reply → State → Type 0
   EntryReplies key p s (entry true q looks) t = Finds (key_at key) s.members (Some q) × WithinComparisonBound looks s.members × (t ≡ moved s (Some q))
   EntryReplies key p s (entry false q looks) t =

@@ -1,4 +1,4 @@
--- The collections of a world by number, as their calls see and leave them.
+-- The collections of a world by number, as their calls see and change them.
 use Rattle.std.specs.Prelude.{◌≡◌, ℕ, List, Option, Some, None, slice_set}
 use Rattle.ic_link_ops.specs.Prelude.{Place, IsMember, Table}
 use Rattle.ic_any_collection.specs.declared.entry.Entry.{Entry}
@@ -8,17 +8,17 @@ use Rattle.ic_world.specs.declared.collection.Collection.{Collection}
 use Rattle.ic_world.specs.Tables.{at}
 
 module _ {V : Type 0} where
-  -- the field of a collection, where there is one
+  -- the field of a collection, if there is a collection of this number
   abbrev pub its_field : Option (Collection V) → Option ℕ
   its_field None = None
   its_field (Some k) = Some k.field
 
-  -- and its members
+  -- the members of a collection
   abbrev pub its_members : Option (Collection V) → Option (AnyCollection V)
   its_members None = None
   its_members (Some k) = Some k.members
 
-  -- it has these members now
+  -- the collection has these members now
   abbrev pub having : AnyCollection V → Option (Collection V) → Option (Collection V)
   having m None = None
   having m (Some k) = Some (record { field = k.field; members = m })

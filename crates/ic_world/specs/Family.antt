@@ -1,4 +1,4 @@
--- WHAT A WORLD IS, whatever tables keep it: objects, fields and collections.
+-- WHAT A WORLD IS, independent of the tables that store it: objects, fields and collections.
 use Rattle.std.specs.Prelude.{ℕ, Bool, true, false, cond, ◌&&◌, List, [], ◌∷◌, ◌++◌, length, slice_index_or, slice_set, Option, Some, None, is_some, nat_lt, nat_eq}
 use Rattle.std.specs.List.{list_any}
 use Rattle.std.specs.Ordering.{nat_cmp}
@@ -28,7 +28,7 @@ pub record Family (A V : Type 0) : Type 0 where
   pub fields : List LinkField
   pub collections : List (Option Sequence)
 
--- two kinds are one; two places are; two positions are
+-- whether two kinds are equal; two places; two positions
 abbrev pub same_kind : Kind → Kind → Bool
 same_kind k l = nat_eq (number_of k) (number_of l)
 
@@ -40,12 +40,12 @@ same_position None None = true
 same_position (Some p) (Some q) = same_place p q
 same_position _ _ = false
 
--- p stands in s
+-- p is a member of s
 abbrev pub is_among : Place → List Place → Bool
 is_among p [] = false
 is_among p (x ∷ s) = cond (same_place x p) true (is_among p s)
 
--- the member before p, `b` where p is the first; the one after it, none at the back
+-- the member before p, or `b` if p is the first; the member after p, or none if p is the last
 abbrev pub before_or : Option Place → List Place → Place → Option Place
 before_or b [] p = None
 before_or b (x ∷ s) p = cond (same_place x p) b (before_or (Some x) s p)
@@ -54,18 +54,18 @@ abbrev pub after_of : List Place → Place → Option Place
 after_of [] p = None
 after_of (x ∷ s) p = cond (same_place x p) (first s) (after_of s p)
 
--- the member after a position, at null the first one
+-- the member after a position, or the first one at null
 abbrev pub next_of : List Place → Option Place → Option Place
 next_of s None = first s
 next_of s (Some p) = after_of s p
 
--- the collection is of that field and has that member
+-- the collection belongs to this field and has this member
 abbrev pub has_member_in : ℕ → Place → Option Sequence → Bool
 has_member_in f p None = false
 has_member_in f p (Some s) = nat_eq s.field f && is_among p s.members
 
 module _ {A V : Type 0} where
-  -- collection number c; field f; its linked set; whether there is a field f; whether an object stands at p
+  -- the collection with number c; the field f; its linked places; whether there is a field f; whether there is an object at p
   abbrev pub collection : Family A V → ℕ → Option Sequence
   collection w c = slice_index_or w.collections c None
 
@@ -81,7 +81,7 @@ module _ {A V : Type 0} where
   abbrev pub is_placed : Family A V → Place → Bool
   is_placed w p = is_some (map.get w.objects (index_of p))
 
-  -- p is linked in some field; p is a member of some collection of field f
+  -- whether p is linked in some field; whether p is a member of some collection of field f
   abbrev pub is_linked_somewhere : Family A V → Place → Bool
   is_linked_somewhere w p = list_any (λ (f : LinkField). set.contains f.linked (index_of p)) w.fields
 
@@ -92,7 +92,7 @@ module _ {A V : Type 0} where
   abbrev pub objects_of : Family A V → Objects V
   objects_of w = record { values = w.objects; next = 0 }
 
-  -- field f has these linked places now; collection c is s now, or none; there is one collection more. All else stays
+  -- Three changes: field f has these linked places now; collection c is s now, or none; there is one more collection. Everything else stays
   abbrev pub with_linked : Family A V → ℕ → set.FinSet nat_cmp → Family A V
   with_linked w f l = record w { fields = slice_set w.fields f (record { kind = (field_of w f).kind; linked = l }) }
 

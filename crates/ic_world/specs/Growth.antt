@@ -4,22 +4,22 @@ use Rattle.ic_link_ops.specs.Prelude.{Place, Table}
 use Rattle.ic_any_collection.specs.declared.entry.Entry.{Entry}
 use Rattle.ic_world.specs.Tables.{table}
 
--- each table covers so many places
+-- each table covers this many places
 abbrev pub Cover : ℕ → List (Table Entry) → Type 0
 Cover room ts = (f : ℕ) → f < length ts → room ≤ (table ts f).extent.places
 
--- a table is of the kind that it was, covers what it did and maybe more, and has the entries that it had
+-- a table has the same kind as before, covers at least the places that it covered, and has the same entries at these
 pub record GrowsTo (t u : Table Entry) : Type 0 where
   pub longer : t.extent.places ≤ u.extent.places
   pub identity : u.extent.identity ≡ t.extent.identity
   pub entries : (q : Place) → u.entry q ≡ t.entry q
 
--- each table does
+-- each table has grown in this way
 pub record Grown (old new : List (Table Entry)) : Type 0 where
   pub count : length new ≡ length old
   pub each : (f : ℕ) → GrowsTo (table old f) (table new f)
 
--- so does what each of them covers
+-- each table covers at least as many places as before
 pub record Grows (room : ℕ) (old : List (Table Entry)) (room' : ℕ) (new : List (Table Entry)) : Type 0 where
   pub grown : Grown old new
   pub more : room ≤ room'

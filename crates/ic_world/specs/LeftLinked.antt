@@ -1,4 +1,4 @@
--- Places that are linked and no member's, as `fast_clear` leaves them.
+-- Places that are linked but are members of no collection, as `fast_clear` leaves them.
 use Rattle.std.specs.Prelude.{◌≡◌, ℕ, Bool, true, false, List, map, Option, Some, slice_index_or}
 use Rattle.std.specs.FinSet as set
 use Rattle.ic_link_ops.specs.Prelude.{Place, index_of, Objects, IsAbsent}
@@ -8,15 +8,15 @@ use Rattle.ic_world.specs.Family.{Family, Sequence, collection, linked_of}
 use Rattle.ic_world.specs.Tables.{table_of, left_in, family_of, IsWhole}
 
 module _ {A V : Type 0} where
-  -- p is linked in field f, and a member of none of its collections
+  -- p is linked in field f, but is a member of none of its collections
   abbrev pub IsLeftLinked : Family A V → ℕ → Place → Type 0
   IsLeftLinked w f p = (set.contains (linked_of w f) (index_of p) ≡ true) × ((c : ℕ) (s : Sequence) → collection w c ≡ Some s → s.field ≡ f → IsAbsent p s.members)
 
-  -- NONE IS LEFT LINKED in a field of which `left` doesn't say so
+  -- NO SUCH PLACE exists in a field for which `left` is false
   pub record NoneLeftLinked (left : List Bool) (w : Family A V) : Type 0 where
     pub none : (f : ℕ) (p : Place) → slice_index_or left f true ≡ false → IsLeftLinked w f p → ⊥
 
--- THE INVARIANT of a world: its tables keep its collections, and none is left linked where its fields don't say so
+-- THE INVARIANT of a world: its tables keep its collections, and only fields that are marked so have linked places that are members of no collection
 abbrev pub IsKept : {A V M : Type 0} → A → Objects V → ℕ → List (WorldField M) → List (Option (Collection V)) → Type 0
 IsKept adapter objects room fields cs =
     IsWhole objects room (map table_of fields) cs × NoneLeftLinked (left_in fields) (family_of adapter objects (map table_of fields) cs)

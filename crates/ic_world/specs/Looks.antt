@@ -1,4 +1,4 @@
--- How few looks a search makes, and how many its probe has counted.
+-- How many keys a search compares, and how many comparisons its probe has counted.
 use Rattle.std.specs.Prelude.{◌≡◌, ℕ, List}
 use Rattle.ic_unsafe_ref.specs.declared.place.Place.{Place}
 use Rattle.ic_rbtree.specs.declared.keys.key_adapter.Bound.{Bound}
@@ -7,13 +7,13 @@ use Rattle.ic_rbtree.specs.declared.keys.probe.KeyProbe.{KeyProbe}
 use Rattle.ic_rbtree.specs.KeyProbe.{looks_of}
 pub use Rattle.ic_rbtree.specs.Comparing.{WithinComparisonBound}
 
--- SO FEW LOOKS as a search within this bound makes in a tree with the members s: none by `Unbounded`
+-- AT MOST SO MANY LOOKS (key comparisons) as a search within this bound makes in a tree with the members s: none for `Unbounded`
 abbrev pub WithinBound : {B : Type 0} → Bound B → ℕ → List Place → Type 0
 WithinBound (Included _) looks s = WithinComparisonBound looks s
 WithinBound (Excluded _) looks s = WithinComparisonBound looks s
 WithinBound Unbounded looks s = looks ≡ 0
 
--- how often the probe of a bound was asked: never, where there is none
+-- how often the probe of a bound has compared: never, if the bound has no key
 abbrev pub looks_within : {A V K : Type 0} → Bound (KeyProbe A V K) → ℕ
 looks_within (Included probe) = looks_of probe
 looks_within (Excluded probe) = looks_of probe

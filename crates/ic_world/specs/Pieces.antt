@@ -1,4 +1,4 @@
--- What private calls leave of one part of a world, be it its objects, its tables or its collections.
+-- What private calls do to one part of a world: its objects, its tables or its collections.
 use Rattle.std.specs.Prelude.{◌≡◌, ℕ, ◌≤◌, ◌++◌, Bool, true, false, List, [], ◌∷◌, length, Some, None, Result, Ok, Err}
 use Rattle.ic_link_ops.specs.Prelude.{Place, Objects, object_at, with_object, Places, Table}
 use Rattle.ic_any_collection.specs.declared.entry.Entry.{Entry}
@@ -7,23 +7,23 @@ use Rattle.ic_any_collection.specs.Entries.{is_linked, kind_of}
 use Rattle.ic_world.specs.declared.call.Refusal.{Refusal}
 use Rattle.ic_world.specs.declared.call.Refusal.TheVariants.{NoSuchObject, OutOfMemory}
 
--- an item more, under the number that is answered; or none, for want of memory
+-- there is one more item, under the returned number; or none, because there is not enough memory
 abbrev pub Appends : {X : Type 0} → List X → X → Result ℕ Refusal → List X → Type 0
 Appends old x (Ok number) new = (number ≡ length old) × (new ≡ old ++ x ∷ [])
 Appends old x (Err refusal) new = (refusal ≡ OutOfMemory) × (new ≡ old)
 
 module _ {V : Type 0} where
-  -- another value at p, where an object stands; else it comes back
+  -- the object at p has another value; if there is no object, the value is returned
   abbrev pub SwapsValue : Objects V → Place → V → Result V (Refusal × V) → Objects V → Type 0
   SwapsValue old p value (Ok was) new = (object_at old p ≡ Some was) × (new ≡ with_object old p value)
   SwapsValue old p value (Err refused) new = (object_at old p ≡ None) × (refused ≡ (NoSuchObject, value)) × (new ≡ old)
 
-  -- an object more, where there is room for it; else the value comes back
+  -- there is one more object, if there is room for it; otherwise the value is returned
   abbrev pub PlacesValue : Bool → Objects V → V → Result Place (Refusal × V) → Objects V → Type 0
   PlacesValue has_room old value (Ok p) new = (has_room ≡ true) × Places old new p value
   PlacesValue has_room old value (Err refused) new = (refused ≡ (OutOfMemory, value)) × (new ≡ old)
 
--- the table of a new field: it covers so many places, and links none
+-- the table of a new field: it covers this many places, and none of them is linked
 pub record IsFresh (kind : Kind) (room : ℕ) (t : Table Entry) : Type 0 where
   pub kind_is : kind_of t ≡ kind
   pub covers : room ≤ t.extent.places

@@ -1,4 +1,4 @@
--- THE CALLS OF SEVERAL COLLECTIONS: one is opened, hands a part out to one more, or is put into another.
+-- THE CALLS OF SEVERAL COLLECTIONS: one is opened, gives a part of its members to a new one, or is spliced into another.
 use Rattle.std.specs.Prelude.{◌≡◌, ℕ, Bool, true, not, List, [], length, Option, Some, None, MatchOption, nat_eq}
 use Rattle.ic_link_ops.specs.Prelude.{Place, Cut, join, splice, IsAfter, IsBefore}
 use Rattle.ic_any_collection.specs.declared.kind.Kind.{Kind}
@@ -11,19 +11,19 @@ use Rattle.ic_world.specs.declared.part.Part.TheVariants.{All, After, Before}
 use Rattle.ic_world.specs.Calls.{State, Reply, done, opened, refused, having, AtGap, asks}
 use Rattle.ic_world.specs.Family.{Family, Sequence, same_kind, collection, field_of, linked_of, has_field, with_linked, with_collection, with_opened}
 
--- no such collection, or the tests that know it
+-- the refusal `NoSuchCollection`, or the result of the tests that know the collection
 abbrev pub asks_collection : Option Sequence → (Sequence → Option Refusal) → Option Refusal
 asks_collection None rest = Some NoSuchCollection
 asks_collection (Some s) rest = rest s
 
--- the collection of field f that is in this state; a collection with other members and its cursor elsewhere
+-- the collection of field f that has this state; the collection with other members and another cursor
 abbrev pub sequence_of : ℕ → State → Sequence
 sequence_of f t = record { field = f; kind = t.kind; members = t.members; cursor = t.cursor }
 
 abbrev pub with_members : Sequence → List Place → Option Place → Sequence
 with_members s members cursor = record s { members = members; cursor = cursor }
 
--- A PART is all, or what is on one side of the cursor: which kinds hand it out, and what stays and what is handed out
+-- A PART is all members, or those on one side of the cursor: which kinds can give it away, which members stay, and which go
 abbrev pub has_part : Part → Kind → Bool
 has_part All k = true
 has_part After k = is_list k
@@ -35,14 +35,14 @@ PartsOf After old new handed = AtGap old (λ gap. IsAfter gap old.cursor × (new
 PartsOf Before old new handed = AtGap old (λ gap. IsBefore gap old.cursor × (new ≡ having old gap.back old.cursor) × (handed ≡ having old gap.front None))
 
 module _ {A V : Type 0} where
-  -- A CALL OF ONE COLLECTION sees of a world its state, and changes nothing else
+  -- A CALL OF ONE COLLECTION sees only the state of that collection in the world, and changes nothing else
   abbrev pub state_in : Family A V → Sequence → State
   state_in w s = record { kind = s.kind; members = s.members; cursor = s.cursor; linked = linked_of w s.field }
 
   abbrev pub with_state : Family A V → ℕ → ℕ → State → Family A V
   with_state w c f t = with_linked (with_collection w c (Some (sequence_of f t))) f t.linked
 
-  -- A STEP, by the first refusal and what is accepted where there is none
+  -- A STEP, given by the first refusal, and by what the call does if there is no refusal
   abbrev pub StepBy : Option Refusal → (Reply → Family A V → Type 0) → Family A V → Reply → Family A V → Type 0
   StepBy refusal accepts old reply new = MatchOption refusal (accepts reply new) (λ r. (reply ≡ refused r) × (new ≡ old))
 
@@ -50,7 +50,7 @@ module _ {A V : Type 0} where
   abbrev pub refusal_of_open : Family A V → ℕ → Kind → Option Refusal
   refusal_of_open w f k = asks (has_field w f) NoSuchField (asks (carries (field_of w f).kind k) WrongKind None)
 
-  -- A PART OF ONE IS HANDED OUT to a collection more, of the same field
+  -- A PART OF ONE BECOMES a new collection of the same field
   abbrev pub refusal_of_part : Family A V → ℕ → Part → Option Refusal
   refusal_of_part w c part = asks_collection (collection w c) (λ s. asks (has_part part s.kind) WrongKind None)
 
@@ -60,7 +60,7 @@ module _ {A V : Type 0} where
   OpensWith old c part (refused OutOfMemory) new = new ≡ old
   OpensWith old c part _ new = ⊥
 
-  -- ALL OF ONE IS PUT INTO ANOTHER of the same field and kind, and is empty then
+  -- ALL MEMBERS OF ONE MOVE INTO ANOTHER of the same field and kind, and the first is then empty
   abbrev pub refusal_of_splice : Family A V → (Kind → Bool) → (c d : ℕ) → Option Refusal
   refusal_of_splice w has c d = asks_collection (collection w c) (λ s. asks_collection (collection w d) (λ t.
       asks (has s.kind) WrongKind (asks (same_kind s.kind t.kind) WrongKind (asks (not (nat_eq c d)) SameCollection
@@ -71,7 +71,7 @@ module _ {A V : Type 0} where
       × (t : Sequence) × (collection old d ≡ Some t) × IsBeside gap s.cursor
       × (new ≡ with_collection (with_collection old d (Some (with_members t [] None))) c (Some (with_members s (splice gap t.members) s.cursor)))
 
-  -- the steps of both
+  -- the steps of both kinds of calls
   abbrev pub StepOut : Family A V → ℕ → Part → Reply → Family A V → Type 0
   StepOut old c part reply new = StepBy (refusal_of_part old c part) (OpensWith old c part) old reply new
 

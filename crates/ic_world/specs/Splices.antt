@@ -9,24 +9,24 @@ use Rattle.ic_any_collection.specs.Edits.{AtGap, PutsAll}
 use Rattle.ic_world.specs.declared.collection.Collection.{Collection}
 use Rattle.ic_world.specs.Tables.{table, at}
 
--- before the cursor, if `before`, and else after it
+-- before the cursor if `before` is true, or else after it
 abbrev pub IsBesideOf : Bool → Cut → Option Place → Type 0
 IsBesideOf true = IsBefore
 IsBesideOf false = IsAfter
 
--- which kinds have it
+-- which kinds have this splice
 abbrev pub can_splice : Bool → Kind → Bool
 can_splice true = is_two_way_list
 can_splice false = is_list
 
 module _ {V : Type 0} where
-  -- THE COLLECTION HAS NO MEMBER NOW, and its cursor is at null; its members stay linked
+  -- THE COLLECTION IS NOW EMPTY, with its cursor at null. Its former members stay linked
   pub record Emptied (m m' : AnyCollection V) : Type 0 where
     pub kept : (t : Table Entry) (s : List Place) → Keeps t m s → Keeps t m' []
     pub alike : Alike m m'
     pub null : cursor_in m' ≡ None
 
-  -- the members `r` are put at the gap beside the cursor, on the side that is told
+  -- the members `r` are inserted into the gap beside the cursor, on the given side
   abbrev pub PutsBeside : Bool → (t t' : Table Entry) (m m' : AnyCollection V) (r : List Place) → Type 0
   PutsBeside before t t' m m' r = AtGap (members_in t m) (λ gap. IsBesideOf before gap (cursor_in m) × PutsAll t t' m m' gap r)
 
@@ -48,7 +48,7 @@ module _ {V : Type 0} where
     pub differ : c ≢ d
     pub can : CanJoin before ts list given
 
-  -- THE MEMBERS OF l ARE PUT beside the cursor of k, and of all tables that of k's field alone is changed
+  -- THE MEMBERS OF l MOVE beside the cursor of k, and only the table of k's field changes
   pub record PutsTogether (before : Bool) (ts us : List (Table Entry)) (k l k' l' : Collection V) : Type 0 where
     pub t : Table Entry
     pub tables : us ≡ slice_set ts k.field t
@@ -57,7 +57,7 @@ module _ {V : Type 0} where
     pub emptied : Emptied l.members l'.members
     pub puts : PutsBeside before (table ts k.field) t k.members k'.members (members_in (table ts k.field) l.members)
 
-  -- and collections c and d are these two
+  -- the same, for the collections with the numbers c and d
   pub record IsJoined (before : Bool) (ts us : List (Table Entry)) (cs new : List (Option (Collection V))) (c d : ℕ) (k l : Collection V) : Type 0 where
     pub list : Collection V
     pub given : Collection V

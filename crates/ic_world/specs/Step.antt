@@ -50,7 +50,7 @@ module _ {A V K : Type 0} (cmp : K → K → Ordering) (key_of : A → V → K) 
   AcceptsOn old c call reply new = (s : Sequence) × (t : State) × (collection old c ≡ Some s)
       × Replies cmp (key_of old.adapter) (objects_of old) call (state_in old s) reply t × (new ≡ with_state old c s.field t)
 
-  -- a range answers the members between two bounds in their order, with the looks of the search for each bound
+  -- a range returns the members between two bounds in their order, and the number of looks (key comparisons) of the search for each bound
   abbrev pub RangeReplies : Family A V → Bound K → Bound K → Sequence → Reply → Type 0
   RangeReplies w min max s (range places first second) =
       IsRange (bound_at cmp (key_of w.adapter) (objects_of w) min) (bound_at cmp (key_of w.adapter) (objects_of w) max)
@@ -58,7 +58,7 @@ module _ {A V K : Type 0} (cmp : K → K → Ordering) (key_of : A → V → K) 
   RangeReplies w min max s (refused OutOfMemory) = Unit {0}
   RangeReplies w min max s _ = ⊥
 
-  -- WHAT AN ACCEPTED CALL answers and leaves. Want of memory may be answered by the calls that take some, and leaves all as it was
+  -- WHAT AN ACCEPTED CALL returns and changes. The calls that allocate may return `OutOfMemory`, and then nothing changes
   abbrev pub Accepts : Family A V → Command V K → Reply → Family A V → Type 0
   Accepts old (call.On c one) reply new = AcceptsOn old c one reply new
   Accepts old (call.AddField k) (field f) new =
@@ -95,7 +95,7 @@ module _ {A V K : Type 0} (cmp : K → K → Ordering) (key_of : A → V → K) 
   Accepts old (call.IsLinked f p) reply new = (reply ≡ linked (set.contains (linked_of old f) (index_of p))) × (new ≡ old)
   Accepts old (call.ForceUnlink f p) reply new = (reply ≡ done) × (new ≡ with_linked old f (set.remove (linked_of old f) (index_of p)))
 
-  -- A STEP: the call may be answered by this reply and lead from old to new
+  -- A STEP: the call may return this reply and lead from `old` to `new`
   abbrev pub Step : Family A V → Command V K → Reply → Family A V → Type 0
   Step old command reply new = StepBy (refusal old command) (Accepts old command) old reply new
 
@@ -103,7 +103,7 @@ module _ {A V K : Type 0} (cmp : K → K → Ordering) (key_of : A → V → K) 
   abbrev pub StepOn : Family A V → ℕ → Call K → Reply → Family A V → Type 0
   StepOn old c call reply new = StepBy (refusal_on old c call) (AcceptsOn old c call) old reply new
 
-  -- A RUN: each call is a step from where the one before it led, and the replies are theirs, in order
+  -- A RUN: each call is a step from the family to which the one before it led, and the replies are those of the calls, in order
   abbrev pub Runs : Family A V → List (Command V K) → List Reply → Family A V → Type 0
   Runs old [] [] new = new ≡ old
   Runs old (call ∷ calls) (reply ∷ replies) new = (mid : Family A V) × Step old call reply mid × Runs mid calls replies new

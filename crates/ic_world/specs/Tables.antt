@@ -1,4 +1,4 @@
--- The family that tables represent: nothing of it is stored beside them but the cursors.
+-- The family that tables represent: besides them, only the cursors are stored.
 use Rattle.std.specs.Prelude.{◌≡◌, ◌≢◌, ℕ, ◌<◌, ◌≤◌, ◌^◌, Bool, true, false, List, [], map, length, Option, Some, None, IsSome, slice_index_or}
 use Rattle.std.specs.FinMap as map_of
 use Rattle.ic_link_ops.specs.Prelude.{Place, index_of, Objects, IsDisjoint, Table}
@@ -19,7 +19,7 @@ table_of f = table_in f.links
 abbrev pub left_in : {M : Type 0} → List (WorldField M) → List Bool
 left_in fields = map (λ f. f.left_linked) fields
 
--- where there is no field
+-- the table if there is no field
 abbrev pub no_table : Table Entry
 no_table = record { extent = record { places = 0; identity = [] }; entry = λ p. record { linked = false; word = 0; prev = None; parent = None; color = Red } }
 
@@ -30,12 +30,12 @@ table ts f = slice_index_or ts f no_table
 abbrev pub field_in : Table Entry → LinkField
 field_in t = record { kind = kind_of t; linked = linked_in t }
 
--- an object stands at the place with this index
+-- there is an object at the place with this index
 abbrev pub HasObject : {V : Type 0} → Objects V → ℕ → Type 0
 HasObject objects i = IsSome (map_of.get objects.values i)
 
 module _ {V : Type 0} where
-  -- collection number c, none if there is no such one
+  -- the collection with number c, or none if there is no such one
   abbrev pub at : List (Option (Collection V)) → ℕ → Option (Collection V)
   at cs c = slice_index_or cs c None
 
@@ -59,8 +59,8 @@ module _ {V : Type 0} where
     collections = map (represented_as ts) cs;
   }
 
-  -- the objects stand below 2 ^ 32 and below `room`, which each table covers; only objects are linked; each collection is kept by its table, and
-  -- those of one field share no member
+  -- the places of objects are below 2 ^ 32 and below `room`, and each table covers the places below `room`; only objects are linked; each collection
+  -- is kept by its table; and the collections of one field share no member
   pub record IsWhole (objects : Objects V) (room : ℕ) (ts : List (Table Entry)) (cs : List (Option (Collection V))) : Type 0 where
     pub within : (i : ℕ) → HasObject objects i → (i < room) × (i < 2 ^ 32)
     pub covered : (f : ℕ) → f < length ts → room ≤ (table ts f).extent.places

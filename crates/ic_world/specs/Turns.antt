@@ -1,4 +1,4 @@
--- What a call of one collection gives to the world, whatever it does.
+-- What a call of one collection guarantees to the world, whatever the call is.
 use Rattle.std.specs.Prelude.{◌≡◌, ◌⊎◌, true, Option, Some, None, List, [], ◌∷◌, ◌++◌, Result, Ok, Err, IfOk, OnErr}
 use Rattle.ic_link_ops.specs.Prelude.{Place, IsAbsent, IsDisjoint, Table, ChangesOnlyIn, KeepsLinked, IsUnlinked}
 use Rattle.ic_any_collection.specs.declared.entry.Entry.{Entry}
@@ -17,7 +17,7 @@ abbrev pub Each : (Place → Type 0) → List Place → Type 0
 Each P [] = Unit {0}
 Each P (p ∷ s) = P p × Each P s
 
--- the refusal in a result, none where the call was accepted
+-- the refusal in a result, or none if the call was accepted
 abbrev pub refusal_in : {A R : Type 0} → Result A R → Option R
 refusal_in (Ok a) = None
 refusal_in (Err r) = Some r
@@ -27,7 +27,7 @@ module _ {V : Type 0} where
   abbrev pub state_of : Table Entry → AnyCollection V → State
   state_of t m = record { kind = kind_in m; members = members_in t m; cursor = cursor_in m; linked = linked_in t }
 
-  -- WHAT A CALL OF ONE COLLECTION LEAVES: its step, and the rest as it was. Nothing is newly linked but what the call names
+  -- WHAT A CALL OF ONE COLLECTION LEAVES: it makes its step and leaves the rest as it was. It newly links only places that it names
   pub record Turns (names : List Place) (Accepts : State → State → Type 0) (old new : Table Entry) (m m' : AnyCollection V) : Type 0 where
     pub fresh : List Place
     pub named : (fresh ≡ []) ⊎ (fresh ≡ names)
@@ -39,14 +39,14 @@ module _ {V : Type 0} where
     pub alike : Alike m m'
     pub accepts : Accepts (state_of old m) (state_of new m')
 
-  -- A CALL IS DONE: it is refused as its tests say, and nothing has changed; or it leaves what it accepts
+  -- A CALL IS DONE: it is refused by the result of its tests, and nothing has changed; or it was accepted and has made its change
   pub record Ran {M R : Type 0} (names : List Place) (refusal : State → Option Refusal) (accepts : R → State → State → Type 0)
       (links links' : AnyTable M) (m m' : AnyCollection V) (result : Result R Refusal) : Type 0 where
     pub tested : refusal_in result ≡ refusal (state_of (table_in links) m)
     pub turned : IfOk result (λ answer. Turns names (accepts answer) (table_in links) (table_in links') m m')
     pub unchanged : OnErr result (IsUnchanged links links' m m')
 
-  -- WHAT A CALL THAT HANDS A PART OUT LEAVES: the same places are linked, and nothing but entries of members is changed
+  -- WHAT A CALL THAT GIVES A PART AWAY LEAVES: the same places are linked, and only entries of members have changed
   pub record HandsOut (Parts : State → State → State → Type 0) (old new : Table Entry) (m m' handed : AnyCollection V) : Type 0 where
     pub held : Held new m'
     pub hands_out : Held new handed

@@ -1,4 +1,4 @@
-//! The calls of a world, and what they answer.
+//! The calls of a world, and what they return.
 //!
 //! ```text
 //! Command::On(0, Call::Put(Gap::Back, place)) // `push_back`: Answer::Done, or Answer::Refused(Refusal::AlreadyLinked)
@@ -17,7 +17,7 @@ use thiserror::Error;
 
 /// Why a call was refused. A refused call changes nothing.
 ///
-/// Where several apply the first of them, in this order, is the answer.
+/// If several refusals apply, the call returns the first of them in the order below.
 #[derive(Clone, Copy, PartialEq, Eq, Error)]
 pub enum Refusal {
     /// There is no field of that number.
@@ -26,10 +26,10 @@ pub enum Refusal {
     /// There is no collection of that number.
     #[error("NoSuchCollection")]
     NoSuchCollection = 2,
-    /// No object stands at that place.
+    /// There is no object at that place.
     #[error("NoSuchObject")]
     NoSuchObject = 3,
-    /// The kind has no such call, the table can't carry the kind, or two kinds differ.
+    /// The collection's kind lacks this call, the field cannot have collections of this kind, or two collections are of different kinds.
     #[error("WrongKind")]
     WrongKind = 4,
     /// A collection can't be spliced into itself.
@@ -38,34 +38,34 @@ pub enum Refusal {
     /// The two collections are of different fields.
     #[error("OtherField")]
     OtherField = 6,
-    /// Nothing stands where a member is to be replaced.
+    /// There is no member to replace.
     #[error("NothingThere")]
     NothingThere = 7,
-    /// The object is no member of that collection.
+    /// The object is not a member of that collection.
     #[error("NotAMember")]
     NotAMember = 8,
-    /// The named neighbor isn't that one.
+    /// The named neighbor is not the neighbor of the object.
     #[error("NotANeighbour")]
     NotANeighbour = 9,
-    /// The object is linked in that field.
+    /// The object is already linked in that field.
     #[error("AlreadyLinked")]
     AlreadyLinked = 10,
-    /// A member can't be unlinked by force.
+    /// The object is a member of a collection, so that it can't be unlinked by force.
     #[error("IsMember")]
     IsMember = 11,
-    /// The object is linked in some field.
+    /// The object is still linked in some field, so that it can't be removed.
     #[error("StillLinked")]
     StillLinked = 12,
-    /// There is no place left.
+    /// All places are in use.
     #[error("TooManyObjects")]
     TooManyObjects = 13,
-    /// A growth found no memory.
+    /// There was not enough memory.
     #[error("OutOfMemory")]
     OutOfMemory = 14,
 }
 
 impl Refusal {
-    /// The number of the refusal, 1 to 14.
+    /// Returns the number of the refusal, 1 to 14.
     #[inline]
     pub fn number(&self) -> u8
         ensures { result ≡ number_of self.now }
@@ -80,7 +80,7 @@ impl fmt::Debug for Refusal {
     }
 }
 
-/// A call of a world, with what it is given. Fields and collections are named by their numbers, objects by their places.
+/// A call of a world, with its arguments. Fields and collections are named by their numbers, and objects by their places.
 #[derive(Copy)]
 pub enum Command<V, K> {
     /// A call of one collection.
@@ -128,18 +128,18 @@ impl<V: Copy, K: Copy> Clone for Command<V, K> {
 
     ghost is_infallible = { λ _. ⊤ };
 
-    /// The same command. It never fails.
+    /// Returns a copy of the command. It never fails.
     fn clone(&self) -> Result<Self, AllocError> {
         Ok(*self)
     }
 }
 
-/// What a call answers.
+/// What a call returns.
 #[derive(Drop)]
 pub enum Answer<M: Allocator = Global> {
-    /// It is done.
+    /// The call is done and returns nothing else.
     Done,
-    /// There is none.
+    /// There is no such object.
     Nothing,
     /// The place of an object.
     Object(Place),
@@ -151,14 +151,14 @@ pub enum Answer<M: Allocator = Global> {
     Items(Vec<Place, M>),
     /// Whether an object is linked.
     Linked(bool),
-    /// The member that a search found, and how many objects it looked at.
+    /// The member that a search found, and how many keys it compared.
     Found(Option<Place>, u64),
-    /// It is done, with so many looks.
+    /// The call is done, and compared this many keys.
     Looked(u64),
-    /// The members between two bounds, in order, and the looks of the two searches.
+    /// The members between two bounds, in order, and how many keys each of the two searches compared.
     Range(Vec<Place, M>, u64, u64),
-    /// Whether a member had the key, that member or the object that went in, and the looks.
+    /// Whether a member had the key, that member or the inserted object, and how many keys were compared.
     Entry(bool, Place, u64),
-    /// Refused: nothing has changed.
+    /// The call was refused, and nothing has changed.
     Refused(Refusal),
 }

@@ -6,7 +6,7 @@
 
 use ic_any_collection::AnyCollection;
 
-/// The members and the cursor, with the number of the field that links them.
+/// The members and the cursor of a collection, and the number of its field.
 #[derive(Drop)]
 pub struct Collection<T> {
     pub field: usize,

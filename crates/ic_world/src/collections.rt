@@ -1,4 +1,4 @@
-//! The collections of a world, as wholes.
+//! Calls that open, dispose of, split, splice and list the collections of a world.
 //!
 //! ```text
 //! let queue = world.open(field, Kind::Doubly)?;
@@ -25,7 +25,7 @@ use ic_rbtree::KeyAdapter;
 use ic_unsafe_ref::Place;
 use std::alloc::Allocator;
 
-// Puts all members of the given list beside the cursor of another.
+// Moves all members of the given list beside the cursor of another.
 fn put_beside<T, M: Allocator>(
     list: &mut AnyCollection<T>,
     links: &mut AnyTable<M>,
@@ -46,7 +46,7 @@ fn put_beside<T, M: Allocator>(
     }
 }
 
-// Puts all members of the given list beside the cursor of another of its field. The given one stays, with no member.
+// Moves all members of the given list beside the cursor of another list of its field. The given list still exists, but is empty.
 fn join<T, M: Allocator + Copy>(
     collections: &mut CollectionsByNumber<T, M>,
     tables: &mut Vec<WorldField<M>, M>,
@@ -78,7 +78,7 @@ impl<A: KeyAdapter, M: Allocator + Copy> World<A, M> {
 
     /// Makes an empty collection in a field, with its cursor at null, and returns its number.
     ///
-    /// Refused: `NoSuchField`, `WrongKind` where the field's table doesn't carry the kind, `OutOfMemory`.
+    /// Refused: `NoSuchField`, `WrongKind` if the field cannot have collections of this kind, `OutOfMemory`.
     pub fn open(&mut self, field: usize, kind: Kind) -> Result<usize, Refusal>
         ensures { Step A.Key.cmp A.key_of self.old (Command.Open field kind) (reply_of (λ c. opened c) result) self.new }
     {
@@ -88,7 +88,7 @@ impl<A: KeyAdapter, M: Allocator + Copy> World<A, M> {
         self.collections.push(field, AnyCollection::new(kind))
     }
 
-    // The refusal of a collection of a kind in a field.
+    // Returns the refusal of a new collection of this kind in a field.
     fn open_refused(&self, field: usize, kind: Kind) -> Option<Refusal>
         ensures { result ≡ refusal_of_open self.now field kind }
     {
@@ -101,7 +101,7 @@ impl<A: KeyAdapter, M: Allocator + Copy> World<A, M> {
         None
     }
 
-    /// Unlinks all members of a collection, and gives it up: its number names nothing from then on.
+    /// Unlinks all members of a collection, and disposes of it. From then on its number names nothing.
     ///
     /// Refused: `NoSuchCollection`. O(members). It takes no memory.
     pub fn dispose(&mut self, collection: usize) -> Result<(), Refusal>
@@ -116,7 +116,8 @@ impl<A: KeyAdapter, M: Allocator + Copy> World<A, M> {
         }
     }
 
-    /// Takes all members of a collection into a new one of the same field and kind, and returns its number. Both cursors are null.
+    /// Moves all members of a collection into a new one of the same field and kind, and returns the number of the new one. Both cursors are then at
+    /// null.
     ///
     /// Refused: `NoSuchCollection`, `OutOfMemory`. O(1).
     pub fn take(&mut self, collection: usize) -> Result<usize, Refusal>
@@ -125,7 +126,8 @@ impl<A: KeyAdapter, M: Allocator + Copy> World<A, M> {
         self.hand_out(collection, Part::All)
     }
 
-    /// Takes the members after the cursor of a list, at null all of them, into a new one, and returns its number. The cursor stays.
+    /// Moves the members after the cursor of a list, or all members if the cursor is at null, into a new list, and returns the number of the new one.
+    /// The cursor stays.
     ///
     /// Refused: `NoSuchCollection`, `WrongKind` of a tree, `OutOfMemory`. O(1).
     pub fn split_after(&mut self, collection: usize) -> Result<usize, Refusal>
@@ -134,8 +136,8 @@ impl<A: KeyAdapter, M: Allocator + Copy> World<A, M> {
         self.hand_out(collection, Part::After)
     }
 
-    /// Takes the members before the cursor of a list, at null all of them, into a new one, and returns its number. The cursor
-    /// stays.
+    /// Moves the members before the cursor of a list, or all members if the cursor is at null, into a new list, and returns the number of the new
+    /// one. The cursor stays.
     ///
     /// Refused: `NoSuchCollection`, `WrongKind` of a tree or a singly linked list, `OutOfMemory`. O(1).
     pub fn split_before(&mut self, collection: usize) -> Result<usize, Refusal>
@@ -144,7 +146,7 @@ impl<A: KeyAdapter, M: Allocator + Copy> World<A, M> {
         self.hand_out(collection, Part::Before)
     }
 
-    /// The members of a collection, from the front.
+    /// Returns the members of a collection, from the front.
     ///
     /// Refused: `NoSuchCollection`, `OutOfMemory`. O(members).
     pub fn show(&self, collection: usize) -> Result<Vec<Place, M>, Refusal>
@@ -159,7 +161,7 @@ impl<A: KeyAdapter, M: Allocator + Copy> World<A, M> {
         }
     }
 
-    /// The members of a collection, from the back.
+    /// Returns the members of a collection, from the back.
     ///
     /// Refused: `NoSuchCollection`, `WrongKind` of a singly linked list, `OutOfMemory`. O(members).
     pub fn show_back(&self, collection: usize) -> Result<Vec<Place, M>, Refusal>
@@ -180,7 +182,7 @@ impl<A: KeyAdapter, M: Allocator + Copy> World<A, M> {
         }
     }
 
-    // The field of a collection, and its kind.
+    // Returns the field of a collection, and its kind.
     fn seen(&self, collection: usize) -> Option<(usize, Kind)>
         ensures { result ≡ field_and_kind (collection_of self.now collection) }
     {
@@ -188,7 +190,7 @@ impl<A: KeyAdapter, M: Allocator + Copy> World<A, M> {
         Some((field, self.collections.members(collection).kind()))
     }
 
-    // The refusal of a splice, of a list or of one with calls at its back.
+    // Returns the refusal of a splice: one after a cursor needs a list, and one before it a list with calls at its back.
     fn splice_refused(&self, collection: usize, given: usize, before: bool) -> Option<Refusal>
         ensures { result ≡ refusal_of_splice self.now (can_splice before) collection given }
     {
@@ -215,7 +217,7 @@ impl<A: KeyAdapter, M: Allocator + Copy> World<A, M> {
         None
     }
 
-    // Puts all members of the given collection beside the cursor of the first.
+    // Moves all members of the given collection beside the cursor of the first.
     fn splice(&mut self, collection: usize, given: usize, before: bool) -> Result<(), Refusal>
         ensures { StepSplice (IsBesideOf before) (can_splice before) self.old collection given (reply_of (λ _. done) result) self.new }
     {
@@ -232,46 +234,46 @@ impl<A: KeyAdapter, M: Allocator + Copy> World<A, M> {
         Ok(())
     }
 
-    /// Puts all members of the given collection after the cursor of the first, at null before all. The given one is empty then,
-    /// with its cursor at null; the first cursor stays.
+    /// Moves all members of the given collection after the cursor of the first, or to the front if that cursor is at null. The given collection is
+    /// then empty, with its cursor at null, and the first cursor stays.
     ///
-    /// Refused: `NoSuchCollection`, `WrongKind` of trees and where the kinds differ, `SameCollection`, `OtherField`. O(1), of singly
-    /// linked lists O(given members). It takes no memory.
+    /// Refused: `NoSuchCollection`, `WrongKind` of trees and if the kinds differ, `SameCollection`, `OtherField`. O(1), or O(given members) for
+    /// singly linked lists. It takes no memory.
     pub fn splice_after(&mut self, collection: usize, given: usize) -> Result<(), Refusal>
         ensures { Step A.Key.cmp A.key_of self.old (Command.SpliceAfter collection given) (reply_of (λ _. done) result) self.new }
     {
         self.splice(collection, given, false)
     }
 
-    /// Puts all members of the given collection before the cursor of the first, at null after all. The given one is empty then,
-    /// with its cursor at null; the first cursor stays.
+    /// Moves all members of the given collection before the cursor of the first, or to the back if that cursor is at null. The given collection is
+    /// then empty, with its cursor at null, and the first cursor stays.
     ///
-    /// Refused: `NoSuchCollection`, `WrongKind` of trees, of singly linked lists and where the kinds differ, `SameCollection`,
-    /// `OtherField`. O(1). It takes no memory.
+    /// Refused: `NoSuchCollection`, `WrongKind` of trees, of singly linked lists and if the kinds differ, `SameCollection`, `OtherField`. O(1). It
+    /// takes no memory.
     pub fn splice_before(&mut self, collection: usize, given: usize) -> Result<(), Refusal>
         ensures { Step A.Key.cmp A.key_of self.old (Command.SpliceBefore collection given) (reply_of (λ _. done) result) self.new }
     {
         self.splice(collection, given, true)
     }
 
-    /// Says what always holds: each object stands at one of the first 2^32 places, and one stands at each linked place; the field of
-    /// each collection is there and carries its kind, its members are linked in it, and its cursor is null or a member; and no member
-    /// is shared. It does nothing.
+    /// Gives a caller's proof what always holds of a world, and does nothing itself. Each object is at one of the first 2^32 places, and each linked
+    /// place has an object. The field of each collection exists and can have collections of its kind, its members are linked in it, and its cursor is
+    /// null or a member. No member is shared.
     pub fn family_is_sound(&self)
         ensures { IsSound self.now }
     {
         let _ = &self.collections;
     }
 
-    /// Says that no place stands twice in a collection, nor in two collections of one field. It does nothing.
+    /// Gives a caller's proof that no place is twice in a collection, or in two collections of one field. It does nothing itself.
     pub fn no_member_is_shared(&self)
         ensures { AreApart self.now }
     {
-        // What is read is kept by a world, of which this is the law.
+        // What this function reads belongs to a world, of which the law holds.
         let _ = &self.collections;
     }
 
-    /// Says that an object stands at each member of each collection. It does nothing.
+    /// Gives a caller's proof that there is an object at each member of each collection. It does nothing itself.
     pub fn every_member_is_placed(&self)
         ensures { AreAllPlaced self.now }
     {

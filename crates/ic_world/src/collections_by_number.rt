@@ -1,4 +1,4 @@
-//! The collections of a world by number. Each live one lies in a list of its field, and a number that was disposed of keeps 8 bytes.
+//! The collections of a world by number. Each live one is stored in a list of its field. The number of a disposed one still takes 8 bytes.
 //!
 //! ```text
 //! let number = collections.push(field, AnyCollection::new(kind))?;
@@ -20,14 +20,14 @@ use ic_unsafe_ref::Place;
 use std::alloc::{AllocError, Allocator, Global};
 use std::marker::Model;
 
-// Where the collection of a number lies: in which field, and which of the live ones of that field it is.
+// The position of the collection with a number: its field, and its index among the live collections of that field.
 #[derive(Clone, Copy)]
 struct Slot {
     field: u32,
     index: u32,
 }
 
-// The index of one that was disposed of. All live ones lie below it.
+// The index that marks a disposed collection. All live ones have a lower index.
 const DISPOSED: u32 = u32::MAX;
 
 // A live collection of a field, with its number.
@@ -37,12 +37,12 @@ struct Numbered<T> {
     members: AnyCollection<T>,
 }
 
-/// Collections by number, each of a field. A clause sees them as a list, with none where one was disposed of.
+/// Collections by number, each of a field. A contract sees them as a list, with `None` for each that was disposed of.
 #[derive(Drop)]
 pub struct CollectionsByNumber<T, M: Allocator + Copy = Global> {
     alloc: M,
     numbers: Vec<Slot, M>,
-    // The live ones of each field, as far as fields have had one.
+    // The live collections of each field, up to the last field that has had one.
     live: Vec<Vec<Numbered<T>, M>, M>,
 }
 
@@ -59,7 +59,7 @@ impl<T, M: Allocator + Copy> Model for CollectionsByNumber<T, M> {
     ghost invariant = { λ c. AreNumbered (map items_of c.live.items) c.numbers.items };
 }
 
-// Takes a live collection out of its field, where the last one moves to its index. It answers the number of that one.
+// Removes a live collection from the list of its field. The last one of the list moves to its index, and the function returns the number of that one.
 fn take_out<T, M: Allocator>(list: &mut Vec<Numbered<T>, M>, index: usize) -> usize
     requires { index < vec_len list.old }
     ensures { IsTakenOut list.old.items index result list.new.items }
@@ -74,7 +74,7 @@ fn take_out<T, M: Allocator>(list: &mut Vec<Numbered<T>, M>, index: usize) -> us
     number
 }
 
-// Makes lists, as far as memory is found, until the field has one.
+// Adds empty lists until the field has one, or memory runs out.
 fn cover_field<T, M: Allocator + Copy>(
     live: &mut Vec<Vec<Numbered<T>, M>, M>,
     alloc: M,
@@ -91,7 +91,7 @@ fn cover_field<T, M: Allocator + Copy>(
     Ok(())
 }
 
-// Puts a collection into a field, and answers where it lies.
+// Inserts a collection into a field, and returns its position.
 fn enter<T, M: Allocator + Copy>(
     live: &mut Vec<Vec<Numbered<T>, M>, M>,
     alloc: M,
@@ -120,7 +120,7 @@ fn enter<T, M: Allocator + Copy>(
     })
 }
 
-// Whether one of the collections has the object as a member: they are asked one after the other.
+// Returns whether one of the collections has the object as a member. It asks one after the other.
 fn contains_in<T, M: Allocator>(list: &[Numbered<T>], links: &AnyTable<M>, object: Place) -> bool
     requires held { EachHeld (table_in links.now) list.now }
     requires covered { IsCovered (table_in links.now) object }
@@ -138,7 +138,7 @@ impl<T, M: Allocator + Copy> CollectionsByNumber<T, M> {
     ghost use Rattle.std.specs.Borrow.{sem};
     ghost use Rattle.ic_world.specs.Lends.{LendsMembers};
 
-    /// No collection, and no number. It takes no memory.
+    /// Makes an empty table of collections. It takes no memory.
     pub(crate) fn new(alloc: M) -> Self
         ensures { result ≡ [] }
     {
@@ -149,7 +149,7 @@ impl<T, M: Allocator + Copy> CollectionsByNumber<T, M> {
         }
     }
 
-    /// The field of a collection, `None` where there is none of that number. O(1).
+    /// Returns the field of a collection, or `None` if there is no collection of this number. O(1).
     #[inline]
     pub(crate) fn field_of(&self, number: usize) -> Option<usize>
         ensures { result ≡ its_field (at self.now number) }
@@ -164,7 +164,7 @@ impl<T, M: Allocator + Copy> CollectionsByNumber<T, M> {
         Some(slot.field as usize)
     }
 
-    /// The members of a collection, to be read. O(1).
+    /// Returns the members of a collection by a shared reference. O(1).
     #[inline]
     pub(crate) fn members(&self, number: usize) -> &AnyCollection<T>
         requires { IsSome (at self.now number) }
@@ -174,7 +174,7 @@ impl<T, M: Allocator + Copy> CollectionsByNumber<T, M> {
         &self.live[slot.field as usize][slot.index as usize].members
     }
 
-    /// The members of a collection, to be changed. O(1).
+    /// Returns the members of a collection by a mutable reference. O(1).
     #[inline]
     pub(crate) fn members_mut(&mut self, number: usize) -> &mut AnyCollection<T>
         requires { IsSome (at self.old number) }
@@ -187,9 +187,9 @@ impl<T, M: Allocator + Copy> CollectionsByNumber<T, M> {
         &mut found.members
     }
 
-    /// Puts a collection into a field, under the next number, which it answers. O(1), but for the first one of a field.
+    /// Inserts a collection into a field under the next number, and returns the number. O(1), except for the first collection of a field.
     ///
-    /// Refused: `OutOfMemory`, also where the number of the field, or how many live ones it has, doesn't fit in 32 bits.
+    /// Refused: `OutOfMemory`, also if the number of the field, or the number of its live collections, does not fit in 32 bits.
     pub(crate) fn push(&mut self, field: usize, members: AnyCollection<T>) -> Result<usize, Refusal>
         ensures { Appends self.old (Some (record { field = field; members = members })) result self.new }
     {
@@ -205,7 +205,7 @@ impl<T, M: Allocator + Copy> CollectionsByNumber<T, M> {
         Ok(number)
     }
 
-    /// Gives a collection up: its number names nothing from then on. O(1).
+    /// Disposes of a collection. From then on its number names nothing. O(1).
     pub(crate) fn dispose(&mut self, number: usize)
         ensures { self.new ≡ slice_set self.old number None }
     {
@@ -221,7 +221,7 @@ impl<T, M: Allocator + Copy> CollectionsByNumber<T, M> {
         self.numbers[number].index = DISPOSED;
     }
 
-    /// Whether a live collection of the field has the object as a member. Only these are asked, until one has it.
+    /// Returns whether a live collection of the field has the object as a member. It asks only the collections of this field, until one has it.
     pub(crate) fn any_contains(&self, field: usize, links: &AnyTable<M>, object: Place) -> bool
         requires held { AreHeld self.now field (table_in links.now) }
         requires covered { IsCovered (table_in links.now) object }

@@ -7,7 +7,7 @@
 use ic_any_collection::AnyTable;
 use std::alloc::Allocator;
 
-/// The table of its links, and whether members were ever left linked in it, by `fast_clear`. Where none was, a linked object is a member.
+/// The table of a field's links, and whether `fast_clear` ever left members linked in it. If it did not, every linked object is a member.
 #[derive(Drop)]
 pub struct WorldField<M: Allocator> {
     pub links: AnyTable<M>,

@@ -18,7 +18,7 @@ use ic_rbtree::KeyAdapter;
 use ic_unsafe_ref::Place;
 use std::alloc::Allocator;
 
-// A table that covers so many places, if memory is found for it.
+// Makes a table that covers this many places, if there is enough memory.
 fn covering<M: Allocator>(alloc: M, kind: Kind, room: usize) -> Option<AnyTable<M>>
     ensures { IfSome result (λ links. IsFresh kind room (table_in links)) }
 {
@@ -35,7 +35,7 @@ impl<A: KeyAdapter, M: Allocator + Copy> World<A, M> {
     ghost use Rattle.ic_world.specs.Replies.{reply_of};
     ghost use Rattle.ic_world.specs.Calls.{field, done, linked};
 
-    /// Makes a field with no collection, which covers the objects that are there, and returns its number.
+    /// Makes a field with no collection, which covers all existing objects, and returns its number.
     ///
     /// Refused: `OutOfMemory`.
     pub fn add_field(&mut self, kind: Kind) -> Result<usize, Refusal>
@@ -51,7 +51,7 @@ impl<A: KeyAdapter, M: Allocator + Copy> World<A, M> {
         append(&mut self.fields, field)
     }
 
-    /// Whether the object is linked in the field: a member of one of its collections, or left linked by `fast_clear`. O(1).
+    /// Returns whether the object is linked in the field: it is a member of one of its collections, or `fast_clear` has left it linked. O(1).
     ///
     /// Refused: `NoSuchField`, `NoSuchObject`.
     pub fn is_linked(&self, field: usize, object: Place) -> Result<bool, Refusal>
@@ -66,8 +66,8 @@ impl<A: KeyAdapter, M: Allocator + Copy> World<A, M> {
         Ok(self.fields[field].links.is_linked(object))
     }
 
-    // Whether the object, which is placed, is a member of a collection of the field. An unlinked one is none, and where none was left
-    // linked a linked one is one: nothing is walked then.
+    // Returns whether an existing object is a member of a collection of the field. It walks nothing if the object is unlinked, since it then is no
+    // member, or if `fast_clear` left nothing linked, since a linked object then is a member.
     fn is_member(&self, field: usize, object: Place) -> bool
         requires placed { is_placed self.now object ≡ true }
         requires there { has_field self.now field ≡ true }
@@ -80,10 +80,10 @@ impl<A: KeyAdapter, M: Allocator + Copy> World<A, M> {
         !found.left_linked || self.collections.any_contains(field, &found.links, object)
     }
 
-    /// Unlinks an object in a field where it is a member of no collection, as `fast_clear` leaves it. An unlinked one stays unlinked.
+    /// Unlinks an object that `fast_clear` has left linked in a field, so that it is a member of no collection. An unlinked object stays unlinked.
     ///
-    /// Refused: `NoSuchField`, `NoSuchObject`, `IsMember`. O(1) where it is not linked, or no [`World::fast_clear`] was made in the field;
-    /// else O(live collections of the field), and of lists O(their members). It takes no memory.
+    /// Refused: `NoSuchField`, `NoSuchObject`, `IsMember`. It costs O(1) if the object is not linked, or if no [`World::fast_clear`] was made in the
+    /// field. Otherwise it asks each live collection of the field, and walks those that are lists. It takes no memory.
     pub fn force_unlink(&mut self, field: usize, object: Place) -> Result<(), Refusal>
         ensures { Step A.Key.cmp A.key_of self.old (Command.ForceUnlink field object) (reply_of (λ _. done) result) self.new }
     {

@@ -23,7 +23,7 @@ use ic_unsafe_ref::{Objects, Place, UnsafeRef};
 use std::alloc::{AllocError, Allocator};
 use std::mem;
 
-// Covers the first `count` places in each table, as far as memory is found. Each covers `room` of them, before and after.
+// Covers the first `count` places in each table, until memory runs out. Each table covers at least `room` places, before and after.
 fn cover_all<M: Allocator>(
     tables: &mut [WorldField<M>],
     room: &mut usize,
@@ -61,7 +61,7 @@ fn place_in<V, M: Allocator>(
     }
 }
 
-// Puts another value in the place of an object's, which it answers.
+// Replaces the value of an object by another, and returns the old value.
 fn swap_value<V, M: Allocator>(
     objects: &mut Objects<V, M>,
     object: Place,
@@ -76,7 +76,7 @@ fn swap_value<V, M: Allocator>(
     }
 }
 
-// Whether the object, which each table covers, is linked in one of them.
+// Returns whether an object that each table covers is linked in one of them.
 fn is_linked_in_any<M: Allocator>(tables: &[WorldField<M>], object: Place) -> bool
     requires covered { (f : ℕ) → f < length tables.now → IsCovered (table (map_list table_of tables.now) f) object }
     ensures { result ≡ list_any (λ (x : LinkField). set.contains x.linked (index_of object)) (map_list field_in (map_list table_of tables.now)) }
@@ -94,9 +94,9 @@ impl<A: KeyAdapter, M: Allocator + Copy> World<A, M> {
     ghost use Rattle.ic_world.specs.Replies.{reply_of, reply_of_value};
     ghost use Rattle.ic_world.specs.Calls.{object, done};
 
-    /// Places a value where no object stands, with room for it in each field first, and returns the place.
+    /// Stores a value as a new object, after making room for it in each field, and returns its place.
     ///
-    /// Refused: `TooManyObjects`, `OutOfMemory`. The value comes back then.
+    /// Refused: `TooManyObjects`, `OutOfMemory`. Then the caller gets the value back.
     pub fn place(&mut self, value: A::Value) -> Result<Place, (Refusal, A::Value)>
         ensures step { Step A.Key.cmp A.key_of self.old (Command.Place value) (reply_of_value (λ p. object p) result) self.new }
         ensures handed_back { IfErr result (λ refused. refused.1 ≡ value) }
@@ -109,10 +109,10 @@ impl<A: KeyAdapter, M: Allocator + Copy> World<A, M> {
         place_in(&mut self.objects, value, has_room)
     }
 
-    /// Takes an object out that is linked in no field, and returns its value.
+    /// Removes an object that is linked in no field, and returns its value.
     ///
-    /// Refused: `NoSuchObject`, `StillLinked`. It asks the table of each field, one after the other, until one has it linked: O(fields),
-    /// also for an object that never was linked. It takes no memory.
+    /// Refused: `NoSuchObject`, `StillLinked`. It asks the table of each field, one after the other, until the object is linked in one: O(fields),
+    /// even for an object that was never linked. It takes no memory.
     pub fn remove_object(&mut self, object: Place) -> Result<A::Value, Refusal>
         ensures step { Step A.Key.cmp A.key_of self.old (Command.RemoveObject object) (reply_of (λ _. done) result) self.new }
         ensures value { IfOk result (λ value. map.get self.old.objects (index_of object) ≡ Some value) }
@@ -126,10 +126,10 @@ impl<A: KeyAdapter, M: Allocator + Copy> World<A, M> {
         Ok(UnsafeRef::new(object).into_box(&mut self.objects))
     }
 
-    /// Puts another value in the place of an object's, which it answers. The object stays linked where it was.
+    /// Replaces the value of an object by another, and returns the old value. The object stays linked where it was.
     ///
-    /// Refused: `NoSuchObject`, and the value comes back then. It takes no memory. Where the key changes, trees of the object may
-    /// be sorted no more.
+    /// Refused: `NoSuchObject`, and then the caller gets the new value back. It takes no memory. If the key of the object changes, trees of which it
+    /// is a member may no longer be sorted.
     pub fn set_value(
         &mut self,
         object: Place,

@@ -1,4 +1,4 @@
-//! Which members are handed out to a collection more.
+//! Which members a call moves to a new collection.
 
 ghost use Rattle.std.specs.Prelude.{◌≡◌, true};
 ghost use Rattle.ic_any_collection.specs.AnyTables.{table_in};
@@ -10,19 +10,19 @@ use crate::calls::kinds::{is_list, is_two_way_list};
 use ic_any_collection::{AnyCollection, AnyTable, Kind};
 use std::alloc::Allocator;
 
-/// Which members are handed out.
+/// Which members a call moves to a new collection.
 #[derive(Clone, Copy)]
 pub enum Part {
-    /// All of them. The cursor goes to null.
+    /// All members. The cursor goes to null.
     All,
-    /// Those after the cursor, which stays.
+    /// The members after the cursor, which stays.
     After,
-    /// Those before the cursor, which stays.
+    /// The members before the cursor, which stays.
     Before,
 }
 
 impl Part {
-    /// Whether a kind hands this part out.
+    /// Returns whether collections of this kind can be split in this way.
     pub fn is_of(self, kind: Kind) -> bool
         ensures { result ≡ has_part self kind }
     {
@@ -33,7 +33,7 @@ impl Part {
         }
     }
 
-    /// Hands the part out. The cursor of what is handed out is null.
+    /// Returns the part as a new collection, with its cursor at null.
     pub fn hand_out<T, M: Allocator>(
         self,
         members: &mut AnyCollection<T>,

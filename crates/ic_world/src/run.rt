@@ -1,4 +1,4 @@
-//! Any call, by a command, and a list of them.
+//! Runs any call, given as a command, or a list of calls.
 //!
 //! ```text
 //! world.answer(Command::On(queue, Call::Take(Gap::Front))) // Answer::Object of the first member, or Answer::Nothing
@@ -20,7 +20,7 @@ use ic_rbtree::KeyAdapter;
 use ic_unsafe_ref::Place;
 use std::alloc::{AllocError, Allocator};
 
-// A call that answers nothing.
+// The answer of a call that returns nothing.
 #[inline]
 fn done<M: Allocator>(answer: Result<(), Refusal>) -> Answer<M>
     ensures { reply_in result ≡ reply_of (λ _. state.done) answer }
@@ -31,7 +31,7 @@ fn done<M: Allocator>(answer: Result<(), Refusal>) -> Answer<M>
     }
 }
 
-// A call that answers an object, or none.
+// The answer of a call that returns an object, or none.
 #[inline]
 fn object<M: Allocator>(answer: Result<Option<Place>, Refusal>) -> Answer<M>
     ensures { reply_in result ≡ reply_of state.object_or_nothing answer }
@@ -43,7 +43,7 @@ fn object<M: Allocator>(answer: Result<Option<Place>, Refusal>) -> Answer<M>
     }
 }
 
-// A call that answers the number of a collection.
+// The answer of a call that returns the number of a collection.
 #[inline]
 fn opened<M: Allocator>(answer: Result<usize, Refusal>) -> Answer<M>
     ensures { reply_in result ≡ reply_of (λ c. state.opened c) answer }
@@ -54,7 +54,7 @@ fn opened<M: Allocator>(answer: Result<usize, Refusal>) -> Answer<M>
     }
 }
 
-// A call that answers the members of a collection.
+// The answer of a call that returns the members of a collection.
 #[inline]
 fn listed<M: Allocator>(answer: Result<Vec<Place, M>, Refusal>) -> Answer<M>
     ensures { reply_in result ≡ reply_of (λ places. state.items places.items) answer }
@@ -72,7 +72,7 @@ where
 {
     ghost use Rattle.ic_world.specs.Step.{Step, StepOn, Runs};
 
-    // Makes a call of one collection, and answers what it answered.
+    // Makes a call of one collection, and returns its answer.
     #[inline(always)]
     fn answer_on(&mut self, c: usize, call: Call<A::Key>) -> Answer<M>
         ensures { StepOn A.Key.cmp A.key_of self.old c call (reply_in result) self.new }
@@ -103,8 +103,7 @@ where
         }
     }
 
-    /// Makes the call of a command, and returns its answer. The value of a removed object, and the old one where a value is set, is
-    /// dropped.
+    /// Makes the call of a command, and returns its answer. It drops the value of a removed object, and the old value if a value is set.
     pub fn answer(&mut self, command: Command<A::Value, A::Key>) -> Answer<M>
         ensures { Step A.Key.cmp A.key_of self.old command (reply_in result) self.new }
     {
@@ -151,7 +150,7 @@ where
 
     /// Makes the calls in order, and appends an answer for each.
     ///
-    /// It reserves the answers first: refused for memory, neither the world nor the answers have changed.
+    /// It first reserves memory for the answers. If that is refused, neither the world nor the answers have changed.
     pub fn run(
         &mut self,
         commands: &[Command<A::Value, A::Key>],

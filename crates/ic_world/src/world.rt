@@ -20,22 +20,22 @@ use std::marker::Model;
 
 /// Objects by place, and link fields and collections by number.
 ///
-/// A field is a table of links, and a collection is the head of a list or tree in one, with a cursor. No sequence is stored: the
-/// family that a clause sees is what the tables show. A field also knows whether members were ever left linked in it. Fields are numbered 0, 1, 2 in
-/// the order of `add_field`, and collections over all fields in the order in which `open`, `take` and the splits make them. A number is never used
-/// again.
+/// A field is a table of links, and a collection is the head of a list or tree in one, with a cursor. No sequence is stored separately: the family
+/// that a contract sees is what the tables represent. A field also has a mark that says whether `fast_clear` ever left members linked in it. Fields
+/// are numbered 0, 1, 2 in the order of `add_field`, and collections over all fields in the order in which `open`, `take` and the splits make them. A
+/// number is never used again.
 #[derive(Drop)]
 pub struct World<A: KeyAdapter, M: Allocator + Copy = Global> {
     pub(crate) adapter: A,
     pub(crate) alloc: M,
     pub(crate) objects: Objects<A::Value, M>,
-    // How many places each field covers at least.
+    // The number of places that each field covers at least.
     pub(crate) room: usize,
     pub(crate) fields: Vec<WorldField<M>, M>,
     pub(crate) collections: CollectionsByNumber<A::Value, M>,
 }
 
-// Appends an item, and answers its number.
+// Appends an item, and returns its number.
 pub(crate) fn append<T: Drop, M: Allocator>(list: &mut Vec<T, M>, item: T) -> Result<usize, Refusal>
     ensures { Appends list.old.items item result list.new.items }
 {
@@ -69,7 +69,7 @@ impl<A: KeyAdapter, M: Allocator + Copy> World<A, M> {
     ghost use Rattle.ic_world.specs.Step.{StepOn};
     ghost use Rattle.ic_world.specs.Seen.{Sees};
 
-    /// A world with no object, field or collection. It takes no memory.
+    /// Makes a world with no object, field or collection. It takes no memory.
     pub fn new(alloc: M, adapter: A) -> World<A, M>
         ensures adapter { result.adapter ≡ adapter }
         ensures objects { result.objects ≡ map.empty }
@@ -86,7 +86,7 @@ impl<A: KeyAdapter, M: Allocator + Copy> World<A, M> {
         }
     }
 
-    /// The objects by place, to be read. What is in a collection is told by [`World::show`].
+    /// Returns the objects by place, by a shared reference. [`World::show`] returns the members of a collection.
     #[inline]
     pub fn objects(&self) -> &Objects<A::Value, M>
         ensures { result.now.values ≡ self.now.objects }
@@ -94,7 +94,7 @@ impl<A: KeyAdapter, M: Allocator + Copy> World<A, M> {
         &self.objects
     }
 
-    // Does a call of one collection. Where the call is a literal, its match is done away with.
+    // Makes a call of one collection. If the call is a literal, the compiler removes the match over it.
     #[inline(always)]
     pub(crate) fn call<C: OneCall<A>>(
         &mut self,
@@ -114,7 +114,7 @@ impl<A: KeyAdapter, M: Allocator + Copy> World<A, M> {
         call.run(members, links, &self.objects, self.adapter)
     }
 
-    // Hands a part of a collection out to a new one of the same field and kind, and answers its number.
+    // Moves a part of a collection into a new one of the same field and kind, and returns the number of the new one.
     pub(crate) fn hand_out(&mut self, collection: usize, part: Part) -> Result<usize, Refusal>
         ensures { StepOut self.old collection part (reply_of (λ c. opened c) result) self.new }
     {
@@ -136,7 +136,7 @@ impl<A: KeyAdapter, M: Allocator + Copy> World<A, M> {
         }
     }
 
-    // A collection and the table of its field, to be read.
+    // Returns a collection and the table of its field by shared references.
     pub(crate) fn found(
         &self,
         collection: usize,

@@ -84,9 +84,9 @@ module _ {A V K : Type 0} {cmp : K → K → Ordering} (total : IsTotalOrder cmp
   there_is : (c : ℕ) (s : Sequence) → collection old c ≡ Some s → (new : Family A V) (t : State) → new ≡ with_state old c s.field t → collection new c ≡ Some (sequence_of s.field t)
   there_is c s is new t left = subst (λ w. collection w c ≡ Some (sequence_of s.field t)) (sym left) (set_there old.collections c (sequence_of s.field t) is)
 
-  behind : (c : ℕ) (p : Place) (s : Sequence) → collection old c ≡ Some s → (new : Family A V) (t : State) → new ≡ with_state old c s.field t
+  after : (c : ℕ) (p : Place) (s : Sequence) → collection old c ≡ Some s → (new : Family A V) (t : State) → new ≡ with_state old c s.field t
       → (at : Place → Ordering) → IsSortedFor at s.members → (gap : Cut) → join gap ≡ s.members → IsBorder (less_at at) gap → t.members ≡ insert gap p → PutsAfter cmp key_of old (less_at at) c p new s.members
-  behind c p s is new t left at sorted gap cut border members = (sequence_of s.field t, there_is c s is new t left, members ∙ put_after sorted gap cut border p)
+  after c p s is new t left at sorted gap cut border members = (sequence_of s.field t, there_is c s is new t left, members ∙ put_after sorted gap cut border p)
 
   -- AN OBJECT THAT IS PUT IN ORDER goes after all that are not greater
   module _ (c : ℕ) (p : Place) (s : Sequence) (is : collection old c ≡ Some s) (sorted : IsSortedIn cmp key_of old s.members) (there : is_placed old p ≡ true)
@@ -102,7 +102,7 @@ module _ {A V K : Type 0} {cmp : K → K → Ordering} (total : IsTotalOrder cmp
     members_are = ap (λ (x : State). x.members) puts.0.2.1
 
     puts_after : PutsAfter cmp key_of old (is_greater cmp key_of old p) c p new s.members
-    puts_after = behind c p s is new t left (own_at cmp (key_of old.adapter) (objects_of old) p)
+    puts_after = after c p s is new t left (own_at cmp (key_of old.adapter) (objects_of old) p)
         (subst (λ at. IsSortedFor at s.members) (sym own_is) (for_key total key_of old.adapter (objects_of old) (placed c s is) sorted (key_of old.adapter own.0))) puts.0.0 puts.0.1 puts.0.2.0 members_are
 
   abbrev IsInOrder : ℕ → Place → Family A V → Sequence → Reply → Type 0
@@ -132,6 +132,6 @@ module _ {A V K : Type 0} {cmp : K → K → Ordering} (total : IsTotalOrder cmp
   goes_after (call.On c (enter key p)) new (entry false q n) step = λ s is sorted.
       of_reply cmp key_of c (enter key p) (IfVacant (PutsAfter cmp key_of old (has_greater cmp key_of old key) c p new s.members)) old new (entry false q n) step s is (λ r. tt)
       (λ there t replies left. let at = replies.3 in
-      behind c p s is new t left (key_at cmp (key_of old.adapter) (objects_of old) key) (for_key total key_of old.adapter (objects_of old) (placed c s is) sorted key) at.0 at.1 at.2.0.1
+      after c p s is new t left (key_at cmp (key_of old.adapter) (objects_of old) key) (for_key total key_of old.adapter (objects_of old) (placed c s is) sorted key) at.0 at.1 at.2.0.1
       (ap (λ (x : State). x.members) at.2.1))
   goes_after _ new _ step = tt

@@ -204,9 +204,9 @@ module _ (has : Place → Bool) where
       }
 
       -- a member after the gap
-      module _ (out : Place) (behind : first gap.back ≡ Some out) where
+      module _ (out : Place) (after : first gap.back ≡ Some out) where
         back_is : gap.back ≡ out ∷ drop 1 gap.back
-        back_is = first_is gap.back (sym behind)
+        back_is = first_is gap.back (sym after)
 
         all_is : gap.front ++ out ∷ drop 1 gap.back ≡ s.members
         all_is = ap (λ b. gap.front ++ b) (sym back_is) ∙ cut

@@ -1,4 +1,4 @@
--- What users rely on, whatever the calls were.
+-- What users rely on, whatever calls were made.
 use Rattle.std.specs.Prelude.{◌≡◌, ◌↔◌, ℕ, true, List, Option, Some, None, IfSome}
 use Rattle.std.specs.FinSet as set
 use Rattle.ic_link_ops.specs.Prelude.{Place, index_of}
@@ -13,7 +13,7 @@ use Rattle.ic_world.specs.Family.{Family, Sequence, collection, linked_of}
 use Rattle.ic_world.specs.Calls.{Reply, found, looked, range, entry, refused}
 
 module _ {V K : Type 0} where
-  -- the collection that a call puts an object into, and the object
+  -- the collection into which a call inserts an object, and the object
   abbrev pub inserts : Command V K → Option (ℕ × Place)
   inserts (call.On c (one.Put at p)) = Some (c, p)
   inserts (call.On c (one.Swap at p)) = Some (c, p)
@@ -22,7 +22,7 @@ module _ {V K : Type 0} where
   inserts (call.On c (one.Enter key p)) = Some (c, p)
   inserts _ = None
 
-  -- the tree that a call descends
+  -- the tree that a call searches
   abbrev pub descends : Command V K → Option ℕ
   descends (call.On c (one.Search search)) = Some c
   descends (call.On c (one.Insertion insertion)) = Some c
@@ -30,15 +30,15 @@ module _ {V K : Type 0} where
   descends (call.Range c min max) = Some c
   descends _ = None
 
--- A REPLY IS WELL NAMED if it is no refusal, or the refusal `AlreadyLinked`. The reply of an `entry` that found its key is not
+-- A REPLY IS WELL NAMED if it is not a refusal, or is the refusal `AlreadyLinked`. The reply of an `entry` that found its key does not count as one
 abbrev pub IsWellNamed : Reply → Type 0
 IsWellNamed (refused AlreadyLinked) = Unit
 IsWellNamed (refused _) = ⊥
 IsWellNamed (entry true p looks) = ⊥
 IsWellNamed _ = Unit
 
--- so few looks as the call makes in a tree with the members s: those of one descent, none by `Unbounded`. A range tells those of
--- its lower bound first
+-- at most so many looks (key comparisons) as the call makes in a tree with the members s: those of one search, and none for `Unbounded`. A range
+-- returns those of its lower bound first
 module _ {V K : Type 0} (s : List Place) where
   abbrev pub WithinBoundFor : Command V K → Reply → Type 0
   WithinBoundFor (call.On c (one.Search (LowerBound bound))) (found p looks) = WithinBound bound looks s
@@ -56,7 +56,7 @@ module _ {A V : Type 0} where
   IsRefusedExactlyIfLinked w (Some (c, p)) reply = (s : Sequence) → collection w c ≡ Some s → IsWellNamed reply
       → (reply ≡ refused AlreadyLinked) ↔ (set.contains (linked_of w s.field) (index_of p) ≡ true)
 
-  -- LOOKS ARE FEW: a descent of a tree that had n members before the call tells v looks, where 2^v is at most (n + 1)^2. A descent for a key
-  -- tells one at least if the tree had a member, and one by `Unbounded` none
+  -- LOOKS ARE FEW: a search of a tree that had n members before the call makes v looks, with 2^v at most (n + 1)^2. A search for a key makes at least
+  -- one if the tree had a member, and a search for `Unbounded` makes none
   abbrev pub KeepsComparisonBound : {K : Type 0} → Family A V → Command V K → Reply → Type 0
   KeepsComparisonBound w command reply = IfSome (descends command) (λ c. (s : Sequence) → collection w c ≡ Some s → WithinBoundFor s.members command reply)

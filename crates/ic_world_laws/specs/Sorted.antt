@@ -1,4 +1,4 @@
--- What keyed calls answer while their tree is sorted: the first or the last of a filter of its members, or all of it.
+-- What keyed calls return while their tree is sorted: the first or the last of a filtered list of its members, or all of it.
 use Rattle.std.specs.Prelude.{◌≡◌, ℕ, true, false, not, ◌&&◌, Bool, List, ◌∷◌, ◌++◌, map, Some, None}
 use Rattle.std.specs.List.{filter}
 use Rattle.std.specs.declared.cmp.Ordering.{Ordering}
@@ -15,11 +15,11 @@ use Rattle.ic_world.specs.Family.{Family, Sequence, collection, objects_of}
 use Rattle.ic_world.specs.Calls.{key_at, bound_at, own_at, Reply, found, looked, range, entry}
 
 module _ {A V K : Type 0} (cmp : K → K → Ordering) (key_of : A → V → K) (w : Family A V) where
-  -- SORTED: from one member to the next the keys never fall
+  -- SORTED: the keys never decrease from one member to the next
   abbrev pub IsSortedIn : List Place → Type 0
   IsSortedIn s = IsSorted cmp (map (key_of w.adapter) (values_at (objects_of w) s))
 
-  -- this holds of the members of collection c, while they are sorted
+  -- P holds of the members of collection c, if they are sorted
   abbrev pub WhileSorted : ℕ → (List Place → Type 0) → Type 0
   WhileSorted c Holds = (s : Sequence) → collection w c ≡ Some s → IsSortedIn s.members → Holds s.members
 
@@ -27,23 +27,23 @@ module _ {A V K : Type 0} (cmp : K → K → Ordering) (key_of : A → V → K) 
   abbrev pub has_key : K → Place → Bool
   has_key key = equal_at (key_at cmp (key_of w.adapter) (objects_of w) key)
 
-  -- its key is greater than this one
+  -- the key of the member is greater than this one
   abbrev pub has_greater : K → Place → Bool
   has_greater key = less_at (key_at cmp (key_of w.adapter) (objects_of w) key)
 
-  -- it is within this lower bound
+  -- the key of the member is within this lower bound
   abbrev pub is_from : Bound K → Place → Bool
   is_from bound = meets_lower (bound_at cmp (key_of w.adapter) (objects_of w) bound)
 
-  -- it is within this upper bound
+  -- the key of the member is within this upper bound
   abbrev pub is_until : Bound K → Place → Bool
   is_until bound = meets_upper (bound_at cmp (key_of w.adapter) (objects_of w) bound)
 
-  -- its key is greater than the key of the object at p
+  -- the key of the member is greater than the key of the object at p
   abbrev pub is_greater : Place → Place → Bool
   is_greater p = less_at (own_at cmp (key_of w.adapter) (objects_of w) p)
 
-  -- A SEARCH FOR A KEY finds the first member that has it, and none has it where an entry is vacant
+  -- A SEARCH FOR A KEY finds the first member that has it. If an entry is vacant, no member has its key
   abbrev pub FindsFirst : Command V K → Reply → Type 0
   FindsFirst (call.On c (one.Search (Find key))) (found p looks) = WhileSorted c (λ s. p ≡ first (filter (has_key key) s))
   FindsFirst (call.On c (one.Enter key object)) (entry true p looks) = WhileSorted c (λ s. Some p ≡ first (filter (has_key key) s))
@@ -61,12 +61,12 @@ module _ {A V K : Type 0} (cmp : K → K → Ordering) (key_of : A → V → K) 
   IsWithinBoth (call.Range c min max) (range places first_looks second_looks) = WhileSorted c (λ s. places ≡ filter (λ q. is_from min q && is_until max q) s)
   IsWithinBoth _ _ = Unit
 
-  -- COLLECTION c HAS NOW the members of s that are not greater, then p, then the greater ones
+  -- COLLECTION c NOW HAS the members of s that are not greater, then p, then the greater ones
   abbrev pub PutsAfter : (Place → Bool) → ℕ → Place → Family A V → List Place → Type 0
   PutsAfter greater c p new s = (t : Sequence) × (collection new c ≡ Some t) × (t.members ≡ filter (λ q. not (greater q)) s ++ p ∷ filter greater s)
 
-  -- AN INSERT puts its object after all members whose keys are not greater than the object's own. An entry that was vacant puts it after all
-  -- whose keys are not greater than the key of the entry
+  -- AN INSERT adds its object after all members whose keys are not greater than the object's own. A vacant entry adds it after all members whose keys
+  -- are not greater than the key of the entry
   abbrev pub GoesAfter : Command V K → Reply → Family A V → Type 0
   GoesAfter (call.On c (one.Insertion (Insert p))) (looked looks) new = WhileSorted c (PutsAfter (is_greater p) c p new)
   GoesAfter (call.On c (one.Insertion (CursorInsert p))) (looked looks) new = WhileSorted c (PutsAfter (is_greater p) c p new)

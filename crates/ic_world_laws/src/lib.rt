@@ -1,4 +1,4 @@
-//! What holds of each call of a world, whatever the call is, and of any list of them: each law is a part of `IsLawful`.
+//! What holds of every call of a world, and of any list of calls: each law is a field of `IsLawful`.
 //!
 //! ```text
 //! ic_world_laws::answer(&mut world, command) // refused, it can be made again in the same world
@@ -16,20 +16,23 @@ use ic_rbtree::KeyAdapter;
 use ic_world::{Answer, Command, World};
 use std::alloc::{AllocError, Allocator};
 
-/// Makes a call as [`World::answer`], and says what users rely on whatever the call is.
+/// Makes a call as [`World::answer`] does. Its contract states what users rely on, whatever the call is.
 ///
-/// - Refused, it has changed nothing.
-/// - Where it puts an object into a collection, and collection, object and kind are right, it is refused exactly if the object is
-///   linked in the field; of an entry where it is vacant.
-/// - Where it descends a tree of n members, it tells v looks, where `2^v <= (n + 1)^2`, and one at least if there is a member; a
-///   range tells those of its two searches. A search by `Unbounded` makes none.
-/// - While the tree is sorted, `find` and an occupied `entry` answer the first member of the key, and no member has the key of a vacant
-///   one; `lower_bound` and `upper_bound` answer the first and the last member within the bound; `range` all members within both.
-/// - An insert in order goes after all members whose keys are not greater. An object goes into a vacant entry after all members whose
-///   keys are not greater than the key.
-/// - A sorted collection stays sorted, and its equal keys stand in the order of their insertion, but by a call that puts an object into it
-///   by position or by another key, that turns, joins, splits or gives it up, or that gives a member another key.
-/// - Members are linked, linked places have objects, which stand below 2^32, no member is shared, and each cursor is null or on a member.
+/// - If it is refused, nothing has changed.
+/// - If it inserts an object into a collection, and collection, object and kind are right, it is refused exactly if the object is
+///   already linked in the field. For an entry this holds if it is vacant.
+/// - If it searches a tree of n members, it makes v looks (key comparisons), where `2^v <= (n + 1)^2`, and at least one if there
+///   is a member. A range returns the looks of both its searches. A search for `Unbounded` makes none.
+/// - While the tree is sorted, `find` and an occupied `entry` return the first member with the key, and no member has the key of
+///   a vacant entry. `lower_bound` and `upper_bound` return the first and the last member within the bound, and `range` returns
+///   all members within both.
+/// - An insert by key adds the object after all members whose keys are not greater. A vacant entry adds it after all members
+///   whose keys are not greater than the key of the entry.
+/// - A sorted collection stays sorted, with members of equal keys in the order of their insertion. The exceptions are calls that
+///   insert an object into it by position or by another key, that reverse, splice, split or dispose of it, or that give a member
+///   another key.
+/// - All members are linked, all linked places have objects, all objects are at places below 2^32, no member is shared, and each
+///   cursor is null or on a member.
 #[inline]
 pub fn answer<A: KeyAdapter, M: Allocator + Copy>(
     world: &mut World<A, M>,
@@ -44,13 +47,14 @@ where
     world.answer(command)
 }
 
-/// Makes the calls in order as [`World::run`], and says of each, with the world before it and after it, what [`answer`] says of one.
+/// Makes the calls in order as [`World::run`] does. Its contract states for each call, with the world before and after it, what that of [`answer`]
+/// states for one.
 ///
-/// The answers are appended. So after any list every answer, and the sequences, cursors and linked set of each field, are those of cuts
-/// and joins on sequences without common members; an insert is refused exactly if its object is linked; and a tree that only inserts in
-/// order and removals have changed has its equal keys in the order of their insertion.
+/// It appends the answers. So after any list of calls, every answer, and the sequences, cursors and linked places of each field, are those that the
+/// model defines by cuts and joins of sequences without common members. An insert is refused exactly if its object is already linked. A tree that
+/// only inserts by key and removals have changed has its members with equal keys in the order of their insertion.
 ///
-/// Refused for memory, neither the world nor the answers have changed.
+/// If it is refused for memory, neither the world nor the answers have changed.
 pub fn run<A: KeyAdapter, M: Allocator + Copy>(
     world: &mut World<A, M>,
     commands: &[Command<A::Value, A::Key>],

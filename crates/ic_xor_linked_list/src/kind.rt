@@ -1,4 +1,4 @@
-//! The kind of XOR lists: each entry keeps the exclusive or of both neighbors, and a list keeps both ends.
+//! The kind of XOR lists: each entry stores the exclusive or of both neighbors, and a list stores both ends.
 //!
 //! ```text
 //! let list: Chain<XorLinked, Job> = Chain::new();
@@ -14,7 +14,7 @@ use ic_link_ops::xor_linked_list::XorLinkedListOps;
 use ic_link_ops::{LinkOps, PlaceWord};
 use ic_unsafe_ref::Place;
 
-/// Lists whose entries keep the exclusive or of both neighbors.
+/// Lists whose entries store the exclusive or of both neighbors.
 pub struct XorLinked;
 
 impl ListKind for XorLinked {
@@ -55,7 +55,7 @@ impl DoubleEnded for XorLinked {
 impl Reversible for XorLinked {}
 
 impl<L: XorLinkedListOps> ForwardLinks<L> for XorLinked {
-    ghost Between = { IsJoined L.linked L.Joins };
+    ghost Between = { IsJoined L.linked L.HasNeighbors };
 
     ghost step = { L.other };
 

@@ -1,5 +1,5 @@
-//! What follows of several calls of an XOR list together, each law as the contract of a function: those of every list, that a list
-//! is turned round, and that two turns of it are none.
+//! What follows from several calls of an XOR list together. Each law is the contract of a function: the laws of every list, that
+//! `reverse` reverses the sequence, and that two reversals restore it.
 //!
 //! ```text
 //! laws::reversed_is_represented(&mut list, &links); // its members in the opposite order
@@ -15,20 +15,20 @@ pub use ic_chain::laws::{
 };
 use ic_link_ops::xor_linked_list::XorLinkedListOps;
 
-/// Turns a list round: a table that showed a sequence for it represents that sequence turned round.
+/// Reverses a list: a table that represented a sequence for it represents the reversed sequence then.
 ///
-/// No entry says which of its neighbors is before. O(1), and the table is not written.
+/// No entry states which of its neighbors is before. O(1), and the table is not written.
 pub fn reversed_is_represented<T, L: XorLinkedListOps>(list: &mut XorLinkedList<T>, links: &L)
-    ensures shown { (s : List Place) → Represents L.linked L.Joins (L.table links.now) list.old s
-        → Represents L.linked L.Joins (L.table links.now) list.new (reverse s) }
+    ensures shown { (s : List Place) → Represents L.linked L.HasNeighbors (L.table links.now) list.old s
+        → Represents L.linked L.HasNeighbors (L.table links.now) list.new (reverse s) }
 {
     let _ = links;
     list.reverse();
 }
 
-/// Turns a list round twice, and returns it as it was: what a table showed for it, it represents still.
+/// Reverses a list twice: a table represents the same sequence for it as before.
 ///
-/// It is handed no table, so no entry is written. O(1).
+/// It takes no table, so no entry is written. O(1).
 pub fn reversed_twice<T>(list: XorLinkedList<T>) -> XorLinkedList<T>
     ensures { result ≡ list }
 {

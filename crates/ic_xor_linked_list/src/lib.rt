@@ -1,9 +1,9 @@
 //! An XOR linked list over any table whose entries join two neighbors in one word.
 //!
-//! Each operation takes the table of the link field. Linking takes no memory, and one object can be in lists of
-//! several fields. An entry tells a neighbor only to who knows the other, so there is no call that takes a member off by
-//! its reference alone, and a list can be turned round by its two ends. A cursor keeps the place after it, by which an entry tells
-//! the one before. [`Chain`] has all calls.
+//! Each operation takes the table of the link field. Linking takes no memory, and one object can be in lists of several fields. To
+//! read one neighbor from an entry, a caller has to know the other. So no call removes a member by its reference alone, and a list
+//! is reversed by an exchange of its two ends. A cursor stores the place after its own, and so it can read the one before from the
+//! entry. [`Chain`] has all calls.
 //!
 //! ```text
 //! let mut links = xor_linked_list::LinkOps::new(rt.alloc());
@@ -27,24 +27,25 @@ use ic_unsafe_ref::Objects;
 pub use kind::XorLinked;
 pub use position::PositionWithNext;
 
-/// An XOR linked list of objects, of which it keeps the two ends.
+/// An XOR linked list of objects. It stores its two ends.
 ///
-/// Good for queues, and for lists that are turned round: `reverse` is O(1). An entry is one word, so a member is
-/// found by a walk alone, and leaves at a cursor. A clause sees the list's ends; which sequence it has is what the table
+/// Good for queues, and for lists that are reversed: `reverse` is O(1). An entry is one word. A member is reached only
+/// by a walk, and removed only at a cursor. Contracts see the list's ends; the list has the sequence that the table
 /// represents for them.
 pub type XorLinkedList<T> = Chain<XorLinked, T>;
 
-/// A position in a list: on a member, or null, which stands between the last and the first. It knows the place after it.
+/// A cursor that reads: on a member, or at null, which is between the last member and the first. It stores the place
+/// after its own.
 pub type Cursor<'a, T, L> = ic_cursors::Cursor<'a, XorLinkedList<T>, L>;
 
-/// A position in a list that it edits, with the list and the table of its links. It knows the place after it.
+/// A cursor that edits. It borrows the list and the table of its links, and stores the place after its own.
 pub type CursorMut<'a, T, L> = ic_cursors::CursorMut<'a, XorLinkedList<T>, L>;
 
-/// A position in a list that it keeps, with the place after it. Its calls take the table of the list's links each time.
+/// A cursor that owns its list, and stores the place after its own. Each call takes the table of the list's links.
 pub type CursorOwning<T> = ic_cursors::CursorOwning<XorLinkedList<T>>;
 
-/// The objects of a list that are not given out yet, from both ends.
+/// A walk over the objects of a list, from both ends.
 pub type Iter<'a, T, L, O = Objects<T>> = ic_chain::Iter<'a, XorLinked, T, L, O>;
 
-/// The members of a list that are not given out yet, from both ends. Each that is given out is unlinked.
+/// A walk that removes the members of a list, from both ends. It unlinks each member that it returns.
 pub type IntoIter<'a, T, L> = ic_chain::IntoIter<'a, XorLinked, T, L>;

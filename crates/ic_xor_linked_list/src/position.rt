@@ -1,7 +1,7 @@
-//! What cursors of XOR lists keep of a position: the member that they are on, and the place after it.
+//! What cursors of XOR lists store of a position: the member that they are on, and the place after it.
 //!
-//! An entry tells a neighbor only to who knows the other one. So a position is two words: its own place's, and the exclusive or of that
-//! and the next place's.
+//! To read one neighbor from an entry, a cursor has to know the other. So a position is two words: that of its own place, and the
+//! exclusive or of this word and the next place's.
 
 ghost use Rattle.std.specs.Prelude.{◌≡◌, Option, Some, None, IfSome};
 ghost use Rattle.ic_unsafe_ref.specs.declared.place.Place.{Place};
@@ -13,7 +13,7 @@ use ic_link_ops::{PlaceWord, Word};
 use ic_unsafe_ref::Place;
 use std::marker::Model;
 
-/// A position with the place after it: the word of its own place, and the exclusive or of both.
+/// A position and the place after it. It stores the word of its own place, and the exclusive or of both words.
 #[derive(Drop)]
 pub struct PositionWithNext {
     current: PlaceWord,
@@ -32,7 +32,7 @@ impl Model for PositionWithNext {
 }
 
 impl PositionWithNext {
-    // On this place, none for null, with that place after it.
+    // The position on this place, none for null, with that place after it.
     #[inline]
     fn at(current: Option<Place>, next: Option<Place>) -> PositionWithNext
         ensures { result ≡ position_on current next }
@@ -43,7 +43,7 @@ impl PositionWithNext {
         }
     }
 
-    /// The place after the member that the position is on. At null that tells nothing. It reads no table.
+    /// The place after the member that the position is on. At null the result has no meaning. It reads no table. O(1).
     #[inline]
     pub fn next(&self) -> Option<Place>
         ensures { IfSome self.now (λ at. result ≡ at.next) }

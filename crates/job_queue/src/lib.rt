@@ -1,4 +1,4 @@
-//! A queue of jobs: a struct of one's own in a list, with its proof, to begin with.
+//! A queue of jobs, as a first example: a list of values of a struct of your own, with its proof.
 #![tactic(auto)]
 
 mod queue;

@@ -19,15 +19,15 @@ use std::marker::Model;
 /// A job that waits to be run.
 #[derive(Drop, PartialEq, Eq, Debug)]
 pub struct Job {
-    /// By which its owner knows it.
+    /// The number by which the owner knows the job.
     pub number: u64,
-    /// How long it will run.
+    /// How many seconds the job will run.
     pub seconds: u32,
 }
 
 /// Jobs that wait, in the order in which they were added.
 ///
-/// A clause sees them as a list, and whether there is no place left for another one.
+/// A contract sees them as a list, and whether all places are in use.
 #[derive(Drop)]
 pub struct JobQueue<A: Allocator = Global> {
     pool: Pool<Job, LinkOps<A>, A>,
@@ -58,10 +58,10 @@ impl<A: Allocator> JobQueue<A> {
         }
     }
 
-    /// Adds a job, which waits after all others. O(1), and it takes memory only if the pool grows.
+    /// Adds a job at the back. O(1), and it takes memory only if the pool grows.
     ///
-    /// If it is refused, the job comes back and the queue is as it was: with `NoPlaceLeft` exactly if there is no place left, of
-    /// 4,294,967,296, and else with `OutOfMemory`.
+    /// If it is refused, the caller gets the job back, and the queue is as it was. The error is `NoPlaceLeft` exactly if all 4,294,967,296 places are
+    /// in use, and otherwise `OutOfMemory`.
     pub fn add(&mut self, job: Job) -> Result<(), PlaceError<Job>>
         ensures added { OnOk result (self.new.waiting ≡ self.old.waiting ++ job ∷ []) }
         ensures refused { IfErr result (λ refused. (value_of refused ≡ job) × (self.new ≡ self.old) × (lacks_place refused ≡ self.old.is_full)) }
@@ -73,7 +73,7 @@ impl<A: Allocator> JobQueue<A> {
         Ok(())
     }
 
-    /// Takes the job out that waits longest, or returns `None` if no job waits. O(1), and it takes no memory.
+    /// Removes the job that has waited longest and returns it, or returns `None` if no job waits. O(1), and it takes no memory.
     pub fn take_next(&mut self) -> Option<Job>
         ensures taken { IfSome result (λ job. self.old.waiting ≡ job ∷ self.new.waiting) }
         ensures none { IfNone result ((self.old.waiting ≡ []) × (self.new ≡ self.old)) }

@@ -10,14 +10,14 @@ use Rattle.ic_rbtree.specs.Ordered.{InsertsInOrder}
 use Rattle.ic_rbtree.specs.Tree.{root_of}
 use Rattle.ic_rbtree.specs.declared.tree.RBTree.{RBTree}
 use Rattle.ic_augmented.specs.Consistent.{RepresentsConsistent, RepresentsSummed}
-use Rattle.ic_augmented.specs.Summed.{links_of, sums_of}
+use Rattle.ic_augmented.specs.Summed.{links_of, summaries_of}
 use Rattle.ic_augmented.specs.SummedSteps.{TraceSummed}
-use Rattle.ic_augmented.specs.Sums.{Sums}
+use Rattle.ic_augmented.specs.Summaries.{Summaries}
 use Rattle.ic_augmented.specs.declared.summed.Summed.{Summed}
 use Rattle.ic_augmented.proofs.StepLemmas.{inserted_right}
 
 -- nothing is represented, summed, of a tree with no root
-pub nothing_summed : {E S : Type 0} {n : E → Node} (z : Sums S) (t : Table E) {root : Option Place} → root ≡ None → RepresentsSummed n z t root []
+pub nothing_summed : {E S : Type 0} {n : E → Node} (z : Summaries S) (t : Table E) {root : Option Place} → root ≡ None → RepresentsSummed n z t root []
 nothing_summed {n = n} z t e = rw e (record {
   shows = record {
     tree = leaf;
@@ -29,7 +29,7 @@ nothing_summed {n = n} z t e = rw e (record {
 })
 
 -- and it is consistent
-pub nothing_consistent : {E S : Type 0} {n : E → Node} (z : Sums S) (t : Table E) {root : Option Place} → root ≡ None → RepresentsConsistent n z t root []
+pub nothing_consistent : {E S : Type 0} {n : E → Node} (z : Summaries S) (t : Table E) {root : Option Place} → root ≡ None → RepresentsConsistent n z t root []
 nothing_consistent {n = n} z t e = ((nothing_summed {n = n} z t e).shows, λ q member but x fresh. absurd (omega (arith, member)))
 
 -- what holds of `Ok` holds where the answer is one
@@ -52,17 +52,17 @@ either_answer F (Ok x) holds refused unchanged accepts refuses = accepts holds
 either_answer F (Err y) holds refused unchanged accepts refuses = refuses refused y unchanged
 
 -- AFTER AN INSERT, whatever it answered, each fresh summary is right, and there is as much room
-module _ {N M E S A : Type 0} (Trace : N → N → List LinkStep → Type 0) (n : E → Node) (table : N → Table E) (sums : M → Sums S) (Covers : M → Place → Type 0) (Refused : N → N → Place → Type 0)
+module _ {N M E S A : Type 0} (Trace : N → N → List LinkStep → Type 0) (n : E → Node) (table : N → Table E) (summaries : M → Summaries S) (Covers : M → Place → Type 0) (Refused : N → N → Place → Type 0)
     (keeps : (a b : N) (p : Place) → Refused a b p → table b ≡ table a) (old new : Summed N M) (tree after : RBTree A (Option Place)) (p : Place) where
   pub record AfterInsert : Type 0 where
     pub members : List Place
-    pub right : RepresentsConsistent n (sums (sums_of new)) (table (links_of new)) (root_of after) members
-    pub covers : (q : Place) → Covers (sums_of old) q → Covers (sums_of new) q
+    pub right : RepresentsConsistent n (summaries (summaries_of new)) (table (links_of new)) (root_of after) members
+    pub covers : (q : Place) → Covers (summaries_of old) q → Covers (summaries_of new) q
     pub extent : (table (links_of new)).extent ≡ (table (links_of old)).extent
 
-  pub after_insert : {X Y : Type 0} (F : Y → Type 0) (at : Place → Ordering) (r : Result X Y) (s : List Place) → RepresentsConsistent n (sums (sums_of old)) (table (links_of old)) (root_of tree) s
-      → OnOk r (InsertsInOrder (Represents n) at (table (links_of old)) (table (links_of new)) (root_of after) s p) → OnOk r (TraceSummed Trace n table sums Covers old new (acquires p ∷ []))
-      → OnErr r (Refused (links_of old) (links_of new) p × (sums_of new ≡ sums_of old)) → IfErr r (λ y. F y × (after ≡ tree)) → AfterInsert
+  pub after_insert : {X Y : Type 0} (F : Y → Type 0) (at : Place → Ordering) (r : Result X Y) (s : List Place) → RepresentsConsistent n (summaries (summaries_of old)) (table (links_of old)) (root_of tree) s
+      → OnOk r (InsertsInOrder (Represents n) at (table (links_of old)) (table (links_of new)) (root_of after) s p) → OnOk r (TraceSummed Trace n table summaries Covers old new (acquires p ∷ []))
+      → OnErr r (Refused (links_of old) (links_of new) p × (summaries_of new ≡ summaries_of old)) → IfErr r (λ y. F y × (after ≡ tree)) → AfterInsert
   after_insert F at (Ok x) s h inserted does refused unchanged =
       let i = inserted_right does h.1 inserted in
       record { members = insert i.gap p; right = i.inserted.shows; covers = does.covers; extent = i.inserted.frame.extent }

@@ -11,7 +11,7 @@ ghost use Rattle.ic_augmented.specs.Consistent.{RepresentsSummed};
 ghost use Rattle.ic_augmented.specs.Counts.{counts};
 ghost use Rattle.ic_augmented.specs.Greatest.{greatest, number_at, is_greater};
 ghost use Rattle.ic_augmented.specs.Intervals.{start_in, overlaps};
-ghost use Rattle.ic_augmented.specs.Summed.{links_of, sums_of};
+ghost use Rattle.ic_augmented.specs.Summed.{links_of, summaries_of};
 ghost use Rattle.ic_augmented.specs.SumTables.{joined, room_of};
 ghost use Rattle.keyed_tests.specs.Ready.{IsReady};
 
@@ -20,8 +20,8 @@ mod intervals;
 use crate::asserts::assert_same;
 use crate::keyed::{OwnKey, keyed_links};
 use ic_augmented::{
-    Counts, Greatest, Joins, RenewSums, SumTable, Summed, first_greater, first_overlap, index_of,
-    len, nth, propagate, refresh, set_value,
+    Counts, Greatest, RecomputeSummaries, SumTable, Summarize, Summed, first_greater,
+    first_overlap, index_of, len, nth, propagate, refresh, set_value,
 };
 use ic_link_ops::LinkValues;
 use ic_link_ops::rbtree::{LinkOpsWith, RBTreeOps};
@@ -32,48 +32,48 @@ use std::alloc::{Allocator, Global};
 use std::process::Abort;
 
 /// An empty tree, with links at the first places, these keys beside them, and room for a summary of each.
-fn empty_tree<V: Joins<u64>>(
+fn empty_tree<V: Summarize<u64>>(
     rt: &impl Abort,
     alloc: Global,
     keys: &[u64],
 ) -> (RBTree<OwnKey>, Summed<LinkOpsWith<u64>, SumTable<V, u64>>)
     requires { length keys.now < 4294967296 }
     ensures covers { (keyed_table (links_of result.1)).extent.places ≡ length keys.now }
-    ensures ready { IsReady node_of keyed_table (joined V.join V.initial) (λ sums q. index_of q < room_of sums) result.0 result.1 }
+    ensures ready { IsReady node_of keyed_table (joined V.join V.initial) (λ summaries q. index_of q < room_of summaries) result.0 result.1 }
     ensures empty { root_of result.0 ≡ None }
 {
-    let mut sums = SumTable::new(alloc);
-    let covered = sums.cover(keys.len());
+    let mut summaries = SumTable::new(alloc);
+    let covered = summaries.cover(keys.len());
     assert!(rt; covered.is_ok());
     let links = keyed_links(rt, alloc, keys);
-    (RBTree::new(OwnKey), Summed { links, sums })
+    (RBTree::new(OwnKey), Summed { links, summaries })
 }
 
 // Inserts the object in the order of its key, and renews the summaries.
-fn put<A: KeyAdapter, L: RBTreeOps + LinkValues<A::Value>, M: RenewSums>(
+fn put<A: KeyAdapter, L: RBTreeOps + LinkValues<A::Value>, M: RecomputeSummaries>(
     tree: &mut RBTree<A>,
     summed: &mut Summed<L, M>,
     object: UnsafeRef<A::Value>,
 )
     requires covered { IsCovered (L.table (links_of summed.old)) object }
-    requires ready { IsReady L.node L.table M.sums M.Covers tree.old summed.old }
-    ensures ready { IsReady L.node L.table M.sums M.Covers tree.new summed.new }
+    requires ready { IsReady L.node L.table M.summaries M.Covers tree.old summed.old }
+    ensures ready { IsReady L.node L.table M.summaries M.Covers tree.new summed.new }
     ensures extent { (L.table (links_of summed.new)).extent ≡ (L.table (links_of summed.old)).extent }
 {
     let _ = tree.insert_keyed(summed, object);
     refresh(tree, summed);
 }
 
-// Does the same, and renews the summaries above the place alone.
-fn put_and_propagate<A: KeyAdapter, L: RBTreeOps + LinkValues<A::Value>, M: RenewSums>(
+// Does the same, and updates only the summaries above the place.
+fn put_and_propagate<A: KeyAdapter, L: RBTreeOps + LinkValues<A::Value>, M: RecomputeSummaries>(
     rt: &impl Abort,
     tree: &mut RBTree<A>,
     summed: &mut Summed<L, M>,
     object: UnsafeRef<A::Value>,
 )
     requires covered { IsCovered (L.table (links_of summed.old)) object }
-    requires ready { IsReady L.node L.table M.sums M.Covers tree.old summed.old }
-    ensures ready { IsReady L.node L.table M.sums M.Covers tree.new summed.new }
+    requires ready { IsReady L.node L.table M.summaries M.Covers tree.old summed.old }
+    ensures ready { IsReady L.node L.table M.summaries M.Covers tree.new summed.new }
     ensures extent { (L.table (links_of summed.new)).extent ≡ (L.table (links_of summed.old)).extent }
 {
     let place = object.place();
@@ -82,14 +82,14 @@ fn put_and_propagate<A: KeyAdapter, L: RBTreeOps + LinkValues<A::Value>, M: Rene
     propagate(summed, place);
 }
 
-// The position that the member at a position tells, and the length where no member stands there.
+// Returns the position that a search from the member at a position finds, or the length if there is no member at that position.
 fn position_of_nth<T, N: NodeStore, A: Allocator>(
     tree: &RBTree<T>,
     summed: &Summed<N, Counts<A>>,
     position: u64,
 ) -> u64
-    requires ready { IsReady N.node N.table counts (λ sums q. index_of q < room_of sums) tree.now summed.now }
-    ensures least { (s : List Place) → RepresentsSummed N.node (counts (sums_of summed.now)) (N.table (links_of summed.now)) (root_of tree.now) s
+    requires ready { IsReady N.node N.table counts (λ summaries q. index_of q < room_of summaries) tree.now summed.now }
+    ensures least { (s : List Place) → RepresentsSummed N.node (counts (summaries_of summed.now)) (N.table (links_of summed.now)) (root_of tree.now) s
         → result ≡ min position (length s) }
 {
     match nth(tree, summed, position) {
@@ -98,14 +98,14 @@ fn position_of_nth<T, N: NodeStore, A: Allocator>(
     }
 }
 
-// Takes the member at a position out, if there is one, and renews the counts.
+// Removes the member at a position, if there is one, and updates the counts.
 fn take_nth<T: KeyAdapter, L: RBTreeOps, A: Allocator>(
     tree: &mut RBTree<T>,
     summed: &mut Summed<L, Counts<A>>,
     position: u64,
 ) -> Option<Place>
-    requires ready { IsReady L.node L.table counts (λ sums q. index_of q < room_of sums) tree.old summed.old }
-    ensures ready { IsReady L.node L.table counts (λ sums q. index_of q < room_of sums) tree.new summed.new }
+    requires ready { IsReady L.node L.table counts (λ summaries q. index_of q < room_of summaries) tree.old summed.old }
+    ensures ready { IsReady L.node L.table counts (λ summaries q. index_of q < room_of summaries) tree.new summed.new }
 {
     let Some(place) = nth(tree, summed, position) else {
         return None;
@@ -124,11 +124,11 @@ fn first_above<T, L: RBTreeOps, A: Allocator>(
     bound: u64,
 ) -> Option<Place>
     requires covered { IsCovered (L.table (links_of summed.old)) place }
-    requires ready { IsReady L.node L.table greatest (λ sums q. index_of q < room_of sums) tree.now summed.old }
-    ensures ready { IsReady L.node L.table greatest (λ sums q. index_of q < room_of sums) tree.now summed.new }
-    ensures number { number_at (sums_of summed.new) place ≡ number }
-    ensures found { (s : List Place) → RepresentsSummed L.node (greatest (sums_of summed.new)) (L.table (links_of summed.new)) (root_of tree.now) s
-        → result ≡ first (filter (is_greater (number_at (sums_of summed.new)) bound) s) }
+    requires ready { IsReady L.node L.table greatest (λ summaries q. index_of q < room_of summaries) tree.now summed.old }
+    ensures ready { IsReady L.node L.table greatest (λ summaries q. index_of q < room_of summaries) tree.now summed.new }
+    ensures number { number_at (summaries_of summed.new) place ≡ number }
+    ensures found { (s : List Place) → RepresentsSummed L.node (greatest (summaries_of summed.new)) (L.table (links_of summed.new)) (root_of tree.now) s
+        → result ≡ first (filter (is_greater (number_at (summaries_of summed.new)) bound) s) }
     ensures extent { (L.table (links_of summed.new)).extent ≡ (L.table (links_of summed.old)).extent }
 {
     set_value(summed, place, number);
@@ -143,22 +143,22 @@ fn first_overlapping<L: RBTreeOps + LinkValues<u64>>(
     from: u64,
     to: u64,
 ) -> Option<Place>
-    requires ready { IsReady L.node L.table greatest (λ sums q. index_of q < room_of sums) tree.now summed.now }
-    ensures found { (s : List Place) → RepresentsSummed L.node (greatest (sums_of summed.now)) (L.table (links_of summed.now)) (root_of tree.now) s
+    requires ready { IsReady L.node L.table greatest (λ summaries q. index_of q < room_of summaries) tree.now summed.now }
+    ensures found { (s : List Place) → RepresentsSummed L.node (greatest (summaries_of summed.now)) (L.table (links_of summed.now)) (root_of tree.now) s
         → IsSorted nat_cmp (map (start_in (L.values (links_of summed.now))) s)
-        → result ≡ first (filter (overlaps (start_in (L.values (links_of summed.now))) (number_at (sums_of summed.now)) from to) s) }
+        → result ≡ first (filter (overlaps (start_in (L.values (links_of summed.now))) (number_at (summaries_of summed.now)) from to) s) }
 {
     first_overlap(tree, summed, &summed.links, from, to)
 }
 
 // Inserts the objects at the places 0, 1 and 2.
-fn put_three<L: RBTreeOps + LinkValues<u64>, M: RenewSums>(
+fn put_three<L: RBTreeOps + LinkValues<u64>, M: RecomputeSummaries>(
     tree: &mut RBTree<OwnKey>,
     summed: &mut Summed<L, M>,
 )
     requires covers { 3 ≤ (L.table (links_of summed.old)).extent.places }
-    requires ready { IsReady L.node L.table M.sums M.Covers tree.old summed.old }
-    ensures ready { IsReady L.node L.table M.sums M.Covers tree.new summed.new }
+    requires ready { IsReady L.node L.table M.summaries M.Covers tree.old summed.old }
+    ensures ready { IsReady L.node L.table M.summaries M.Covers tree.new summed.new }
     ensures extent { (L.table (links_of summed.new)).extent ≡ (L.table (links_of summed.old)).extent }
 {
     for index in 0..3 {
@@ -166,15 +166,15 @@ fn put_three<L: RBTreeOps + LinkValues<u64>, M: RenewSums>(
     }
 }
 
-// Members by their position, and those that leave by it. The keys at the places 0 to 3 are 40, 10, 30 and 20, so the places 1, 3, 2 and 0 have the
-// positions 0 to 3.
+// Members by their position, and members that are removed by it. The keys at the places 0 to 3 are 40, 10, 30 and 20, so the places 1, 3, 2 and 0
+// have the positions 0 to 3.
 fn play_positions<L: RBTreeOps + LinkValues<u64>>(
     rt: &impl Abort,
     tree: &mut RBTree<OwnKey>,
     summed: &mut Summed<L, Counts>,
 )
     requires covers { (L.table (links_of summed.old)).extent.places ≡ 4 }
-    requires ready { IsReady L.node L.table counts (λ sums q. index_of q < room_of sums) tree.old summed.old }
+    requires ready { IsReady L.node L.table counts (λ summaries q. index_of q < room_of summaries) tree.old summed.old }
 {
     put_three(tree, summed);
     put_and_propagate(rt, tree, summed, reference(3));
@@ -194,7 +194,7 @@ fn play_above<L: RBTreeOps + LinkValues<u64>>(
     summed: &mut Summed<L, Greatest>,
 )
     requires covers { (L.table (links_of summed.old)).extent.places ≡ 3 }
-    requires ready { IsReady L.node L.table greatest (λ sums q. index_of q < room_of sums) tree.old summed.old }
+    requires ready { IsReady L.node L.table greatest (λ summaries q. index_of q < room_of summaries) tree.old summed.old }
 {
     put_three(tree, summed);
     let found = first_above(&*tree, summed, place_at(2), 50, 0);

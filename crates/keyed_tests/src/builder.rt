@@ -19,7 +19,7 @@ use ic_test_support::objects::{place_at, reference};
 use ic_unsafe_ref::{Place, UnsafeRef};
 use std::process::Abort;
 
-// Puts the object after the members of the builder, unless it is linked, and returns the last member then.
+// Inserts the object after the members of the builder, unless it is linked, and returns the last member then.
 fn push<A: KeyAdapter, L: RBTreeOps>(
     builder: &mut RBTreeBuilder<A>,
     links: &mut L,
@@ -34,7 +34,7 @@ fn push<A: KeyAdapter, L: RBTreeOps>(
     builder.last()
 }
 
-// Takes the first member off the builder, if it has members, and returns which one that was.
+// Removes the first member of the builder, if it has members, and returns which one that was.
 fn pop<A: KeyAdapter, L: RBTreeOps>(builder: &mut RBTreeBuilder<A>, links: &mut L) -> Option<Place>
     requires shown { RepresentsVineSome L.node (L.table links.old) (ends_of builder.old) }
     ensures first { (s : List Place) → RepresentsVine L.node (L.table links.old) (ends_of builder.old) s → result ≡ first s }
@@ -45,7 +45,7 @@ fn pop<A: KeyAdapter, L: RBTreeOps>(builder: &mut RBTreeBuilder<A>, links: &mut 
     Some(object.place())
 }
 
-// Takes the tree apart, puts the object after its members, and builds it anew. It returns the first member, too.
+// Takes the tree apart, appends the object to its members, and builds it again. It also returns the first member.
 fn built_anew<A: KeyAdapter, L: RBTreeOps>(
     tree: RBTree<A>,
     links: &mut L,
@@ -62,14 +62,14 @@ fn built_anew<A: KeyAdapter, L: RBTreeOps>(
     (first, builder.build(links))
 }
 
-// Whether the members of the tree have these keys, in this order.
+// Returns whether the members of the tree have these keys, in this order.
 fn has_keys<L: RBTreeOps + LinkValues<u64>>(tree: &RBTree<OwnKey>, links: &L, keys: &[u64]) -> bool
     requires shown { RepresentsSome L.node (L.table links.now) (root_of tree.now) }
 {
     tree.iter(links, links).eq(keys)
 }
 
-// Three objects are pushed, the first is taken off, and the others are built, taken apart, and built with a fourth. The keys 10 to 40 stand beside the
+// Three objects are pushed, the first is removed, and the others are built, taken apart, and built with a fourth. The keys 10 to 40 are beside the
 // links.
 fn play<L: RBTreeOps + LinkValues<u64>>(rt: &impl Abort, links: &mut L)
     requires covers { (L.table links.old).extent.places ≡ 4 }

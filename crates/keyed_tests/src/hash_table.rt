@@ -72,10 +72,10 @@ impl KeyOf for ByNumber {
     }
 }
 
-// The numbers of these tests, of which 10 and 20 stand there twice.
+// The numbers of these tests, of which 10 and 20 occur twice.
 const NUMBERS: [u64; 8] = [10, 20, 10, 30, 20, 40, 50, 60];
 
-// No notes, these numbers as objects, a table of links that covers their places, and four empty buckets.
+// Makes empty notes, these numbers as objects, a table of links that covers their places, and four empty buckets.
 fn fixture(rt: &impl Abort, alloc: Global) -> (Text, Objects<u64>, LinkOps, Vec<PlaceWord>)
     ensures covers { (table wide no_word result.2).extent.places ≡ 8 }
     ensures placed { (q : Place) → index_of q < 8 → is_placed result.1 q ≡ true }
@@ -126,7 +126,7 @@ fn put_unique<A: HashAdapter<Value = u64>, L: SinglyLinkedListOps, B: BucketsFor
     notes.add(object(found.unwrap_or(None)), " ");
 }
 
-// The member with the object's key, if there is one. Else the object is put in, with no second search.
+// Returns the member with the object's key, if there is one. Otherwise it inserts the object, without a second search.
 fn enter<A: HashAdapter<Value = u64>, L: SinglyLinkedListOps, B: BucketsFor<L>>(
     adapter: A,
     table: &mut HashTable<A, B>,
@@ -151,7 +151,7 @@ fn enter<A: HashAdapter<Value = u64>, L: SinglyLinkedListOps, B: BucketsFor<L>>(
     }
 }
 
-// The member with the object's key, or the object, which is put in where none has it.
+// Returns the member with the object's key, or inserts the object if no member has it, and returns the object.
 fn enter_or_find<A: HashAdapter<Value = u64>, L: SinglyLinkedListOps, B: BucketsFor<L>>(
     adapter: A,
     table: &mut HashTable<A, B>,
@@ -176,7 +176,7 @@ fn enter_or_find<A: HashAdapter<Value = u64>, L: SinglyLinkedListOps, B: Buckets
     }
 }
 
-// Takes the first member with this key out, if there is one.
+// Removes the first member with this key, if there is one.
 fn leave<A: HashAdapter<Value = u64>, L: SinglyLinkedListOps, B: BucketsFor<L>>(
     table: &mut HashTable<A, B>,
     links: &mut L,
@@ -226,7 +226,7 @@ fn write_looks<A: HashAdapter<Value = u64>, L: SinglyLinkedListOps, B: BucketsFo
     notes.add(Answer::Number(probe.looks()), " ");
 }
 
-// Takes the object out, and notes whether it was a member.
+// Removes the object, and notes whether it was a member.
 fn take<A: HashAdapter<Value = u64>, L: SinglyLinkedListOps, B: BucketsFor<L>>(
     notes: &mut Text,
     table: &mut HashTable<A, B>,
@@ -245,7 +245,7 @@ fn take<A: HashAdapter<Value = u64>, L: SinglyLinkedListOps, B: BucketsFor<L>>(
     notes.add(Answer::Truth(is_taken), " ");
 }
 
-// Takes the first member with this key out, and notes it.
+// Removes the first member with this key, and notes it.
 fn take_by<A: HashAdapter<Value = u64>, L: SinglyLinkedListOps, B: BucketsFor<L>>(
     notes: &mut Text,
     table: &mut HashTable<A, B>,
@@ -308,7 +308,7 @@ fn shrink<A: HashAdapter<Value = u64>, L: SinglyLinkedListOps, B: BucketsFor<L>>
     notes.add(Answer::Truth(is_shrunk), " ");
 }
 
-// Takes all members out.
+// Removes all members.
 fn empty<A: HashAdapter<Value = u64>, L: SinglyLinkedListOps, B: BucketsFor<L>>(
     table: &mut HashTable<A, B>,
     links: &mut L,
@@ -362,7 +362,7 @@ fn write_steps<A: HashAdapter<Value = u64>, L: SinglyLinkedListOps, B: BucketsFo
     }
 }
 
-// Notes the first member of the chain where this key belongs.
+// Notes the first member of the chain to which this key belongs.
 fn write_chain_of<A: HashAdapter<Value = u64>, L: SinglyLinkedListOps, B: BucketsFor<L>>(
     notes: &mut Text,
     adapter: A,
@@ -377,7 +377,7 @@ fn write_chain_of<A: HashAdapter<Value = u64>, L: SinglyLinkedListOps, B: Bucket
     write_places(notes, &[table.chain(links, objects, at).first()]);
 }
 
-// What the table prints.
+// Notes the text that the table prints.
 fn printed<A: HashAdapter<Value = u64, Key = u64>, L: SinglyLinkedListOps, B: BucketsFor<L>>(
     alloc: Global,
     table: &HashTable<A, B>,
@@ -485,7 +485,7 @@ fn a_search_is_counted(rt: HostRuntime) {
     assert_true(&rt, notes.has_words("0 2"));
 }
 
-// Notes what a new table is where an object goes in and another comes out, each by one search.
+// Notes the contents of a new table into which one object is inserted and from which another is removed, each with one search.
 fn write_entries<A: HashAdapter<Value = u64>, L: SinglyLinkedListOps, B: BucketsFor<L> + Drop>(
     notes: &mut Text,
     adapter: A,
@@ -606,7 +606,7 @@ fn write_found<A: HashAdapter<Value = u64>, L: SinglyLinkedListOps, B: BucketsFo
     notes.add(object(table.find(&*links, objects, key)), " ");
 }
 
-// Notes what a new table is where several objects have one key.
+// Notes the contents of a new table in which several objects have the same key.
 fn write_equal_keys<A: HashAdapter<Value = u64>, L: SinglyLinkedListOps, B: BucketsFor<L> + Drop>(
     notes: &mut Text,
     adapter: A,
@@ -641,7 +641,7 @@ fn equal_keys_stand_side_by_side(rt: HostRuntime) {
     );
 }
 
-// Notes what a new table is whose keys stand beside the links.
+// Notes the contents of a new table whose keys are beside the links.
 fn write_keyed<
     A: HashAdapter<Value = u64>,
     L: SinglyLinkedListOps + LinkValues<u64>,

@@ -1,4 +1,4 @@
-//! Objects that are found by a key and stand in an order, at both ends of it. A container of unique keys inserts at the front alone.
+//! Objects that are found by a key and have an order, with calls at both of its ends. A container of unique keys inserts at the front alone.
 
 use crate::asserts::assert_same;
 use crate::unique_keys::calls::Page;

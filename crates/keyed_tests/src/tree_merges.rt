@@ -17,7 +17,7 @@ use ic_tree_merges::{ByKeys, difference, intersection, merge, union};
 use ic_unsafe_ref::Objects;
 use std::process::Abort;
 
-// Puts the object into the tree where its number belongs, beside another tree.
+// Inserts the object into the tree where its number belongs, beside another tree.
 fn put<L: RBTreeOps>(
     tree: &mut RBTree<OwnKey>,
     links: &mut L,
@@ -56,7 +56,7 @@ fn two_trees<L: RBTreeOps>(
     (tree, other)
 }
 
-// Merges the other tree into this one, and says how often two objects were compared.
+// Merges the other tree into this one, and returns how often two objects were compared.
 fn merged<L: RBTreeOps>(
     tree: &mut RBTree<OwnKey>,
     links: &mut L,
@@ -143,7 +143,7 @@ fn write_merged<L: RBTreeOps>(
     write_members(notes, &tree, &*links, objects);
 }
 
-// Notes the members of two trees that are united, and those that both had.
+// Notes the members of the union of two trees, and the members that both had.
 fn write_united<L: RBTreeOps>(notes: &mut Text, links: &mut L, objects: &Objects<u64>)
     requires covers { (L.table links.old).extent.places ≡ 8 }
     requires placed { (q : Place) → index_of q < 8 → is_placed objects.now q ≡ true }
@@ -154,7 +154,7 @@ fn write_united<L: RBTreeOps>(notes: &mut Text, links: &mut L, objects: &Objects
     write_members(notes, &doubles, &*links, objects);
 }
 
-// Notes what the first tree keeps where it keeps what both have, and the rest.
+// Notes the members that the first tree keeps in an intersection, and the rest.
 fn write_common<L: RBTreeOps>(notes: &mut Text, links: &mut L, objects: &Objects<u64>)
     requires covers { (L.table links.old).extent.places ≡ 8 }
     requires placed { (q : Place) → index_of q < 8 → is_placed objects.now q ≡ true }
@@ -165,7 +165,7 @@ fn write_common<L: RBTreeOps>(notes: &mut Text, links: &mut L, objects: &Objects
     write_members(notes, &rest, &*links, objects);
 }
 
-// Notes what the first tree keeps where it keeps what the other one lacks, and what both have.
+// Notes the members that the first tree keeps in a difference, and the members that both had.
 fn write_rest<L: RBTreeOps>(notes: &mut Text, links: &mut L, objects: &Objects<u64>)
     requires covers { (L.table links.old).extent.places ≡ 8 }
     requires placed { (q : Place) → index_of q < 8 → is_placed objects.now q ≡ true }

@@ -28,7 +28,7 @@ struct Party<'c> {
     ghost fresh: { spent_by holder ≡ 0 },
 }
 
-// Owns all places, lends them in turn, and gives each eighth back to itself. At the end it says how many it still has.
+// Owns all places, lends them in turn, and gives each eighth back to itself. At the end it returns how many it still has.
 fn give_out(stacks: &Stacks, holder: Holder) -> usize
     requires made { IsOf stacks.now holder }
     requires two { 1 < stacks_of stacks.now }
@@ -74,7 +74,7 @@ fn free_both_ways(stacks: &Stacks, holder: &mut Holder, lent: Chain)
     free_all(stacks, holder, 0, rest);
 }
 
-// Frees what is lent to it, as it comes.
+// Frees the places that are lent to it, as they come.
 fn free_lent(stacks: &Stacks, mut holder: Holder, number: usize)
     requires made { IsOf stacks.now holder }
     requires two { 1 < stacks_of stacks.now }
@@ -87,7 +87,7 @@ fn free_lent(stacks: &Stacks, mut holder: Holder, number: usize)
     }
 }
 
-// How many places this one still has at the end: a worker none.
+// Returns how many places this party still has at the end: a worker has none.
 fn work(party: Party) -> usize {
     let Party {
         stacks,
@@ -122,7 +122,7 @@ fn parties<'c>(
     Ok(parties)
 }
 
-/// Whether each place that an owner lends to so many workers is then in some stack, or still its owner's.
+/// Returns whether each place that an owner lends to this many workers is afterwards in some stack, or still its owner's.
 pub(crate) fn come_back<R: Abort + Threads + Sync>(
     rt: &R,
     alloc: Global,

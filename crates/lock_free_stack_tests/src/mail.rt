@@ -13,7 +13,7 @@ use std::process::Abort;
 use std::thread;
 use std::thread::Threads;
 
-// So many places each sender sends, in the order of their indexes.
+// The number of places that each sender sends, in the order of their indexes.
 const SENT: usize = 2000;
 
 // As often as the receiver looks.
@@ -69,7 +69,7 @@ fn receive_some(
     Ok(indexes)
 }
 
-// What this one received: a sender nothing.
+// Lets the party work, and returns the indices of the places that it received: none for a sender.
 fn work(party: Party) -> Vec<usize> {
     let Party {
         stacks,
@@ -108,7 +108,7 @@ fn parties<'c>(
     Ok(parties)
 }
 
-// Whether of each sender all came, in the order in which it sent them.
+// Returns whether all places of each sender came, in the order in which it sent them.
 fn are_in_order(rt: &impl Abort, alloc: Global, indexes: &[usize], senders: usize) -> bool {
     let mut wanted = Vec::new(alloc);
     for number in 0..senders {
@@ -126,7 +126,7 @@ fn are_in_order(rt: &impl Abort, alloc: Global, indexes: &[usize], senders: usiz
     indexes.len() == senders.wrapping_mul(SENT)
 }
 
-/// Whether one thread receives from so many senders, and a second one then receives the rest, all that was sent, and each sender's in order.
+/// Returns whether one thread and then a second one receive all places from this many senders, and those of each sender in order.
 pub(crate) fn deliver<R: Abort + Threads + Sync>(rt: &R, alloc: Global, senders: usize) -> bool
     requires { senders < 1000 }
 {

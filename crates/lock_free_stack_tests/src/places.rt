@@ -1,4 +1,4 @@
-//! Places that are claimed and pushed, and those that are taken and given up.
+//! Calls that claim and push places, and calls that take places and give them up.
 
 ghost use Rattle.std.specs.Prelude.{◌≡◌, ◌<◌, ◌≤◌, ◌+◌, All, List, OnOk, map, vec_len};
 ghost use Rattle.ic_unsafe_ref.specs.declared.place.Place.{Place};
@@ -14,7 +14,7 @@ use ic_unsafe_ref::Place;
 use stack_uses::mailbox::mail_comes_in_order;
 use std::alloc::AllocError;
 
-/// Claims the place with that index and pushes it, and says whether it did.
+/// Claims the place with this index and pushes it, and returns whether it did.
 pub fn put(stacks: &Stacks, holder: &mut Holder, stack: usize, index: usize) -> bool
     requires stack { stack < stacks_of stacks.now }
     requires made { IsOf stacks.now holder.old }
@@ -35,7 +35,7 @@ pub fn put(stacks: &Stacks, holder: &mut Holder, stack: usize, index: usize) -> 
     }
 }
 
-/// Claims two places and pushes both at once, one before the other, and says whether it did.
+/// Claims two places and pushes both at once, one before the other, and returns whether it did.
 pub fn put_pair(
     stacks: &Stacks,
     holder: &mut Holder,

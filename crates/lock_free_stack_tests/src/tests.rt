@@ -53,7 +53,7 @@ fn a_chain_is_pushed_at_once(rt: HostRuntime) -> Result<(), Fail> {
     Ok(())
 }
 
-// Threads push places of eight, or of one, while others take them: what was pushed is taken, but for what is left.
+// Threads push places of eight, or of one, while others take them: all pushed places are taken, except those that are left.
 // Promise: threads push and take.
 #[test]
 fn threads_push_and_take(rt: HostRuntime) {

@@ -10,12 +10,12 @@ use std::process::Abort;
 use std::thread;
 use std::thread::Threads;
 
-// As often as a place is put, or all are taken.
+// How often a thread pushes a place, or takes all.
 const TURNS: usize = 50_000;
 
 // A holder of stacks in a thread, which pushes or takes.
 #[derive(Drop)]
-struct Hand<'c> {
+struct HolderWithStacks<'c> {
     stacks: &'c Stacks,
     holder: Holder,
     pushes: bool,
@@ -25,7 +25,7 @@ struct Hand<'c> {
     ghost fresh: { spent_by holder ≡ 0 },
 }
 
-// Pushes places, one after the other, and says how many it could claim.
+// Pushes places, one after the other, and returns how many it could claim.
 fn push_some(stacks: &Stacks, mut holder: Holder) -> usize
     requires made { IsOf stacks.now holder }
     requires some { 0 < stacks_of stacks.now }
@@ -41,7 +41,7 @@ fn push_some(stacks: &Stacks, mut holder: Holder) -> usize
     pushed
 }
 
-// Takes what there is, and says how many that was.
+// Takes all places that there are, and returns how many these were.
 fn take_some(alloc: Global, stacks: &Stacks, mut holder: Holder) -> Result<usize, AllocError>
     requires made { IsOf stacks.now holder }
     requires some { 0 < stacks_of stacks.now }
@@ -57,9 +57,9 @@ fn take_some(alloc: Global, stacks: &Stacks, mut holder: Holder) -> Result<usize
     Ok(taken)
 }
 
-// How many this one pushed, and how many it took.
-fn work(hand: Hand) -> (usize, usize) {
-    let Hand {
+// Returns how many places this thread pushed, and how many it took.
+fn work(hand: HolderWithStacks) -> (usize, usize) {
+    let HolderWithStacks {
         stacks,
         holder,
         pushes,
@@ -78,14 +78,14 @@ fn hands<'c>(
     stacks: &'c Stacks,
     mut holders: Vec<Holder>,
     takers: usize,
-) -> Result<Vec<Hand<'c>>, AllocError>
+) -> Result<Vec<HolderWithStacks<'c>>, AllocError>
     requires some { 0 < stacks_of stacks.now }
     requires made { All (λ h. IsOf stacks.now h × IsNew h) holders.items }
 {
     let mut hands = Vec::new(alloc);
     while let Some(holder) = holders.pop() {
         let pushes = holders.len() >= takers;
-        hands.push(Hand {
+        hands.push(HolderWithStacks {
             stacks,
             holder,
             pushes,
@@ -95,7 +95,7 @@ fn hands<'c>(
     Ok(hands)
 }
 
-/// Whether so many threads that push and so many that take, over so many places, leave in the stack just what was pushed and not taken.
+/// Returns whether these numbers of threads that push and threads that take leave in the stack exactly the places that were pushed and not taken.
 pub(crate) fn share<R: Abort + Threads + Sync>(
     rt: &R,
     alloc: Global,

@@ -19,12 +19,11 @@ use ic_rbtree::RBTree;
 use std::alloc::{Allocator, Global};
 use std::marker::Model;
 
-/// A cache from `u64` keys to values, that holds so many entries at most and forgets the one that was touched longest
-/// ago.
+/// A cache from `u64` keys to values with a capacity. If it is full, it forgets the entry that was touched longest ago.
 ///
-/// A clause sees the entries from the one touched last to the oldest, the capacity, and in how many parts the index has the entries: one
-/// by a tree, and the number of chains by a hash table. No key stands there twice, and there are never more entries than the capacity
-/// (`IsSound`). A cache of capacity 0 keeps nothing: what is inserted leaves at once, and comes back.
+/// A contract sees the entries from the one touched last to the oldest, the capacity, and into how many parts the index divides the entries: one for
+/// a tree, and the number of chains for a hash table. No key occurs twice, and there are never more entries than the capacity (`IsSound`). A cache of
+/// capacity 0 keeps nothing: it returns each inserted entry at once.
 #[derive(Drop)]
 pub struct LruCache<V, I: Index<Entry<V>, A>, A: Allocator = Global> {
     entries: Keyed<Entry<V>, I, A>,
@@ -34,7 +33,7 @@ pub struct LruCache<V, I: Index<Entry<V>, A>, A: Allocator = Global> {
 /// A cache whose entries are in a tree by their keys: each search is O(log n).
 pub type TreeLruCache<V, A = Global> = LruCache<V, RBTree<ByKey<Entry<V>>>, A>;
 
-/// The same as `TreeLruCache` over links of 4-byte words: half the memory for links, and 536,870,911 places at most.
+/// The same as `TreeLruCache` over links of 4-byte words. The links take half the memory, and there can be at most 536,870,911 entries.
 pub type NarrowTreeLruCache<V, A = Global> = LruCache<V, RBTree<NarrowByKey<Entry<V>>>, A>;
 
 impl<V, I: Index<Entry<V>, A>, A: Allocator> Model for LruCache<V, I, A> {
@@ -49,7 +48,7 @@ impl<V, I: Index<Entry<V>, A>, A: Allocator> Model for LruCache<V, I, A> {
 }
 
 impl<V, A: Allocator> LruCache<V, RBTree<ByKey<Entry<V>>>, A> {
-    /// A cache of no entries, with a tree as the index. It takes no memory.
+    /// Makes a cache without entries, with a tree as the index. It takes no memory.
     pub fn new(alloc: A, capacity: usize) -> TreeLruCache<V, A>
     where
         A: Copy,
@@ -60,8 +59,8 @@ impl<V, A: Allocator> LruCache<V, RBTree<ByKey<Entry<V>>>, A> {
         LruCache::by_tree(alloc, capacity)
     }
 
-    /// A cache of no entries whose capacity is 18,446,744,073,709,551,615: none leaves unless it is taken out, since there are fewer places. It takes
-    /// no memory.
+    /// Makes a cache without entries whose capacity is 18,446,744,073,709,551,615. There are fewer places than that, so an entry leaves only if a
+    /// call removes it. It takes no memory.
     pub fn unbounded(alloc: A) -> TreeLruCache<V, A>
     where
         A: Copy,
@@ -74,8 +73,8 @@ impl<V, A: Allocator> LruCache<V, RBTree<ByKey<Entry<V>>>, A> {
 }
 
 impl<V, W: NodeWords, O: PrevPlace, A: Allocator> LruCache<V, RBTree<ByKey<Entry<V>, W, O>>, A> {
-    /// A cache of no entries, with a tree over links of either width as the index: `NarrowTreeLruCache::by_tree(rt.alloc(), 1000)`. It
-    /// takes no memory.
+    /// Makes a cache without entries, with a tree over links of either width as the index: `NarrowTreeLruCache::by_tree(rt.alloc(), 1000)`. It takes
+    /// no memory.
     pub fn by_tree(alloc: A, capacity: usize) -> LruCache<V, RBTree<ByKey<Entry<V>, W, O>>, A>
     where
         A: Copy,
@@ -96,7 +95,7 @@ impl<V, I: Index<Entry<V>, A>, A: Allocator> LruCache<V, I, A> {
     ghost use Rattle.lru_cache.specs.Cache.{entry_of, pair_of, value_with, inserted, leaves, without, touched, with_entries, IsSound};
     ghost use Rattle.lru_cache.specs.Lends.{EndsAs};
 
-    /// A cache of no entries, with this index: `LruCache::with_index(rt.alloc(), 1000, HashIndex::new(buckets))`. It takes no memory.
+    /// Makes a cache without entries, with this index: `LruCache::with_index(rt.alloc(), 1000, HashIndex::new(buckets))`. It takes no memory.
     ///
     /// It requires that the index is new.
     pub fn with_index(alloc: A, capacity: usize, index: I) -> LruCache<V, I, A>
@@ -113,7 +112,7 @@ impl<V, I: Index<Entry<V>, A>, A: Allocator> LruCache<V, I, A> {
         }
     }
 
-    /// How many entries there are. O(1).
+    /// Returns how many entries there are. O(1).
     #[inline]
     pub fn len(&self) -> usize
         ensures { result ≡ length self.now.entries }
@@ -121,7 +120,7 @@ impl<V, I: Index<Entry<V>, A>, A: Allocator> LruCache<V, I, A> {
         self.entries.len()
     }
 
-    /// Whether there is no entry. O(1).
+    /// Returns whether there is no entry. O(1).
     #[inline]
     pub fn is_empty(&self) -> bool
         ensures { IsTrue result ↔ (self.now.entries ≡ []) }
@@ -129,7 +128,7 @@ impl<V, I: Index<Entry<V>, A>, A: Allocator> LruCache<V, I, A> {
         self.entries.is_empty()
     }
 
-    /// How many entries there may be. O(1).
+    /// Returns the capacity, which is how many entries there may be. O(1).
     #[inline]
     pub fn capacity(&self) -> usize
         ensures { result ≡ self.now.capacity }
@@ -137,10 +136,10 @@ impl<V, I: Index<Entry<V>, A>, A: Allocator> LruCache<V, I, A> {
         self.capacity
     }
 
-    /// The value of the key, if there is one, and how many entries the search looked at. It does not touch the entry.
+    /// Returns the value of the key, if there is one, and how many entries the search compared. It does not touch the entry.
     ///
-    /// By a tree O(log n): v looks among n entries, where `2^v <= (n + 1)^2`. By a hash table O(1) on average: no more looks than entries
-    /// belong in the chain of the key.
+    /// By a tree O(log n): at most 2 log2(n + 1) comparisons among n entries. With a hash table it costs O(1) on average: it compares at most the
+    /// entries in the chain of the key.
     pub fn find(&self, key: u64) -> (Option<&V>, u64)
         ensures value { option_copied result.0 ≡ value_with key self.now.entries }
         ensures looks { I.IsFew self.now.parts key self.now.entries result.1 }
@@ -154,15 +153,15 @@ impl<V, I: Index<Entry<V>, A>, A: Allocator> LruCache<V, I, A> {
         }
     }
 
-    /// The value of the key, if there is one. It does not touch the entry. As `find`.
+    /// Returns the value of the key, if there is one. It does not touch the entry, and costs what `find` does.
     pub fn peek(&self, key: u64) -> Option<&V>
         ensures { option_copied result ≡ value_with key self.now.entries }
     {
         Some(&self.entries.peek(key)?.value)
     }
 
-    /// The value of the key, if there is one. The entry is touched: it goes before all others, which keep their
-    /// order. It costs what `find` does, and takes no memory.
+    /// Returns the value of the key, if there is one, and touches the entry: it moves to the front, and the others keep their order. It costs what
+    /// `find` does, and takes no memory.
     pub fn get(&mut self, key: u64) -> Option<&V>
         ensures* touches { sem 𝓛 (EndsAs V.row I.row A.row I.Links.row I.Order.row I.Index I.Links.Tables I.Order.unlinked I.Order.is_linked I.Order.width I.Order.next_word I.Order.KeepsOthers I.Order.prev A.Allocator self.entry (touched key self.old.entries)) }
         ensures value { option_copied result ≡ value_with key self.old.entries }
@@ -174,7 +173,7 @@ impl<V, I: Index<Entry<V>, A>, A: Allocator> LruCache<V, I, A> {
         Some(&newest.value)
     }
 
-    /// Takes the entry of the key out, if there is one. It costs about two searches, and takes no memory.
+    /// Removes the entry with the key and returns its value, if there is one. It costs about two searches, and takes no memory.
     pub fn remove(&mut self, key: u64) -> Option<V>
         ensures value { result ≡ value_with key self.old.entries }
         ensures removed { self.new ≡ with_entries self.old (without key self.old.entries) }
@@ -182,7 +181,7 @@ impl<V, I: Index<Entry<V>, A>, A: Allocator> LruCache<V, I, A> {
         Some(self.entries.remove(key)?.value)
     }
 
-    /// The entry that was touched longest ago, if there is one. It does not touch it. O(1).
+    /// Returns the entry that was touched longest ago, if there is one, without touching it. O(1).
     pub fn peek_oldest(&self) -> Option<(u64, &V)>
         ensures { MatchOption result (self.now.entries ≡ []) (λ oldest. EndsWith (entry_of oldest.0 oldest.1.now) self.now.entries) }
     {
@@ -190,7 +189,8 @@ impl<V, I: Index<Entry<V>, A>, A: Allocator> LruCache<V, I, A> {
         Some((oldest.key, &oldest.value))
     }
 
-    /// Takes the entry out that was touched longest ago: `None` if there is none. It costs about a search, and takes no memory.
+    /// Removes the entry that was touched longest ago and returns it, or returns `None` if there is none. It costs about a search, and takes no
+    /// memory.
     pub fn pop_oldest(&mut self) -> Option<(u64, V)>
         ensures oldest { MatchOption result (self.old.entries ≡ [])
             (λ oldest. self.old.entries ≡ self.new.entries ++ entry_of oldest.0 oldest.1 ∷ []) }
@@ -202,12 +202,12 @@ impl<V, I: Index<Entry<V>, A>, A: Allocator> LruCache<V, I, A> {
         Some((oldest.key, oldest.value))
     }
 
-    /// Puts an entry before all others. It returns the one that leaves, if one does: the one of the same key, or
-    /// else the oldest, where the cache is full. Of a cache of capacity 0 the entry itself leaves.
+    /// Inserts an entry at the front. It returns the entry that leaves, if one does: the one with the same key, or else the oldest if the cache is
+    /// full. In a cache of capacity 0 the inserted entry itself leaves.
     ///
-    /// Where one leaves its object is used again: no memory is taken, and nothing can fail. Else it takes memory for
-    /// the entry and its two links, at most three requests. Where that is refused the value comes back, and nothing has
-    /// changed. It costs about three searches.
+    /// If an entry leaves, its object is used again, so that the call takes no memory and cannot fail. Otherwise it takes memory for the entry and
+    /// its two links, in at most three requests. If that is refused, the caller gets the value back, and nothing has changed. It costs about three
+    /// searches.
     pub fn insert(&mut self, key: u64, value: V) -> Result<Option<(u64, V)>, InsertError<V>>
         ensures left { IfOk result (λ left. left ≡ option_map pair_of (leaves (entry_of key value) self.old)) }
         ensures inserted { OnOk result (self.new ≡ with_entries self.old (inserted (entry_of key value) self.old)) }
@@ -220,7 +220,7 @@ impl<V, I: Index<Entry<V>, A>, A: Allocator> LruCache<V, I, A> {
         left
     }
 
-    // The same, but for what the law says.
+    // The same, without the conclusion of the law.
     fn put(&mut self, key: u64, value: V) -> Result<Option<(u64, V)>, InsertError<V>>
         ensures left { IfOk result (λ left. left ≡ option_map pair_of (leaves (entry_of key value) self.old)) }
         ensures inserted { OnOk result (self.new ≡ with_entries self.old (inserted (entry_of key value) self.old)) }

@@ -6,9 +6,8 @@
 //! let page = cache.get(7); // touched: it leaves last
 //! ```
 //!
-//! Each entry is one object with a link in each of two fields, and uses both: in the index of keys, by which it is
-//! found, and in the list of ages, whose last one leaves first. The index is a tree, or the hash table of `ic_hash_index`, over
-//! buckets of yours:
+//! Each entry is one object that is linked in two fields: in the index of keys, by which it is found, and in the list of ages, whose last entry
+//! leaves first. The index is a tree, or the hash table of `ic_hash_index`, over buckets of yours:
 //!
 //! ```text
 //! let index = HashIndex::new(buckets); // as many as entries: O(1) on average

@@ -183,8 +183,8 @@ whole_row first [] (suc n) e = absurd (let l = ap length e ∙ length-range_with
 whole_row first (p ∷ ps) zero e = absurd (let l = ap length e in omega (arith, l))
 whole_row first (p ∷ ps) (suc n) e =
     let here : index_of p ≡ first = ap (λ l. get_or l 0 first) e in
-    let behind : in_order_from (first + 1) ps ≡ n = whole_row (first + 1) ps n (ap (drop 1) e) in
-    ap (λ b. cond b (in_order_from (first + 1) ps + 1) (in_order_from first ps)) (eq-eqb (index_of p) first here) ∙ omega (arith, behind)
+    let after : in_order_from (first + 1) ps ≡ n = whole_row (first + 1) ps n (ap (drop 1) e) in
+    ap (λ b. cond b (in_order_from (first + 1) ps + 1) (in_order_from first ps)) (eq-eqb (index_of p) first here) ∙ omega (arith, after)
 
 sum_each : (f : ℕ → ℕ) (c a n : ℕ) → ((k : ℕ) → k < a + n → f k ≡ c) → sum_by f (range_with_len a n) ≡ n * c
 sum_each f c a zero each = omega arith

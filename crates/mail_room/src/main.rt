@@ -1,4 +1,4 @@
-//! Lets threads send places to one mailbox, and prints what came: how many, in which order, and whether any is lost.
+//! Lets threads send places to one mailbox, and prints how many places came, how many of them in order, and whether any was lost.
 #![tactic(auto)]
 
 ghost use Rattle.std.specs.Prelude.{◌≤◌, IfSome};
@@ -12,28 +12,28 @@ use std::rt::Env;
 use std::thread::Threads;
 use std::{io, str};
 
-// The most senders, and the most places of each.
+// The most senders, and the most places of each sender.
 const MOST_SENDERS: usize = 64;
 
 const MOST_PLACES: usize = 100_000;
 
-// How many bytes an argument has at most that the program knows.
+// The most bytes of any argument that the program knows.
 const LONGEST: usize = 32;
 
-// How many senders are asked for, and how many places of each.
+// The number of senders, and the number of places of each.
 struct Request {
     senders: usize,
     places: usize,
 }
 
-// The number that the argument of that number is.
+// Returns the value of the argument at this position.
 fn number(rt: &impl Env, argument: usize) -> Option<usize> {
     let mut word = [0; LONGEST];
     let length = rt.arg(argument, &mut word).ok()?;
     str::from_utf8(&word[..length]).ok()?.parse::<usize>().ok()
 }
 
-// What the arguments `W N` ask for. `None`: they are others, or a number is out of range.
+// Returns the numbers in the arguments `W N`, or `None` if there are other arguments or a number is out of range.
 fn asked(rt: &impl Env) -> Option<Request>
     ensures senders { IfSome result (λ asked. asked.senders ≤ 64) }
     ensures places { IfSome result (λ asked. asked.places ≤ 100000) }
@@ -47,7 +47,7 @@ fn asked(rt: &impl Env) -> Option<Request>
     Some(Request { senders, places })
 }
 
-// Lets them send, and prints what came.
+// Lets the senders send, and prints what came.
 fn run<R: Print + AllocGlobal + Threads + Sync>(rt: &R, asked: Request) -> io::Result<()>
     requires senders { asked.senders ≤ 64 }
     requires places { asked.places ≤ 100000 }

@@ -1,4 +1,4 @@
-//! How many places came in their sender's turn.
+//! How many places came in the order in which their sender sent them.
 
 ghost use Rattle.std.specs.Prelude.{◌≡◌, ◌≤◌, ◌+◌, ◌/◌, ◌%◌, IfOk, length, set};
 ghost use Rattle.std.specs.Bool.{OnTrue, OnFalse};
@@ -7,10 +7,10 @@ ghost use Rattle.mail_room.specs.Tally.{in_order_of, IsNext};
 use ic_unsafe_ref::Place;
 use std::alloc::{AllocError, Allocator};
 
-/// How many of the places came as the next of their sender, of `places` places for each: the sender of that number sends those from
-/// `number * places` on.
+/// Returns how many of the places came as the next one of their sender, if each sender sends `places` places. The sender with a number sends those
+/// from `number * places` on.
 ///
-/// A place that comes a second time is not the next one, and neither is one after a lost one.
+/// A place that comes a second time does not count, and neither does one after a lost place.
 pub fn in_order<A: Allocator>(
     alloc: A,
     senders: usize,
@@ -30,7 +30,7 @@ pub fn in_order<A: Allocator>(
     Ok(count)
 }
 
-// Whether the place with this index is the next of its sender, of which one more has come in order then.
+// Returns whether the place with this index is the next one of its sender, and then counts it.
 fn is_next<A: Allocator>(numbers: &mut Vec<usize, A>, places: usize, index: usize) -> bool
     ensures next { OnTrue result (IsNext numbers.old.items places index) }
     ensures counted { OnTrue result (numbers.new.items ≡ set numbers.old.items (index / places) (index % places + 1)) }

@@ -15,23 +15,23 @@ number_of entry = entry.number
 abbrev pub person_of : Entry → ℕ
 person_of entry = entry.person
 
--- it is stored as the pair of them
+-- an entry is stored as the pair of both
 abbrev pub entry_code : Coded Entry
 entry_code = code_by (ℕ × ℕ) (coded× coded_ℕ coded_ℕ) (λ e. (e.number, e.person)) (λ p. record { number = p.0; person = p.1 }) (λ _. refl)
 
--- THE ENTRY IS ADDED at p, and none had its number
+-- THE ENTRY IS ADDED at p, and no other entry has its number
 pub record Adds (p : Place) (entry : Entry) (old new : Objects Entry) : Type 0 where
   pub placed : Places old new p entry
   pub fresh : IsFoundObject number_of old entry.number None
 
--- THE ENTRY WITH THE NUMBER IS TAKEN OUT
+-- THE ENTRY WITH THE NUMBER IS REMOVED
 pub record Removes (number : ℕ) (entry : Entry) (old new : Objects Entry) : Type 0 where
   pub place : Place
   pub there : object_at old place ≡ Some entry
   pub has : entry.number ≡ number
   pub freed : Frees old new place
 
--- WHY AN ENTRY IS REFUSED: another one has its number, or none has, and there is no place left or no memory
+-- WHY AN ENTRY IS REFUSED: another one has its number; or none has, and all places are in use or there is not enough memory
 abbrev pub IsRefused : Entry → Objects Entry → InsertError → Type 0
 IsRefused entry old (NumberTaken refused) = (refused ≡ entry) × (other : Entry) × IsFoundObject number_of old entry.number (Some other)
 IsRefused entry old (NotPlaced refused) = (value_of refused ≡ entry) × IsFoundObject number_of old entry.number None × (lacks_place refused ≡ leb (2 ^ 32) old.next)

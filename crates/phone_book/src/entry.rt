@@ -1,4 +1,4 @@
-//! What stands in a phone book, and the two orders of it.
+//! The entries of a phone book, and their two orders.
 
 ghost use Rattle.std.specs.Prelude.{◌≡◌};
 
@@ -9,11 +9,11 @@ use ic_rbtree::KeyAdapter;
 pub struct Entry {
     /// The phone number, which no other entry has.
     pub number: u64,
-    /// The person whose number it is. A person can have several.
+    /// The person whose number it is. A person can have several numbers.
     pub person: u64,
 }
 
-/// Entries by their numbers.
+/// The order of entries by their numbers.
 #[derive(Clone, Copy)]
 pub(crate) struct ByNumber;
 
@@ -30,7 +30,7 @@ impl KeyAdapter for ByNumber {
     }
 }
 
-/// Entries by their persons.
+/// The order of entries by their persons.
 #[derive(Clone, Copy)]
 pub(crate) struct ByPerson;
 

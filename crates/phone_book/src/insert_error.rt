@@ -9,11 +9,11 @@
 use crate::Entry;
 use ic_pool::PlaceError;
 
-/// An entry that was not inserted. It comes back.
+/// Why an entry was not inserted, with the entry.
 #[derive(Debug, Drop)]
 pub enum InsertError {
     /// Another entry has its number.
     NumberTaken(Entry),
-    /// There was no place or no memory for it.
+    /// All places are in use, or there was not enough memory.
     NotPlaced(PlaceError<Entry>),
 }

@@ -1,4 +1,4 @@
-//! A phone book: entries that are found by their numbers and by their persons. No two entries have one number.
+//! A phone book: entries that are found by their numbers and by their persons. No two entries have the same number.
 //!
 //! ```text
 //! let mut book = PhoneBook::new(rt.alloc());

@@ -23,7 +23,7 @@ use std::marker::Model;
 
 /// Entries, each in a tree by its number and in a tree by its person.
 ///
-/// A clause sees the entries by their places.
+/// A contract sees the entries by their places.
 #[derive(Drop)]
 pub struct PhoneBook<A: Allocator = Global> {
     pool: Pool<Entry, (LinkOps<A>, LinkOps<A>), A>,
@@ -48,7 +48,7 @@ impl<A: Allocator> Model for PhoneBook<A> {
 }
 
 impl<A: Allocator> PhoneBook<A> {
-    /// A book with no entry. It takes no memory.
+    /// Makes a book with no entry. It takes no memory.
     pub fn new(alloc: A) -> PhoneBook<A>
     where
         A: Copy,
@@ -62,10 +62,10 @@ impl<A: Allocator> PhoneBook<A> {
         }
     }
 
-    /// Inserts an entry, and returns where it stands. O(log n), and at most three requests for memory.
+    /// Inserts an entry, and returns its place. It costs O(log n), and makes at most three requests for memory.
     ///
-    /// If it is refused, it comes back, and nothing has changed: with `NumberTaken` exactly if an entry of the book has its number, with
-    /// `NoPlaceLeft` exactly if none has it and there is no place left, of 4,294,967,296, and else with `OutOfMemory`.
+    /// If it is refused, the caller gets the entry back, and nothing has changed. The error is `NumberTaken` exactly if an entry of the book has its
+    /// number, else `NoPlaceLeft` exactly if all 4,294,967,296 places are in use, and otherwise `OutOfMemory`.
     pub fn insert(&mut self, entry: Entry) -> Result<UnsafeRef<Entry>, InsertError>
         ensures added { IfOk result (λ object. Adds object entry self.old self.new) }
         ensures refused { IfErr result (λ refused. IsRefused entry self.old refused × (self.new ≡ self.old)) }
@@ -83,7 +83,7 @@ impl<A: Allocator> PhoneBook<A> {
         Ok(object)
     }
 
-    /// The entry with this number, `None` if none has it. O(log n).
+    /// Returns the entry with this number, or `None` if none has it. O(log n).
     pub fn with_number(&self, number: u64) -> Option<&Entry>
         ensures { IsFoundObject number_of self.now number (option_copied result) }
     {
@@ -91,7 +91,7 @@ impl<A: Allocator> PhoneBook<A> {
         trees::get(&self.by_number, links, objects, number)
     }
 
-    /// An entry of this person, `None` if there is none. O(log n).
+    /// Returns an entry of this person, or `None` if there is none. O(log n).
     pub fn of_person(&self, person: u64) -> Option<&Entry>
         ensures { IsFoundObject person_of self.now person (option_copied result) }
     {
@@ -99,7 +99,8 @@ impl<A: Allocator> PhoneBook<A> {
         trees::get(&self.by_person, links, objects, person)
     }
 
-    /// Takes the entry with this number out. If none has it, `None`, and nothing has changed. O(log n), and it takes no memory.
+    /// Removes the entry with this number and returns it. If no entry has it, the call returns `None`, and nothing has changed. O(log n), and it
+    /// takes no memory.
     pub fn remove(&mut self, number: u64) -> Option<Entry>
         ensures removed { IfSome result (λ entry. Removes number entry self.old self.new) }
         ensures none { IfNone result (IsFoundObject number_of self.old number None × (self.new ≡ self.old)) }

@@ -1,4 +1,4 @@
-//! Refusals that go by `?` into an `anyhow::Error`, and what it prints.
+//! Refusals that `?` converts into an `anyhow::Error`, and the text that it prints.
 
 use ic_link_ops::linked_list::LinkOps;
 use ic_link_ops::rbtree::LinkOps as TreeLinkOps;
@@ -40,7 +40,7 @@ fn refused_at<A: Allocator, B: Allocator>(
     }
 }
 
-// What the error of the outcome prints, nothing if there is none.
+// Returns the text that the error of the outcome prints, or an empty text if there is none.
 fn text_of(alloc: Global, outcome: anyhow::Result<()>) -> Result<String, AllocError> {
     match outcome {
         Ok(()) => Ok(String::new(alloc)),

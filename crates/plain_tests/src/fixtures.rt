@@ -1,4 +1,4 @@
-//! What the tests share: tables of a few places, and references to what is not linked.
+//! What the tests share: tables of a few places, and references to unlinked objects.
 
 ghost use Rattle.std.specs.Prelude.{◌≡◌};
 ghost use Rattle.ic_link_ops.specs.PlainTables.{table, linked_by};
@@ -23,7 +23,7 @@ pub(crate) fn covering<W: Words>(rt: &impl Abort, alloc: Global) -> PlainTable<W
     links
 }
 
-/// The reference to whatever stands at the place of this index, which is covered and not linked.
+/// Returns the reference to the object at the place with this index, which is covered and not linked.
 pub(crate) fn unlinked<W: Words, T>(
     rt: &impl Abort,
     links: &PlainTable<W>,
@@ -46,7 +46,7 @@ pub(crate) fn index(place: Option<Place>) -> usize {
     }
 }
 
-/// The index of the place where an object stands, 9 of none.
+/// Returns the index of an object's place, or 9 for none.
 pub(crate) fn index_of<T>(object: Option<UnsafeRef<T>>) -> usize {
     match object {
         Some(object) => object.place().index(),

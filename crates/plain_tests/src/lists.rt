@@ -39,7 +39,7 @@ fn new_xor() -> XorLinkedList<u64>
     xor_linked_list::new()
 }
 
-// Puts the object after all others, and then before them.
+// Inserts the object after all others, and then before them.
 fn push_to_front<L: LinkedListOps + AcceptsUnlinked>(
     list: &mut LinkedList<u64>,
     links: &mut L,
@@ -54,7 +54,7 @@ fn push_to_front<L: LinkedListOps + AcceptsUnlinked>(
     linked_list::move_to_front(list, links, &object);
 }
 
-// Puts the object after all others, and once more.
+// Inserts the object after all others, and once more.
 fn push_to_back<L: LinkedListOps + AcceptsUnlinked>(
     list: &mut LinkedList<u64>,
     links: &mut L,
@@ -69,7 +69,7 @@ fn push_to_back<L: LinkedListOps + AcceptsUnlinked>(
     linked_list::move_to_back(list, links, &object);
 }
 
-// Puts the object after all others, and takes it off.
+// Inserts the object at the back, and removes it.
 fn push_and_remove<L: LinkedListOps + AcceptsUnlinked>(
     list: &mut LinkedList<u64>,
     links: &mut L,
@@ -94,7 +94,7 @@ fn use_last(list: &mut LinkedList<u64>, links: &mut LinkOps)
     }
 }
 
-// Puts the first member after all others.
+// Moves the first member to the back.
 fn requeue_first(list: &mut LinkedList<u64>, links: &mut LinkOps)
     requires shown { PlainRepresentsSome links.old list.old }
     ensures shown { PlainRepresentsSome links.new list.new }
@@ -119,7 +119,7 @@ fn doubly_linked(rt: HostRuntime) {
     push_to_back(&mut list, &mut links, object);
     let object = unlinked(&rt, &links, 3);
     push_to_front(&mut list, &mut links, object);
-    // they stand as 3, 0, 1, 2
+    // their order is 3, 0, 1, 2
     use_last(&mut list, &mut links);
     requeue_first(&mut list, &mut links);
     requeue_first(&mut list, &mut links);
@@ -185,7 +185,7 @@ fn doubly_linked_over_narrow_links(rt: HostRuntime) {
     push_to_back(&mut list, &mut links, object);
     let object = unlinked(&rt, &links, 3);
     push_to_front(&mut list, &mut links, object);
-    // they stand as 3, 1, 2
+    // their order is 3, 1, 2
     let object = unlinked(&rt, &links, 0);
     let first = index_of(slide(&mut list, &mut links, object));
     let ends = [

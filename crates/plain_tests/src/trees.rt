@@ -34,7 +34,7 @@ fn timers_at(rt: &impl Abort, alloc: Global, deadlines: &[u64]) -> Objects<Timer
     objects
 }
 
-// Puts the timer at the place of this index into the tree.
+// Inserts the timer at the place of this index into the tree.
 fn add<W: NodeWords>(
     rt: &impl Abort,
     tree: &mut RBTree<ByDeadline>,
@@ -52,7 +52,7 @@ fn add<W: NodeWords>(
     rbtree::insert(tree, links, objects, timer);
 }
 
-// Puts the timer at the place of this index into the tree, as a caller of timers does.
+// Inserts the timer at the place of this index into the tree, as a caller of timers does.
 fn schedule_at(
     rt: &impl Abort,
     tree: &mut RBTree<ByDeadline>,
@@ -69,7 +69,7 @@ fn schedule_at(
     schedule(tree, links, objects, timer);
 }
 
-// Puts the member at the place of this index after those with its deadline, as a caller of timers does.
+// Inserts the member at the place with this index after those with the same deadline, as a caller of timers does.
 fn reschedule_at(
     rt: &impl Abort,
     tree: &mut RBTree<ByDeadline>,
@@ -89,7 +89,7 @@ fn reschedule_at(
     reschedule(tree, links, objects, &UnsafeRef::new(place));
 }
 
-// The indices of the places before a member's and after it.
+// Returns the indices of the places before and after a member.
 fn beside(rt: &impl Abort, tree: &RBTree<ByDeadline>, links: &LinkOps, place: Place) -> [usize; 2]
     requires covered { IsCovered (plain_table links.now) place }
     requires shown { PlainRepresentsSome links.now (root_of tree.now) }
@@ -111,7 +111,7 @@ fn tree_in_order(rt: HostRuntime) {
     add(&rt, &mut tree, &mut links, &objects, 3);
     add(&rt, &mut tree, &mut links, &objects, 2);
     schedule_at(&rt, &mut tree, &mut links, &objects, 1);
-    // they stand as 3, 1, 2, 0, and then as 1, 3, 2, 0
+    // their order is 3, 1, 2, 0, and then as 1, 3, 2, 0
     reschedule_at(&rt, &mut tree, &mut links, &objects, 3);
     let ends = [
         index(rbtree::first(&tree, &links)),
@@ -141,7 +141,7 @@ fn tree_in_order_over_narrow_links(rt: HostRuntime) {
     let objects = timers_at(&rt, rt.alloc(), &[30, 10, 20, 10]);
     let mut links: NarrowLinkOps = covering(&rt, rt.alloc());
     let mut tree = rbtree::new(ByDeadline);
-    // they stand as 1, 3, 2, 0
+    // their order is 1, 3, 2, 0
     add(&rt, &mut tree, &mut links, &objects, 0);
     add(&rt, &mut tree, &mut links, &objects, 1);
     add(&rt, &mut tree, &mut links, &objects, 2);

@@ -22,13 +22,13 @@ use Rattle.ic_link_ops.proofs.Walks.{few_places}
 use Rattle.ic_pool.specs.Pooled.{Grows}
 use Rattle.ic_pool.proofs.Pooling.{pooled_first, pooled_grown, pooled_placed, pooled_linked, pooled_unlinked, pooled_changed}
 use Rattle.ic_container.specs.Edited.{HasJoined}
-use Rattle.ic_container.specs.Rows.{alone, home_of, home_or}
+use Rattle.ic_container.specs.Rows.{alone, owner_of, owner_or}
 use Rattle.ic_container.proofs.EditLemmas.{left_front}
 use Rattle.ic_container.proofs.HoldsLemmas.{Reading, holds_changed, holds_grown, holds_joined, holds_left, holds_none}
 use Rattle.ic_container.proofs.RowLemmas.{alone_none, alone_others, housed_joined, housed_left}
 use Rattle.pool_uses.specs.declared.slots.Handle.{Handle}
 use Rattle.pool_uses.specs.declared.slots.Slot.{Slot}
-use Rattle.pool_uses.specs.KeptSlots.{is_linked, successor, plain_table, members_of, value_in, vacant_home, home_with, taken_home, taken_with, IsTaken, naming_of, IsCounted, IsKept}
+use Rattle.pool_uses.specs.KeptSlots.{is_linked, successor, plain_table, members_of, value_in, vacant_owner, owner_with, taken_owner, taken_with, IsTaken, naming_of, IsCounted, IsKept}
 use Rattle.pool_uses.specs.Slots.{Naming, named, is_given, named_in, given_in, is_last, IsUsable, HasVacant, Inserts, Removes}
 
 same_handle : (h k : Handle) → index_of h.place ≡ index_of k.place → h.generation ≡ k.generation → h ≡ k
@@ -93,18 +93,18 @@ slot_reading = record {
 
 module _ {T : Type 0} where
   -- a slot is at home in the list exactly if it can have a value
-  usable_home : (o : Option (Slot T)) → IsUsable o → home_or vacant_home o ≡ Some 0
-  usable_home None can = absurd can
-  usable_home (Some slot) can = grind (arith, nat_tests)
+  usable_owner : (o : Option (Slot T)) → IsUsable o → owner_or vacant_owner o ≡ Some 0
+  usable_owner None can = absurd can
+  usable_owner (Some slot) can = grind (arith, nat_tests)
 
-  home_usable : (o : Option (Slot T)) → home_or vacant_home o ≡ Some 0 → (slot : Slot T) × (o ≡ Some slot) × IsUsable (Some slot)
-  home_usable None h = absurd (none_not 0 h)
-  home_usable (Some slot) h = (slot, refl, grind (arith, nat_tests))
+  owner_usable : (o : Option (Slot T)) → owner_or vacant_owner o ≡ Some 0 → (slot : Slot T) × (o ≡ Some slot) × IsUsable (Some slot)
+  owner_usable None h = absurd (none_not 0 h)
+  owner_usable (Some slot) h = (slot, refl, grind (arith, nat_tests))
 
 -- what is at home nowhere is in no row
-absent_off : (home : Place → Option ℕ) (p : Place) → home p ≡ None → (i : ℕ) (s : List Place) → AllByRecursion (λ q. home q ≡ Some i) s → IsAbsent p s
-absent_off home p none i [] own = tt
-absent_off home p none i (x ∷ s) own = ((λ e. none_not i (sym none ∙ ap home e ∙ own.0)), absent_off home p none i s own.1)
+absent_off : (owner : Place → Option ℕ) (p : Place) → owner p ≡ None → (i : ℕ) (s : List Place) → AllByRecursion (λ q. owner q ≡ Some i) s → IsAbsent p s
+absent_off owner p none i [] own = tt
+absent_off owner p none i (x ∷ s) own = ((λ e. none_not i (sym none ∙ ap owner e ∙ own.0)), absent_off owner p none i s own.1)
 
 module _ {T : Type 0} {objects : Objects (Slot T)} {len : ℕ} (k : IsCounted objects len) where
   -- THERE ARE FEW VALUES, as there are few places
@@ -116,32 +116,32 @@ module _ {T : Type 0} {objects : Objects (Slot T)} {len : ℕ} (k : IsCounted ob
     below_put : (IsSome slot.value → IsTaken (Some slot)) → (q : Place) → IsSome (value_in (object_at new q)) → IsTaken (object_at new q)
     below_put here q = elim (same_or_not q p) [ inl e ↦ rw (e, put_there puts) here | inr n ↦ rw (put_others puts q n) (k.below q) ]
 
-    homes : (q : Place) → q ≢ p → home_of taken_home new q ≡ home_of taken_home objects q
-    homes q n = ap (home_or taken_home) (put_others puts q n)
+    owners : (q : Place) → q ≢ p → owner_of taken_owner new q ≡ owner_of taken_owner objects q
+    owners q n = ap (owner_or taken_owner) (put_others puts q n)
 
     -- it gets a value,
-    counted_more : {value : T} → slot.value ≡ Some value → slot.generation < 18446744073709551615 → home_of taken_home objects p ≡ None → IsCounted new (len + 1)
+    counted_more : {value : T} → slot.value ≡ Some value → slot.generation < 18446744073709551615 → owner_of taken_owner objects p ≡ None → IsCounted new (len + 1)
     counted_more has below none =
-        let out = absent_off (home_of taken_home objects) p none in record {
+        let out = absent_off (owner_of taken_owner objects) p none in record {
           below = below_put (λ is. (is, below));
           taken = p ∷ k.taken;
           once = (out 0 k.taken (k.housed.own 0), k.once);
-          housed = housed_joined k.housed {front = []} {back = k.taken} homes (record { was = refl; is = refl; others = alone_others [] k.taken (p ∷ k.taken) }) (ap (home_or taken_home) (put_there puts) ∙ ap taken_with has) (λ i. out i (alone [] k.taken i) (k.housed.own i));
+          housed = housed_joined k.housed {front = []} {back = k.taken} owners (record { was = refl; is = refl; others = alone_others [] k.taken (p ∷ k.taken) }) (ap (owner_or taken_owner) (put_there puts) ∙ ap taken_with has) (λ i. out i (alone [] k.taken i) (k.housed.own i));
           count = omega (arith, k.count);
         }
 
     -- or loses it
-    counted_less : slot.value ≡ None → home_of taken_home objects p ≡ Some 0 → IsCounted new (len - 1)
+    counted_less : slot.value ≡ None → owner_of taken_owner objects p ≡ Some 0 → IsCounted new (len - 1)
     counted_less none here =
         let m = member_split p k.taken (k.housed.all p 0 here) in record {
           below = below_put (λ is. absurd (true≢false (sym (sym (ap is_some none) ∙ is))));
           taken = m.0 ++ m.1;
           once = distinct_remove m.0 m.1 p (subst IsDistinct m.2 k.once);
-          housed = housed_left k.housed {front = m.0} {back = m.1} homes (record { was = m.2; is = refl; others = alone_others [] k.taken (m.0 ++ m.1) }) (ap (home_or taken_home) (put_there puts) ∙ ap taken_with none) k.once;
+          housed = housed_left k.housed {front = m.0} {back = m.1} owners (record { was = m.2; is = refl; others = alone_others [] k.taken (m.0 ++ m.1) }) (ap (owner_or taken_owner) (put_there puts) ∙ ap taken_with none) k.once;
           count = omega (arith, k.count, ap length m.2, length-append m.0 (p ∷ m.1), length-append m.0 m.1);
         }
 
-  some_value : (p : Place) → home_of taken_home objects p ≡ Some 0 → 1 ≤ len
+  some_value : (p : Place) → owner_of taken_owner objects p ≡ Some 0 → 1 ≤ len
   some_value p here = let m = member_split p k.taken (k.housed.all p 0 here) in omega (arith, k.count, ap length m.2, length-append m.0 (p ∷ m.1))
 
 -- AT FIRST
@@ -150,15 +150,15 @@ pub kept_none : {T K A : Type 0} (objects : Objects (Slot T)) (links : PlainTabl
 kept_none {T} objects links vacant no_links =
     let pooled = pooled_first wide has_word no_word refl links no_links vacant in
     record {
-      holds = holds_none slot_reading links (alone_none (list_from None) (list_from None) refl) (λ p. ap (home_or vacant_home) (vacant p)) (λ p. pooled.vacant p (vacant p));
+      holds = holds_none slot_reading links (alone_none (list_from None) (list_from None) refl) (λ p. ap (owner_or vacant_owner) (vacant p)) (λ p. pooled.vacant p (vacant p));
       pooled = pooled;
       counted = record {
         below = λ p is. absurd (true≢false (sym (sym (ap (λ o. is_some (value_in o)) (vacant p)) ∙ is)));
         taken = [];
         once = tt;
         housed = record {
-          own = λ i. subst (AllByRecursion (λ p. home_of taken_home objects p ≡ Some i)) (sym (alone_none {X = List Place} [] [] refl i)) tt;
-          all = λ p i at. absurd (none_not i (sym (ap (home_or taken_home) (vacant p)) ∙ at));
+          own = λ i. subst (AllByRecursion (λ p. owner_of taken_owner objects p ≡ Some i)) (sym (alone_none {X = List Place} [] [] refl i)) tt;
+          all = λ p i at. absurd (none_not i (sym (ap (owner_or taken_owner) (vacant p)) ∙ at));
         };
         count = refl;
       };
@@ -173,7 +173,7 @@ module _ {T K A : Type 0} {objects : Objects (Slot T)} {links : PlainTable (OneW
 
   -- WHERE A SLOT IS VACANT the list has a first one
   pub first_of_vacant : HasVacant (naming_of objects len) → IsSome (first (members_of links vacant))
-  first_of_vacant can = by members (k.holds.housed.all can.0 0 (usable_home (object_at objects can.0) can.1)) where
+  first_of_vacant can = by members (k.holds.housed.all can.0 0 (usable_owner (object_at objects can.0) can.1)) where
     by : (s : List Place) → IsMember can.0 s → IsSome (first s)
     by [] member = absurd (member tt)
     by (p ∷ s) member = refl
@@ -186,9 +186,9 @@ module _ {T K A : Type 0} {objects : Objects (Slot T)} {links : PlainTable (OneW
   pub kept_placed : {grown : PlainTable (OneWord K) A ⊤} {new : Objects (Slot T)} {p : Place} {value : T} → Grows (plain_table links) (plain_table grown) → Places objects new p (record { generation = 0; value = Some value })
       → IsCovered (plain_table grown) p → IsKept new grown vacant (len + 1)
   kept_placed {grown} {p = p} grows places room = record {
-    holds = holds_changed slot_reading vacant_home objects (holds_grown slot_reading k.holds grown grows) (placed_puts places) (sym (ap (home_or vacant_home) places.vacant));
+    holds = holds_changed slot_reading vacant_owner objects (holds_grown slot_reading k.holds grown grows) (placed_puts places) (sym (ap (owner_or vacant_owner) places.vacant));
     pooled = pooled_placed k.pooled grows places room;
-    counted = counted_more k.counted (placed_puts places) refl (omega arith) (ap (home_or taken_home) places.vacant);
+    counted = counted_more k.counted (placed_puts places) refl (omega arith) (ap (owner_or taken_owner) places.vacant);
   }
 
   -- THE FIRST VACANT SLOT is taken off the list and filled
@@ -198,7 +198,7 @@ module _ {T K A : Type 0} {objects : Objects (Slot T)} {links : PlainTable (OneW
       (fills : (s : Slot T) → object_at objects p ≡ Some s → (g ≡ s.generation) × (new ≡ with_object objects p (record s { value = Some value }))) where
     -- its slot, before
     first_vacant : (was : Slot T) × (object_at objects p ≡ Some was) × IsUsable (Some was)
-    first_vacant = home_usable (object_at objects p) (subst (AllByRecursion (λ q. home_or vacant_home (object_at objects q) ≡ Some 0)) (first_is members (answer members shown)) (k.holds.housed.own 0)).0
+    first_vacant = owner_usable (object_at objects p) (subst (AllByRecursion (λ q. owner_or vacant_owner (object_at objects q) ≡ Some 0)) (first_is members (answer members shown)) (k.holds.housed.own 0)).0
 
     filled_puts : Puts objects new p (record first_vacant.0 { value = Some value })
     filled_puts = exchanged_puts (fills first_vacant.0 first_vacant.1).1
@@ -206,9 +206,9 @@ module _ {T K A : Type 0} {objects : Objects (Slot T)} {links : PlainTable (OneW
     pub filled : IsKept new after front (len + 1)
     filled = record {
       holds = holds_left slot_reading k.holds 0 after (alone_others (list_from None) vacant front) (left_front members shown answer popped off frame)
-          (ap (home_or vacant_home) (put_there filled_puts)) (λ q n. ap (home_or vacant_home) (put_others filled_puts q n));
+          (ap (owner_or vacant_owner) (put_there filled_puts)) (λ q n. ap (owner_or vacant_owner) (put_others filled_puts q n));
       pooled = pooled_changed (pooled_unlinked k.pooled off (frame members shown).extent) (still_placed filled_puts (ap is_some first_vacant.1));
-      counted = counted_more k.counted filled_puts refl first_vacant.2.1 (ap (home_or taken_home) first_vacant.1 ∙ ap taken_with first_vacant.2.0);
+      counted = counted_more k.counted filled_puts refl first_vacant.2.1 (ap (owner_or taken_owner) first_vacant.1 ∙ ap taken_with first_vacant.2.0);
     }
 
     -- which was vacant
@@ -230,17 +230,17 @@ module _ {T K A : Type 0} {objects : Objects (Slot T)} {links : PlainTable (OneW
     puts : Puts objects new h.place (record { generation = own.0.generation + 1; value = None })
     puts = exchanged_puts (empties own.0 own.1).1
 
-    home_was : home_or vacant_home (object_at objects h.place) ≡ None
-    home_was = ap (home_or vacant_home) own.1 ∙ ap (λ (o : Option T). home_with o own.0.generation) own.3
+    owner_was : owner_or vacant_owner (object_at objects h.place) ≡ None
+    owner_was = ap (owner_or vacant_owner) own.1 ∙ ap (λ (o : Option T). owner_with o own.0.generation) own.3
 
-    taken_was : home_of taken_home objects h.place ≡ Some 0
-    taken_was = ap (home_or taken_home) own.1 ∙ ap taken_with own.3
+    taken_was : owner_of taken_owner objects h.place ≡ Some 0
+    taken_was = ap (owner_or taken_owner) own.1 ∙ ap taken_with own.3
 
     pub emptied_some : 1 ≤ len
     emptied_some = some_value k.counted h.place taken_was
 
     pub emptied_free : IsUnlinked is_linked (plain_table links) h.place
-    emptied_free = k.holds.only h.place home_was
+    emptied_free = k.holds.only h.place owner_was
 
     pub emptied_value : Some value ≡ named_in (object_at objects h.place) h.generation
     emptied_value = sym (empties own.0 own.1).0 ∙ own.3 ∙ is
@@ -251,7 +251,7 @@ module _ {T K A : Type 0} {objects : Objects (Slot T)} {links : PlainTable (OneW
     -- it is used up, or goes to the front of the list
     pub kept_used_up : h.generation + 1 ≡ 18446744073709551615 → IsKept new links vacant (len - 1)
     kept_used_up last = record {
-      holds = holds_changed slot_reading vacant_home objects k.holds puts (ap (λ b. cond b None (Some 0)) (le-leb 18446744073709551615 (own.0.generation + 1) (omega (arith, own.2, last))) ∙ sym home_was);
+      holds = holds_changed slot_reading vacant_owner objects k.holds puts (ap (λ b. cond b None (Some 0)) (le-leb 18446744073709551615 (own.0.generation + 1) (omega (arith, own.2, last))) ∙ sym owner_was);
       pooled = pooled_changed k.pooled (still_placed puts (ap is_some own.1));
       counted = counted_less k.counted puts refl taken_was;
     }
@@ -259,7 +259,7 @@ module _ {T K A : Type 0} {objects : Objects (Slot T)} {links : PlainTable (OneW
     pub kept_vacated : h.generation + 1 ≢ 18446744073709551615 → {more : PlainTable (OneWord K) A ⊤} {front : Front} {s : List Place}
         → HasJoined (Represents successor) is_linked (plain_table links) (plain_table more) vacant front [] h.place s → IsKept new more front (len - 1)
     kept_vacated last {more} {front} e = record {
-      holds = holds_joined slot_reading k.holds 0 more (alone_others (list_from None) vacant front) e (usable_home (object_at new h.place) (emptied_usable last)) (λ q n. ap (home_or vacant_home) (put_others puts q n));
+      holds = holds_joined slot_reading k.holds 0 more (alone_others (list_from None) vacant front) e (usable_owner (object_at new h.place) (emptied_usable last)) (λ q n. ap (owner_or vacant_owner) (put_others puts q n));
       pooled = pooled_linked (pooled_changed k.pooled (still_placed puts (ap is_some own.1))) (ap is_some (put_there puts)) e.also e.frame.extent;
       counted = counted_less k.counted puts refl taken_was;
     }

@@ -1,4 +1,4 @@
--- What slots keep of their pool and of the list of vacant ones.
+-- What slots maintain for their pool and the list of vacant slots.
 use Rattle.std.specs.Prelude.{◌≡◌, ◌<◌, ◌^◌, cond, leb, ℕ, Bool, Option, Some, None, IsSome, List, [], length, ⊤}
 use Rattle.ic_link_ops.specs.Prelude.{Place, Objects, object_at, IsDistinct, Table}
 use Rattle.ic_link_ops.specs.declared.link.Link.{Link}
@@ -11,11 +11,11 @@ use Rattle.ic_link_ops.specs.Readings.{successor_of}
 use Rattle.ic_link_ops.specs.SinglyLinkedList.{Front, Successor, Represents, list_from, members}
 use Rattle.ic_pool.specs.Pooled.{IsPooled}
 use Rattle.ic_container.specs.Holds.{Holds}
-use Rattle.ic_container.specs.Rows.{EachInItsList, alone, home_of}
+use Rattle.ic_container.specs.Rows.{EachInItsList, alone, owner_of}
 use Rattle.pool_uses.specs.declared.slots.Slot.{Slot}
 use Rattle.pool_uses.specs.Slots.{Naming}
 
--- the table of singly links, as clauses see it, and the members of a list
+-- the table of singly links, as contracts see it, and the members of a list
 module _ {K : Type 0} where
   abbrev pub is_linked : Link (OneWord K) ⊤ → Bool
   is_linked = linked_by has_word
@@ -40,23 +40,23 @@ module _ {T : Type 0} where
   IsTaken None = ⊥
   IsTaken (Some slot) = IsSome slot.value × (slot.generation < 18446744073709551615)
 
-  -- a slot is at home in the list of vacant ones if it has no value, and its generation is not the last
-  abbrev pub home_with : Option T → ℕ → Option ℕ
-  home_with None g = cond (leb 18446744073709551615 g) None (Some 0)
-  home_with (Some value) g = None
+  -- a slot belongs in the list of vacant slots if it has no value, and its generation is not the last
+  abbrev pub owner_with : Option T → ℕ → Option ℕ
+  owner_with None g = cond (leb 18446744073709551615 g) None (Some 0)
+  owner_with (Some value) g = None
 
-  abbrev pub vacant_home : Slot T → Option ℕ
-  vacant_home slot = home_with slot.value slot.generation
+  abbrev pub vacant_owner : Slot T → Option ℕ
+  vacant_owner slot = owner_with slot.value slot.generation
 
-  -- and is counted if it has one
+  -- a slot is counted if it has a value
   abbrev pub taken_with : Option T → Option ℕ
   taken_with None = None
   taken_with (Some value) = Some 0
 
-  abbrev pub taken_home : Slot T → Option ℕ
-  taken_home slot = taken_with slot.value
+  abbrev pub taken_owner : Slot T → Option ℕ
+  taken_owner slot = taken_with slot.value
 
--- what they are for a clause
+-- what a contract sees of them
 abbrev pub naming_of : {T : Type 0} → Objects (Slot T) → ℕ → Naming T
 naming_of objects len = record { slots = objects.values; count = len; is_full = leb (2 ^ 32) objects.next }
 
@@ -65,12 +65,12 @@ pub record IsCounted {T : Type 0} (objects : Objects (Slot T)) (len : ℕ) : Typ
   pub below : (p : Place) → IsSome (value_in (object_at objects p)) → IsTaken (object_at objects p)
   pub taken : List Place
   pub once : IsDistinct taken
-  pub housed : EachInItsList (home_of taken_home objects) (alone [] taken)
+  pub housed : EachInItsList (owner_of taken_owner objects) (alone [] taken)
   pub count : len ≡ length taken
 
--- WHAT SLOTS KEEP: exactly the slots that are vacant and not used up are in the list, each has room for its link, and those with a
+-- WHAT SLOTS MAINTAIN: the list has exactly the slots that are vacant and not used up, the table covers the place of each slot, and the slots with a
 -- value are counted
 pub record IsKept {T K A : Type 0} (objects : Objects (Slot T)) (links : PlainTable (OneWord K) A ⊤) (vacant : Front) (len : ℕ) : Type 0 where
-  pub holds : Holds (Represents successor) is_linked plain_table members_of links (alone (list_from None) vacant) (home_of vacant_home objects)
+  pub holds : Holds (Represents successor) is_linked plain_table members_of links (alone (list_from None) vacant) (owner_of vacant_owner objects)
   pub pooled : IsPooled is_linked objects (plain_table links)
   pub counted : IsCounted objects len

@@ -1,4 +1,4 @@
--- What timers are for a clause: all that is placed waits, in the order in which the tree has it.
+-- What a contract sees of timers: all objects wait, in the order of the tree.
 use Rattle.std.specs.Prelude.{ℕ, ◌^◌, leb, Option, Some, None, List}
 use Rattle.std.specs.List.{filter_map}
 use Rattle.ic_link_ops.specs.Prelude.{Place, Objects, object_at}
@@ -11,7 +11,7 @@ module _ {V : Type 0} where
   abbrev pub deadline_of : Timer V → ℕ
   deadline_of timer = timer.deadline
 
-  -- what waits at a place, and at each of a sequence
+  -- the timer at a place, and those at the places of a sequence
   abbrev pub waiting_of : Place → Option (Timer V) → Option (Waiting V)
   waiting_of p None = None
   waiting_of p (Some timer) = Some (timer_of p timer.deadline timer.value)
@@ -20,10 +20,10 @@ module _ {V : Type 0} where
   waiting_at objects s = filter_map (λ p. waiting_of p (object_at objects p)) s
 
 module _ {V A : Type 0} (objects : Objects (Timer V)) (links : TreeLinkOps A) (root : Option Place) where
-  -- those that wait, as the table represents the tree
+  -- the waiting timers, as the table represents the tree
   abbrev pub waiting_in : List (Waiting V)
   waiting_in = waiting_at objects (members_of links root)
 
-  -- what they are for a clause
+  -- what a contract sees of them
   abbrev pub timetable_of : Timetable V
   timetable_of = record { waiting = waiting_in; is_full = leb (2 ^ 32) objects.next }

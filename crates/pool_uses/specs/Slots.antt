@@ -7,18 +7,17 @@ use Rattle.ic_link_ops.specs.Prelude.{Place, index_of}
 use Rattle.pool_uses.specs.declared.slots.Handle.{Handle}
 use Rattle.pool_uses.specs.declared.slots.Slot.{Slot}
 
--- what stands in each slot, by the index of its place; how many handles name a value, and whether there is no place left for another
--- slot
+-- the content of each slot, by the index of its place; how many handles name a value; and whether all places are in use
 pub record Naming (T : Type 0) : Type 0 where
   pub slots : map.FinMap nat_cmp (Slot T)
   pub count : ℕ
   pub is_full : Bool
 
--- whether the handle is the last one of its slot, which has had 2^64 - 1 of them then
+-- whether the handle is the last one of its slot, which then has had 2^64 - 1 handles
 abbrev pub is_last : Handle → Bool
 is_last h = eqb (h.generation + 1) 18446744073709551615
 
--- a slot is stored as the pair of its fields, and so are they all
+-- a slot is stored as the pair of its fields, and so is the whole
 abbrev pub slot_code : {T : Type 0} → Coded T → Coded (Slot T)
 slot_code {T} code =
     code_by (ℕ × Option T) (coded× coded_ℕ (coded_option code)) (λ s. (s.generation, s.value)) (λ p. record { generation = p.0; value = p.1 }) (λ _. refl)
@@ -34,7 +33,7 @@ module _ {T : Type 0} where
   named_in None g = None
   named_in (Some slot) g = cond (eqb slot.generation g) slot.value None
 
-  -- whether a handle of that generation was given out: it is that of the value, or an earlier one
+  -- whether a handle of this generation was given out: it is the generation of the value, or an earlier one
   abbrev pub given_in : Option (Slot T) → ℕ → Bool
   given_in None g = false
   given_in (Some slot) g = cond (eqb slot.generation g) (is_some slot.value) (leb (g + 1) slot.generation)
@@ -51,7 +50,7 @@ module _ {T : Type 0} where
   IsUsable None = ⊥
   IsUsable (Some slot) = (slot.value ≡ None) × (slot.generation < 18446744073709551615)
 
-  -- A SLOT IS VACANT, wherever it stands: it has no value, and can have one
+  -- A SLOT IS VACANT, at any place: it has no value, and can get one
   abbrev pub HasVacant : Naming T → Type 0
   HasVacant slots = (p : Place) × IsUsable (map.get slots.slots (index_of p))
 
@@ -71,7 +70,7 @@ module _ {T : Type 0} where
     pub given : (h : Handle) → is_given new h ≡ is_given old h
     pub count : new.count ≡ old.count
 
-  -- THE HANDLE IS NEW: it was never given out, and names the value now. All others name what they named
+  -- THE HANDLE IS NEW: it was never given out before, and now names the value. All other handles name what they named before
   pub record Inserts (handle : Handle) (value : T) (old new : Naming T) : Type 0 where
     pub never : is_given old handle ≡ false
     pub nothing : named old handle ≡ None
@@ -80,7 +79,7 @@ module _ {T : Type 0} where
     pub others : (h : Handle) → h ≢ handle → (named new h ≡ named old h) × (is_given new h ≡ is_given old h)
     pub count : new.count ≡ old.count + 1
 
-  -- THE HANDLE IS OLD: it was given out, and names nothing now. All others name what they named, and its slot is vacant
+  -- THE HANDLE IS OLD: it was given out, and now names nothing. All other handles name what they named before, and its slot is vacant
   pub record Removes (handle : Handle) (old new : Naming T) : Type 0 where
     pub given : is_given new handle ≡ true
     pub nothing : named new handle ≡ None

@@ -1,4 +1,4 @@
--- Timers: what waits, in the order in which it is due.
+-- Timers: values that wait, in the order in which they are due.
 use Rattle.std.specs.Prelude.{◌≡◌, ◌≢◌, ◌<◌, ◌≤◌, ℕ, Bool, List, ◌∷◌, ◌++◌, map, refl}
 use Rattle.std.specs.Coded.{Coded, code_by, coded×, coded_ℕ, coded_bool, coded_list}
 use Rattle.std.specs.List.{AllByRecursion}
@@ -12,17 +12,17 @@ pub record Waiting (V : Type 0) : Type 0 where
   pub deadline : ℕ
   pub value : V
 
--- one with this reference, this deadline and this value
+-- the timer with this reference, this deadline and this value
 abbrev pub timer_of : {V : Type 0} → Place → ℕ → V → Waiting V
 timer_of reference deadline value = record { reference = reference; deadline = deadline; value = value }
 
--- it is stored as the tuple of its fields
+-- a timer is stored as the tuple of its fields
 abbrev pub waiting_code : {V : Type 0} → Coded V → Coded (Waiting V)
 waiting_code {V} code =
     code_by (Place × (ℕ × V)) (coded× place_code (coded× coded_ℕ code)) (λ w. (w.reference, (w.deadline, w.value)))
     (λ p. record { reference = p.0; deadline = p.1.0; value = p.1.1 }) (λ _. refl)
 
--- those that wait, in the order in which they are due, and whether there is no place left for another one
+-- the waiting timers, in the order in which they are due, and whether all places are in use
 pub record Timetable (V : Type 0) : Type 0 where
   pub waiting : List (Waiting V)
   pub is_full : Bool
@@ -32,19 +32,19 @@ timetable_code {V} code =
     code_by (List (Waiting V) × Bool) (coded× (coded_list (waiting_code code)) coded_bool) (λ t. (t.waiting, t.is_full)) (λ p. record { waiting = p.0; is_full = p.1 }) (λ _. refl)
 
 module _ {V : Type 0} where
-  -- each with its deadline, as it is taken out
+  -- each value with its deadline, as a removal returns it
   abbrev pub taken_out : List (Waiting V) → List (ℕ × V)
   taken_out waiting = map (λ (w : Waiting V). (w.deadline, w.value)) waiting
 
-  -- the deadlines of those that wait
+  -- the deadlines of the waiting timers
   abbrev pub deadlines : List (Waiting V) → List ℕ
   deadlines waiting = map (λ (w : Waiting V). w.deadline) waiting
 
-  -- none of them has this reference
+  -- no timer has this reference
   abbrev pub NamesNone : Place → List (Waiting V) → Type 0
   NamesNone reference waiting = AllByRecursion (λ (w : Waiting V). reference ≢ w.reference) waiting
 
-  -- ONE MORE WAITS, after all with its deadline or an earlier one. None had its reference, and the deadlines never fall
+  -- ONE MORE TIMER WAITS, after all with the same deadline or an earlier one. No timer had its reference, and the deadlines never decrease
   pub record Adds (timer : Waiting V) (old new : List (Waiting V)) : Type 0 where
     pub front : List (Waiting V)
     pub back : List (Waiting V)
@@ -54,20 +54,21 @@ module _ {V : Type 0} where
     pub rises : IsSorted nat_cmp (deadlines new)
     pub fresh : NamesNone timer.reference old
 
-  -- ONE IS CALLED OFF, and all others wait in their order
+  -- ONE TIMER IS CANCELED, and all others wait in their order
   pub record Cancels (timer : Waiting V) (old new : List (Waiting V)) : Type 0 where
     pub front : List (Waiting V)
     pub back : List (Waiting V)
     pub was : old ≡ front ++ timer ∷ back
     pub is : new ≡ front ++ back
 
-  -- THE FIRST IS TAKEN: it is due, and has this deadline and this value
+  -- THE FIRST TIMER IS REMOVED: it is due, and has this deadline and this value
   pub record TakesFirst (now deadline : ℕ) (value : V) (old new : List (Waiting V)) : Type 0 where
     pub reference : Place
     pub first : old ≡ timer_of reference deadline value ∷ new
     pub due : deadline ≤ now
 
-  -- THOSE IN FRONT ARE TAKEN, and each is due. They stand in their order after what the caller had, and the others wait in theirs
+  -- THE FIRST TIMERS ARE REMOVED, and each of them is due. They are appended in their order to the caller's list, and the others still wait in their
+  -- order
   pub record TakesAll (now : ℕ) (had has : List (ℕ × V)) (old new : List (Waiting V)) : Type 0 where
     pub taken : List (Waiting V)
     pub were : old ≡ taken ++ new

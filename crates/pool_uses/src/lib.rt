@@ -1,4 +1,4 @@
-//! Uses of pools, as a user ships them: each is a struct with private fields, and a clause sees what it stands for.
+//! Uses of pools, as a user would publish them. Each is a struct with private fields, and contracts see only what it represents.
 #![tactic(auto)]
 
 mod slots;

@@ -1,4 +1,4 @@
-//! Slots: values that are named by handles, where an old handle names nothing.
+//! Slots: values that are named by handles. The handle of a removed value names nothing.
 //!
 //! ```text
 //! let mut slots = Slots::new(rt.alloc());
@@ -22,25 +22,24 @@ use ic_unsafe_ref::{Place, UnsafeRef};
 use std::alloc::{Allocator, Global};
 use std::marker::Model;
 
-/// Names a value of [`Slots`]: a place, and which of the values that stand there one after the other.
+/// The name of a value of [`Slots`]: a place, and a generation, which distinguishes the values that are there one after the other.
 #[derive(Clone, Copy, PartialEq, Eq)]
 pub struct Handle {
     place: Place,
     generation: u64,
 }
 
-// What stands at a place: the value with its generation, or no value with the generation of the next one.
+// What a place has: a value with its generation, or no value with the generation of the next one.
 #[derive(Drop)]
 pub(crate) struct Slot<T> {
     pub(crate) generation: u64,
     pub(crate) value: Option<T>,
 }
 
-/// Values that are named by handles. A handle names one value, from its insert until it is removed, and no other one
-/// ever.
+/// Values that are named by handles. A handle names one value, from its insertion until its removal, and never names another.
 ///
-/// A clause sees which value each handle names, whether it was given out before, how many handles name a value, which
-/// slots are vacant, and whether there is no place left for another one.
+/// A contract sees which value each handle names, whether the handle was given out before, how many handles name a value, which slots are vacant, and
+/// whether all places are in use.
 #[derive(Drop)]
 pub struct Slots<T, A: Allocator = Global> {
     pool: Pool<Slot<T>, LinkOps<A>, A>,
@@ -61,7 +60,7 @@ impl<T, A: Allocator> Model for Slots<T, A> {
     ghost invariant = { λ s. IsKept s.pool.objects s.pool.links s.vacant s.len };
 }
 
-// Fills a slot with a value, and answers the generation of it.
+// Fills a slot with a value, and returns its generation.
 fn fill<T: Drop, A: Allocator>(
     pool: &mut Pool<Slot<T>, LinkOps<A>, A>,
     slot: &UnsafeRef<Slot<T>>,
@@ -77,7 +76,7 @@ fn fill<T: Drop, A: Allocator>(
     slot.generation
 }
 
-// Takes the value out of a slot. Its generation is over then.
+// Removes the value from a slot, and ends its generation.
 fn empty<T, A: Allocator>(pool: &mut Pool<Slot<T>, LinkOps<A>, A>, slot: &UnsafeRef<Slot<T>>) -> T
     requires taken { IsTaken (object_at pool.old.objects slot.now) }
     ensures emptied { (s : Slot T) → object_at pool.old.objects slot.now ≡ Some s → (s.value ≡ Some result)
@@ -92,7 +91,7 @@ fn empty<T, A: Allocator>(pool: &mut Pool<Slot<T>, LinkOps<A>, A>, slot: &Unsafe
 impl<T: Drop, A: Allocator> Slots<T, A> {
     ghost use Rattle.pool_uses.specs.Slots.{NamesNothing, HasVacant, IsVacantSlot, IsUnchanged, Inserts, Removes};
 
-    /// No value, and no handle. It takes no memory.
+    /// Makes slots without a value. It takes no memory.
     pub fn new(alloc: A) -> Slots<T, A>
     where
         A: Copy,
@@ -105,7 +104,7 @@ impl<T: Drop, A: Allocator> Slots<T, A> {
         }
     }
 
-    /// How many handles name a value.
+    /// Returns how many handles name a value.
     #[inline]
     pub fn len(&self) -> usize
         ensures { result ≡ self.now.count }
@@ -113,7 +112,7 @@ impl<T: Drop, A: Allocator> Slots<T, A> {
         self.len
     }
 
-    /// Whether no handle names a value.
+    /// Returns whether no handle names a value.
     #[inline]
     pub fn is_empty(&self) -> bool
         ensures { IsTrue result ↔ (self.now.count ≡ 0) }
@@ -121,7 +120,7 @@ impl<T: Drop, A: Allocator> Slots<T, A> {
         self.len == 0
     }
 
-    /// The value that the handle names: `None` for an old one, whoever has its slot now. O(1).
+    /// Returns the value that the handle names, or `None` for an old handle, even if its slot has another value now. O(1).
     pub fn get(&self, handle: Handle) -> Option<&T>
         ensures { option_copied result ≡ named self.now handle }
     {
@@ -133,12 +132,12 @@ impl<T: Drop, A: Allocator> Slots<T, A> {
         }
     }
 
-    /// Puts the value into the slot that was vacated last, or into a new one, and returns its handle. O(1), and it
-    /// takes memory only for a new slot.
+    /// Inserts the value into the slot that was vacated last, or into a new one, and returns its handle. O(1), and it takes memory only for a new
+    /// slot.
     ///
-    /// The handle was never given out before. A refused value comes back, and nothing has changed: with `NoPlaceLeft`
-    /// exactly if no place is left, of 4,294,967,296, and else with `OutOfMemory`. None is refused while a slot is
-    /// vacant, and then no slot is added.
+    /// The handle was never given out before. If the value is refused, the caller gets it back, and nothing has changed. The error is `NoPlaceLeft`
+    /// exactly if all 4,294,967,296 places are in use, and otherwise `OutOfMemory`. While a slot is vacant, no value is refused, and no slot is
+    /// added.
     pub fn insert(&mut self, value: T) -> Result<Handle, PlaceError<T>>
         ensures inserted { IfOk result (λ handle. Inserts handle value self.old self.new) }
         ensures refused { IfErr result (λ refused. (value_of refused ≡ value) × IsUnchanged self.old self.new
@@ -173,11 +172,11 @@ impl<T: Drop, A: Allocator> Slots<T, A> {
         })
     }
 
-    /// Takes out the value that the handle names, and the handle names nothing from then on: `None` for an old handle.
-    /// O(1), and it takes no memory.
+    /// Removes the value that the handle names and returns it, or returns `None` for an old handle. From then on the handle names nothing. O(1), and
+    /// it takes no memory.
     ///
-    /// The slot is vacant then. After it has had 2^64 - 1 values its generations are used up, and the call does not put it back into the list of
-    /// vacant slots.
+    /// The slot is then vacant. After it has had 2^64 - 1 values its generations are used up, and the call does not add it to the list of vacant
+    /// slots again.
     pub fn remove(&mut self, handle: Handle) -> Option<T>
         ensures value { result ≡ named self.old handle }
         ensures removed { IfSome result (λ value. Removes handle self.old self.new) }

@@ -1,8 +1,8 @@
-//! The program over memory of which one request is refused: `rationed N` refuses the request number N, counted from 0, and
-//! `rationed none` none. It tells on standard error how many requests there were.
+//! The program over an allocator that refuses one request: `rationed N` refuses the request with number N, counted from 0, and `rationed none`
+//! refuses none. It writes on standard error how many requests there were.
 //!
-//! With `list` after that, all calls are run as one list of commands, and lines that are no calls are passed over. With `count` each call is
-//! made by its method, and what is written of it is how many requests it made, and for how many bytes in all.
+//! With a second argument `list`, it runs all calls as one list of commands, and skips lines that are not calls. With `count`, it makes each call by
+//! its method, and writes how many requests the call made, and for how many bytes in all.
 #![tactic(auto)]
 
 mod methods;
@@ -16,7 +16,7 @@ use std::env;
 use std::io::{self, BufRead, BufReader, BufWriter, Write};
 use std::process::ExitCode;
 
-// Which request is refused, or none where the word is no number.
+// Returns the number of the request to refuse, or none if the word is not a number.
 fn request_in(word: Option<String>) -> u64 {
     match word {
         Some(word) => word.parse().unwrap_or(u64::MAX),
@@ -24,7 +24,7 @@ fn request_in(word: Option<String>) -> u64 {
     }
 }
 
-// The calls that the reader gives, one a line.
+// Returns the calls that it reads from the reader, one for each line.
 fn commands_of(alloc: Global, reader: &mut impl BufRead) -> io::Result<Vec<Command<u64, u64>>> {
     let mut commands = Vec::new(alloc);
     for line in reader.lines(alloc) {
@@ -35,7 +35,7 @@ fn commands_of(alloc: Global, reader: &mut impl BufRead) -> io::Result<Vec<Comma
     Ok(commands)
 }
 
-// Runs the calls as one list, on a world over that memory, and puts their answers into the lines.
+// Runs the calls as one list, on a world over this allocator, and appends their answers to the lines.
 fn run_list(
     memory: &Rationed,
     commands: &[Command<u64, u64>],
@@ -50,7 +50,7 @@ fn run_list(
     Ok(())
 }
 
-// Makes the calls, on a world over that memory, and puts into the lines how many requests for memory each made, and for how many bytes.
+// Makes the calls, on a world over this allocator, and appends to the lines how many requests for memory each made, and for how many bytes.
 fn count_each(
     memory: &Rationed,
     commands: &[Command<u64, u64>],
@@ -67,7 +67,7 @@ fn count_each(
     Ok(())
 }
 
-// Makes the calls that the reader gives as one list or one by one, and writes what there is to say of them.
+// Makes the calls that it reads from the reader, as one list or one by one, and writes the lines about them.
 fn run_calls(
     alloc: Global,
     memory: &Rationed,
@@ -86,7 +86,7 @@ fn run_calls(
     writer.flush()
 }
 
-// Runs the program in the way that the word names, and answers its status.
+// Runs the program in the way that the word names, and returns its status.
 fn status_of(
     alloc: Global,
     memory: &Rationed,
@@ -106,14 +106,14 @@ fn status_of(
     }
 }
 
-// Runs the program over the standard streams, and answers its status.
+// Runs the program over the standard streams, and returns its status.
 fn status_over_streams(rt: &HostRuntime, memory: &Rationed, way: Option<&str>) -> io::Result<u8> {
     let mut reader = BufReader::new(rt.alloc(), rt.reader())?;
     let mut writer = BufWriter::new(rt.alloc(), io::writer(rt))?;
     Ok(status_of(rt.alloc(), memory, way, &mut reader, &mut writer))
 }
 
-// Runs the program with the arguments that it has, and tells how many requests there were.
+// Runs the program with its arguments, and writes how many requests there were.
 fn run(rt: &HostRuntime) -> io::Result<u8> {
     let mut words = env::args(rt)?;
     let _name = words.next();

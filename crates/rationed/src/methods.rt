@@ -1,4 +1,4 @@
-//! Each call of a world by the method that has its name, which `World::answer` does not pass through.
+//! Each call of a world by the method with its name. `World::answer` does not use these methods.
 
 use ic_program::OwnKey;
 use ic_test_support::rationed::Rationed;

@@ -56,7 +56,7 @@ apart_from front r back h = all_with (IsOrApart r) front r back (inl refl) (all_
 pub added_apart : (front back : List Region) (r : Region) → IsRegion r → AreRegionsApart (front ++ back) → AllByRecursion (AreApart r) (front ++ back)
     → AllByRecursion (λ x. x.start < end_of r) front → AllByRecursion (λ x. r.start < end_of x) back → AreRegionsApart (front ++ r ∷ back)
 added_apart [] back r is h apart below above =
-    let behind : AllByRecursion (λ x. end_of r < x.start) back = all_three (λ x away high again. grind arith) back apart above above in (is, behind, h)
+    let after : AllByRecursion (λ x. end_of r < x.start) back = all_three (λ x away high again. grind arith) back apart above above in (is, after, h)
 added_apart (x ∷ front) back r is h apart below above =
     (h.0, all_with (λ later. end_of x < later.start) front r back (grind arith) h.1, added_apart front back r is h.2 apart.1 below.1 above)
 
@@ -105,5 +105,5 @@ lowest_fits length start [] whole back apart short some fits =
 lowest_fits length start (x ∷ front) whole back apart short some fits =
     let above : (a : ℕ) → IsFree (front ++ whole ∷ back) a → end_of x < a = λ a free. free_above (front ++ whole ∷ back) (end_of x) a apart.1 free in
     let never : Has x start → ⊥ = λ has. grind (arith, fits (end_of x) (omega (arith, has.1), omega (arith, has.0, short.0)), above (end_of x)) in
-    let behind : end_of x < start = grind (arith, fits start (omega arith, omega (arith, some)), never, above start) in
-    lowest_fits length start front whole back apart.2 short.1 some (λ a in_it. grind (arith, fits a in_it, in_it.0, behind))
+    let after : end_of x < start = grind (arith, fits start (omega arith, omega (arith, some)), never, above start) in
+    lowest_fits length start front whole back apart.2 short.1 some (λ a in_it. grind (arith, fits a in_it, in_it.0, after))

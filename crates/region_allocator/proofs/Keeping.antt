@@ -137,7 +137,7 @@ module _ {A B : Type 0} where
       }
 
     -- AFTER `place`, whatever it answered: both tables may have grown
-    pub kept_grown : (w' : TreeLinkOps A) (z' : SumTable ℕ ℕ B) → GrowsSummed greatest_of 0 (λ (a b : TreeLinkOps A). Grows (plain_table a) (plain_table b)) (record { links = w; sums = z }) (record { links = w'; sums = z' })
+    pub kept_grown : (w' : TreeLinkOps A) (z' : SumTable ℕ ℕ B) → GrowsSummed greatest_of 0 (λ (a b : TreeLinkOps A). Grows (plain_table a) (plain_table b)) (record { links = w; summaries = z }) (record { links = w'; summaries = z' })
         → Keeps objects w' root z'
     kept_grown w' z' grows = kept_same w' grows.links.entries z' (λ q r there. grows.values q) (λ s h. grown_consistent node_of (plain_table w) (plain_table w') (greatest z) (greatest z') s grows.links.entries
         (λ q. ap (λ (n : ℕ). λ (a b : Option ℕ). greatest_of n a b) (grows.values q)) grows.same h.1)
@@ -168,7 +168,7 @@ module _ {A B : Type 0} where
         let was = sym seen ∙ each_are k.by_start ∙ a.1.was in
         let low = front_is_least start_of a.1.front r a.1.back (subst (λ (l : List Region). IsSorted nat_cmp (map start_of l)) a.1.is a.1.sorted) in
         let stand = added_apart a.1.front a.1.back r is (subst AreRegionsApart a.1.was k.apart) (subst (AllByRecursion (AreApart r)) was apart)
-        (all_map (λ x low. omega (arith, low, is.some)) a.1.front low) (all_map (λ x less. let behind : r.start < x.start = grind (arith, nat_tests, less) in omega (arith, behind)) a.1.back a.1.greater) in (
+        (all_map (λ x low. omega (arith, low, is.some)) a.1.front low) (all_map (λ x less. let after : r.start < x.start = grind (arith, nat_tests, less) in omega (arith, after)) a.1.back a.1.greater) in (
           record {
             starts = a.0;
             by_start = a.2;

@@ -1,4 +1,4 @@
--- How the free regions change by one object.
+-- How the free regions change if one object changes.
 use Rattle.std.specs.Prelude.{◌≡◌, ◌<◌, ◌⊎◌, List, ◌∷◌, ◌++◌}
 use Rattle.std.specs.List.{AllByRecursion}
 use Rattle.region_allocator.specs.declared.region.Region.{Region}
@@ -11,14 +11,14 @@ pub record Adds (region : Region) (old new : List Region) : Type 0 where
   pub was : old ≡ front ++ back
   pub is : new ≡ front ++ region ∷ back
 
--- ANOTHER REGION in the place of one
+-- ANOTHER REGION has replaced one
 pub record Changes (out region : Region) (old new : List Region) : Type 0 where
   pub front : List Region
   pub back : List Region
   pub was : old ≡ front ++ out ∷ back
   pub is : new ≡ front ++ region ∷ back
 
--- A REGION FITS in the place of one: they share an address, and it is apart from all others
+-- A REGION CAN REPLACE one: the two share an address, and the new one is apart from all others
 pub record FitsFor (out region : Region) (regions : List Region) : Type 0 where
   pub is_region : IsRegion region
   pub low : region.start < end_of out

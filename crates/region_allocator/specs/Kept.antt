@@ -1,4 +1,4 @@
--- What an allocator keeps of its objects, their links, the lengths beside these and its tree.
+-- What an allocator maintains for its objects, their links, the lengths beside these and its tree.
 use Rattle.std.specs.Prelude.{◌≡◌, ℕ, ◌^◌, leb, Option, Some, List}
 use Rattle.ic_link_ops.specs.Prelude.{Place, Objects, object_at, values_at}
 use Rattle.ic_link_ops.specs.ThreeWords.{node_of}
@@ -7,7 +7,7 @@ use Rattle.ic_rbtree.specs.Tree.{root_of}
 use Rattle.ic_rbtree.specs.EachObject.{HasEach}
 use Rattle.ic_augmented.specs.Consistent.{IsConsistent}
 use Rattle.ic_augmented.specs.Greatest.{greatest, number_at}
-use Rattle.ic_augmented.specs.Summed.{links_of, sums_of}
+use Rattle.ic_augmented.specs.Summed.{links_of, summaries_of}
 use Rattle.ic_augmented.specs.declared.sum_table.SumTable.{SumTable}
 use Rattle.region_allocator.specs.declared.region.Region.{Region}
 use Rattle.region_allocator.specs.declared.free_regions.FreeRegions.{FreeRegions}
@@ -17,8 +17,8 @@ use Rattle.region_allocator.specs.Regions.{Space, space_of, AreRegionsApart}
 abbrev pub start_of : Region → ℕ
 start_of region = region.start
 
--- WHAT IT KEEPS: the tree has each object, by the starts of the regions; beside each link stands the length of its region; each greatest length
--- that is not stale is right; and the regions stand apart
+-- WHAT IT MAINTAINS: the tree has every object, sorted by the starts of the regions; beside each link is the length of its region; each greatest
+-- length that is not stale is right; and the regions are apart
 pub record Keeps {A B : Type 0} (objects : Objects Region) (links : TreeLinkOps A) (root : Option Place) (lengths : SumTable ℕ ℕ B) : Type 0 where
   pub starts : List Region
   pub by_start : HasEach start_of links root objects starts
@@ -31,9 +31,9 @@ abbrev pub represented_regions : {A : Type 0} → Objects Region → TreeLinkOps
 represented_regions objects links root = values_at objects (members_of links root)
 
 module _ {A : Type 0} (regions : FreeRegions A) where
-  -- the same of the free regions
+  -- the same for the free regions
   abbrev pub IsKept : Type 0
-  IsKept = Keeps regions.pool.objects (links_of regions.pool.links) (root_of regions.by_start) (sums_of regions.pool.links)
+  IsKept = Keeps regions.pool.objects (links_of regions.pool.links) (root_of regions.by_start) (summaries_of regions.pool.links)
 
   abbrev pub regions_of : List Region
   regions_of = represented_regions regions.pool.objects (links_of regions.pool.links) (root_of regions.by_start)

@@ -1,4 +1,4 @@
--- The free regions that are found by a descent.
+-- The free regions that one search finds.
 use Rattle.std.specs.Prelude.{◌≡◌, ◌≢◌, ℕ, ◌<◌, ◌≤◌, ◌⊎◌, Option, None, Some, Result, Ok, Err, List, [], ◌∷◌, ◌++◌}
 use Rattle.std.specs.List.{AllByRecursion}
 use Rattle.ic_link_ops.specs.Prelude.{Place, Objects, object_at}
@@ -8,7 +8,7 @@ use Rattle.region_allocator.specs.declared.free_error.FreeError.{FreeError}
 use Rattle.region_allocator.specs.declared.free_error.FreeError.TheVariants.{Overlaps}
 use Rattle.region_allocator.specs.Regions.{region_of, end_of, IsRegion, IsFirstFit, AreApart, AreShorter}
 
--- what is found where a region stands at the place
+-- the result of a search that finds the region at a place
 abbrev pub found_with : Place → Option Region → Option Found
 found_with p None = None
 found_with p (Some region) = Some (record { object = p; region = region })
@@ -18,12 +18,12 @@ found_at objects None = None
 found_at objects (Some p) = found_with p (object_at objects p)
 
 module _ (objects : Objects Region) where
-  -- the region that was found stands at its place
+  -- the region that was found is the one at its place
   pub record IsFound (found : Found) : Type 0 where
     pub there : object_at objects found.object ≡ Some found.region
     pub is_region : IsRegion found.region
 
-  -- THE FIRST region that is so long, none where all are shorter
+  -- THE FIRST region with at least this length, or none if all are shorter
   abbrev pub FitsFirst : List Region → ℕ → Option Found → Type 0
   FitsFirst regions length None = AreShorter regions length
   FitsFirst regions length (Some found) = IsFound found × (length ≤ found.region.length) × IsFirstFit (region_of found.region.start length) regions
@@ -56,13 +56,13 @@ module _ (objects : Objects Region) where
   IsStarting regions address None = AllByRecursion (λ region. region.start ≢ address) regions
   IsStarting regions address (Some found) = IsFound found × (found.region.start ≡ address)
 
-  -- THE REGION IS JOINED WITH THESE: it shares no address with any, and touches them alone
+  -- THE REGION IS JOINED WITH THESE: it shares no address with any region, and touches only these
   pub record Touches (regions : List Region) (region : Region) (front back : Option Found) : Type 0 where
     pub each : AllByRecursion (λ other. AreApart region other ⊎ ((end_of other ≡ region.start) ⊎ (other.start ≡ end_of region))) regions
     pub front_is : IsEnding regions region.start front
     pub back_is : IsStarting regions (end_of region) back
 
--- what is before an address, as far as that goes: it ends there, or before, or it is refused
+-- the region before an address: it ends there, or earlier, or the call is refused
 abbrev pub EndsBy : Option Found → ℕ → Result (Option Found) FreeError → Type 0
 EndsBy below start (Ok (Some found)) = (below ≡ Some found) × (end_of found.region ≡ start)
 EndsBy None start (Ok None) = Unit {0}
@@ -70,7 +70,7 @@ EndsBy (Some found) start (Ok None) = end_of found.region < start
 EndsBy None start (Err error) = ⊥
 EndsBy (Some found) start (Err error) = (error ≡ Overlaps) × start < end_of found.region
 
--- and what is after
+-- the region after an address
 abbrev pub StartsFrom : Option Found → ℕ → Result (Option Found) FreeError → Type 0
 StartsFrom above end (Ok (Some found)) = (above ≡ Some found) × (found.region.start ≡ end)
 StartsFrom None end (Ok None) = Unit {0}

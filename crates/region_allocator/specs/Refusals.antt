@@ -6,12 +6,12 @@ use Rattle.region_allocator.specs.declared.free_error.FreeError.{FreeError}
 use Rattle.region_allocator.specs.declared.free_error.FreeError.TheVariants.{Empty, TooLong, Overlaps, TooManyRegions, OutOfMemory}
 use Rattle.region_allocator.specs.Regions.{Space, end_of, Has, IsFree, IsRegion, AreApart}
 
--- THE REGION IS A NEW ONE, which needs a place of its own: no free region touches it, and none has an address of it
+-- THE REGION IS A NEW ONE, which needs a place of its own: no free region touches it or shares an address with it
 abbrev pub IsNew : Region → Space → Type 0
 IsNew region space = IsRegion region × AllByRecursion (AreApart region) space.regions
 
--- EACH REFUSAL HAS ITS OWN REASON, and no two reasons hold at once: the region has no address; it ends after `u64::MAX`; an address
--- of it is free; it is a new one, and no place is left; it is a new one, and a place is left
+-- EACH REFUSAL HAS ITS OWN REASON, and no two reasons hold at once: the region is empty; it ends after `u64::MAX`; an address of it is already free;
+-- it is a new one, and all places are in use; it is a new one, and a place is left
 abbrev pub IsRefused : Region → Space → FreeError → Type 0
 IsRefused region space Empty = region.length ≡ 0
 IsRefused region space TooLong = (0 < region.length) × (2 ^ 64 ≤ end_of region)

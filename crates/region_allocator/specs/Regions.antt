@@ -3,7 +3,7 @@ use Rattle.std.specs.Prelude.{◌≡◌, ℕ, ◌+◌, ◌^◌, ◌<◌, ◌≤�
 use Rattle.std.specs.List.{AllByRecursion}
 use Rattle.region_allocator.specs.declared.region.Region.{Region}
 
--- so many addresses from `start` on
+-- a region: `length` addresses from `start` on
 abbrev pub region_of : ℕ → ℕ → Region
 region_of start length = record { start = start; length = length }
 
@@ -20,7 +20,7 @@ abbrev pub IsFree : List Region → ℕ → Type 0
 IsFree [] address = ⊥
 IsFree (region ∷ regions) address = Has region address ⊎ IsFree regions address
 
--- A REGION has an address, and ends at `u64::MAX` or before
+-- A REGION is not empty, and ends at `u64::MAX` or before
 pub record IsRegion (region : Region) : Type 0 where
   pub some : 0 < region.length
   pub fits : end_of region < 2 ^ 64
@@ -29,12 +29,12 @@ pub record IsRegion (region : Region) : Type 0 where
 abbrev pub AreApart : Region → Region → Type 0
 AreApart region other = (end_of region < other.start) ⊎ (end_of other < region.start)
 
--- REGIONS STAND APART: they are regions, and rise by their addresses, with one between two that is not free
+-- REGIONS ARE APART: they are sorted by their addresses, and between any two is an address that is not free
 abbrev pub AreRegionsApart : List Region → Type 0
 AreRegionsApart [] = Unit {0}
 AreRegionsApart (region ∷ regions) = IsRegion region × AllByRecursion (λ later. end_of region < later.start) regions × AreRegionsApart regions
 
--- WHAT A CLAUSE SEES of an allocator: its free regions, in the order of their addresses, and whether no place is left for another one
+-- WHAT A CONTRACT SEES of an allocator: its free regions, in the order of their addresses, and whether all places are in use
 pub record Space : Type 0 where
   pub regions : List Region
   pub is_full : Bool
@@ -42,26 +42,26 @@ pub record Space : Type 0 where
 abbrev pub space_of : List Region → Bool → Space
 space_of regions is_full = record { regions = regions; is_full = is_full }
 
--- THE REGION IS FREED: no address of it was free, and exactly these are free in addition
+-- THE REGION IS FREED: none of its addresses was free, and now exactly these are free in addition
 pub record FreesRegion (region : Region) (old new : List Region) : Type 0 where
   pub is_region : IsRegion region
   pub was_taken : (address : ℕ) → Has region address → ¬ IsFree old address
   pub free : (address : ℕ) → IsFree new address ↔ (IsFree old address ⊎ Has region address)
 
--- THE REGION IS ALLOCATED: each address of it was free, and exactly these are free no longer
+-- THE REGION IS ALLOCATED: each of its addresses was free, and now exactly these are no longer free
 pub record AllocatesRegion (region : Region) (old new : List Region) : Type 0 where
   pub was_free : (address : ℕ) → Has region address → IsFree old address
   pub free : (address : ℕ) → IsFree new address ↔ (IsFree old address × ¬ Has region address)
 
--- none is so long
+-- no region has this length
 abbrev pub AreShorter : List Region → ℕ → Type 0
 AreShorter regions length = AllByRecursion (λ region. region.length < length) regions
 
--- SO MANY ADDRESSES in a row are free from this one on
+-- THIS MANY CONSECUTIVE ADDRESSES are free from this one on
 abbrev pub FitsAt : List Region → ℕ → ℕ → Type 0
 FitsAt regions length address = (a : ℕ) → Has (region_of address length) a → IsFree regions a
 
--- THE FIRST FIT: the region is the start of one that was free, and all before that were shorter. So nothing fits at a lower address
+-- THE FIRST FIT: the region is the beginning of a free region, and all free regions before that one were shorter. So nothing fits at a lower address
 pub record IsFirstFit (region : Region) (old : List Region) : Type 0 where
   pub front : List Region
   pub whole : Region

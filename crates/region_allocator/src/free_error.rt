@@ -7,14 +7,14 @@
 /// Why addresses were not freed. Nothing has changed then.
 #[derive(Clone, Copy, PartialEq, Eq, Debug)]
 pub enum FreeError {
-    /// There is no address to be freed.
+    /// There are no addresses to free.
     Empty,
-    /// They end after the address `u64::MAX`.
+    /// The addresses end after `u64::MAX`.
     TooLong,
-    /// One of them is free.
+    /// One of the addresses is already free.
     Overlaps,
-    /// There is no place left for another region.
+    /// All places for regions are in use.
     TooManyRegions,
-    /// There was no memory, for the region or for its links.
+    /// There was not enough memory for the region or its links.
     OutOfMemory,
 }

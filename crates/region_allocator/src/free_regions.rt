@@ -21,7 +21,7 @@ use ic_rbtree::{Bound, RBTree};
 use ic_unsafe_ref::UnsafeRef;
 use std::alloc::{Allocator, Global};
 
-/// The free regions: objects, each of which is linked in the tree. Beside each link stands the length of its region.
+/// The free regions: objects, each of which is linked in the tree. Beside each link is the length of its region.
 #[derive(Drop)]
 pub(crate) struct FreeRegions<A: Allocator = Global> {
     pub(crate) pool: Pool<Region, Summed<LinkOps<A>, Greatest<A>>, A>,
@@ -29,7 +29,7 @@ pub(crate) struct FreeRegions<A: Allocator = Global> {
 }
 
 impl<A: Allocator> FreeRegions<A> {
-    // The last region that starts at the address or below. One descent, O(log n).
+    // Returns the last region that starts at the address or below. It makes one search, in O(log n).
     pub(crate) fn below(&self, address: u64) -> Option<Found>
         requires kept { IsKept self.now }
         ensures { (above : Option Found) × AreNeighbors self.now.pool.objects (regions_of self.now) address result above }
@@ -42,7 +42,7 @@ impl<A: Allocator> FreeRegions<A> {
         look_up(&self.pool.objects, cursor.clone_pointer())
     }
 
-    // The last region that starts at the address or below, and the first that starts above it. One descent, O(log n).
+    // Returns the last region that starts at the address or below, and the first that starts above it. It makes one search, in O(log n).
     pub(crate) fn neighbors(&self, address: u64) -> (Option<Found>, Option<Found>)
         requires kept { IsKept self.now }
         ensures { AreNeighbors self.now.pool.objects (regions_of self.now) address result.0 result.1 }
@@ -59,7 +59,7 @@ impl<A: Allocator> FreeRegions<A> {
         )
     }
 
-    // The regions that touch this one, before and after. It is refused where one has an address of it.
+    // Returns the regions that touch this one, before and after it. It is refused if one of them shares an address with it.
     pub(crate) fn touching(
         &self,
         region: Region,
@@ -80,7 +80,7 @@ impl<A: Allocator> FreeRegions<A> {
         }
     }
 
-    // The first region that is so long. It renews the greatest lengths that edits have made stale: O(log n + v) for v of them.
+    // Returns the first region with at least this length. It updates the greatest lengths that edits have made stale, in O(log n + v) for v of them.
     pub(crate) fn first_fit(&mut self, length: u64) -> Option<Found>
         requires kept { IsKept self.old }
         ensures kept { IsKept self.new }
@@ -94,7 +94,7 @@ impl<A: Allocator> FreeRegions<A> {
         }
     }
 
-    // A new object, put into the tree.
+    // Makes a new object, and inserts it into the tree.
     pub(crate) fn put_in(&mut self, region: Region) -> Result<(), FreeError>
         requires kept { IsKept self.old }
         requires region { IsRegion region }
@@ -116,7 +116,7 @@ impl<A: Allocator> FreeRegions<A> {
         Ok(())
     }
 
-    // Takes the object off the tree, and out of its place.
+    // Removes the object from the tree, and from its place.
     pub(crate) fn take_out(&mut self, object: UnsafeRef<Region>)
         requires kept { IsKept self.old }
         requires placed { is_placed self.old.pool.objects object ≡ true }
@@ -129,7 +129,7 @@ impl<A: Allocator> FreeRegions<A> {
         self.pool.remove(object);
     }
 
-    // Puts another region in the place of the object's. It stays between its neighbors, with another length beside its link.
+    // Gives an object another region as its value. The object stays between its neighbors, with another length beside its link.
     pub(crate) fn resize(&mut self, object: UnsafeRef<Region>, region: Region)
         requires kept { IsKept self.old }
         requires placed { is_placed self.old.pool.objects object ≡ true }
@@ -143,7 +143,7 @@ impl<A: Allocator> FreeRegions<A> {
         set_value(&mut self.pool.links, object.place(), region.length);
     }
 
-    // Adds a region, joined with those that it touches.
+    // Adds a region, and joins it with those that it touches.
     pub(crate) fn add(&mut self, region: Region) -> Result<(), FreeError>
         requires kept { IsKept self.old }
         requires region { IsRegion region }
@@ -185,7 +185,7 @@ impl<A: Allocator> FreeRegions<A> {
         }
     }
 
-    // Takes the first `length` addresses of a region.
+    // Removes the first `length` addresses of a region.
     pub(crate) fn cut(&mut self, found: Found, length: u64)
         requires kept { IsKept self.old }
         requires found { IsFound self.old.pool.objects found }

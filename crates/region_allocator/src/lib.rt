@@ -7,8 +7,8 @@
 //! space.free(0, 30)?; // free again, and one region with those after
 //! ```
 //!
-//! Each free region is one object with a link in one tree, by its start. There its neighbors are found, and, since the tree keeps the
-//! greatest length of each subtree, the first region that is long enough.
+//! Each free region is one object with a link in one tree, by its start. The tree finds the neighbors of a region, and, since it keeps the greatest
+//! length of each subtree, the first region that is long enough.
 #![tactic(auto)]
 
 mod free_error;

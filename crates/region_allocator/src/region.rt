@@ -1,11 +1,11 @@
-//! What stands at a place: a free region.
+//! What a place has: a free region.
 
 ghost use Rattle.std.specs.Prelude.{◌≡◌, ◌<◌, ◌^◌};
 ghost use Rattle.region_allocator.specs.Regions.{end_of};
 
 use ic_rbtree::KeyAdapter;
 
-/// So many free addresses in a row.
+/// A number of consecutive free addresses.
 #[derive(Clone, Copy)]
 pub struct Region {
     pub(crate) start: u64,
@@ -13,7 +13,7 @@ pub struct Region {
 }
 
 impl Region {
-    // The first address after it.
+    // Returns the first address after the region.
     #[inline]
     pub(crate) fn end(&self) -> u64
         requires fits { end_of self.now < 2 ^ 64 }
@@ -23,7 +23,7 @@ impl Region {
     }
 }
 
-/// Regions stand by their starts.
+/// The order of regions by their starts.
 #[derive(Clone, Copy)]
 pub(crate) struct ByStart;
 

@@ -21,8 +21,8 @@ use std::marker::Model;
 
 /// An allocator of addresses.
 ///
-/// A clause sees the free regions in the order of their addresses, and whether no place is left for another one. None is empty, and
-/// none shares an address with another one or touches it.
+/// A contract sees the free regions in the order of their addresses, and whether all places are in use. No region is empty, and no two of them touch
+/// or share an address.
 #[derive(Drop)]
 pub struct RegionAllocator<A: Allocator = Global> {
     regions: FreeRegions<A>,
@@ -43,7 +43,7 @@ impl<A: Allocator> RegionAllocator<A> {
     ghost use Rattle.region_allocator.specs.Regions.{region_of, IsFree, AreRegionsApart, FreesRegion, AllocatesRegion, IsFirstFit, AreShorter};
     ghost use Rattle.region_allocator.specs.Refusals.{IsNew, IsRefused};
 
-    /// An allocator with no free address. It takes no memory.
+    /// Makes an allocator with no free address. It takes no memory.
     pub fn new(alloc: A) -> RegionAllocator<A>
     where
         A: Copy,
@@ -52,7 +52,7 @@ impl<A: Allocator> RegionAllocator<A> {
     {
         let links = Summed {
             links: LinkOps::new(alloc),
-            sums: Greatest::new(alloc),
+            summaries: Greatest::new(alloc),
         };
         RegionAllocator {
             regions: FreeRegions {
@@ -62,12 +62,11 @@ impl<A: Allocator> RegionAllocator<A> {
         }
     }
 
-    /// Frees `length` addresses from `start` on. They are one region then with the free ones that touch them. O(log n).
+    /// Frees `length` addresses from `start` on. Together with the free regions that touch them, they become one region. O(log n).
     ///
-    /// Where it is refused, nothing has changed: with `Empty` exactly if there is no address, else with `TooLong` exactly if they end
-    /// after `u64::MAX`, and else with `Overlaps` exactly if one of them is free. Only a region that no free one touches needs a place
-    /// and memory, in at most three requests: it is refused with `TooManyRegions` exactly if no place is left, of 4,294,967,296, and
-    /// else with `OutOfMemory`.
+    /// If it is refused, nothing has changed. The error is `Empty` exactly if `length` is 0, else `TooLong` exactly if the addresses end after
+    /// `u64::MAX`, and else `Overlaps` exactly if one of them is already free. Only a region that no free region touches needs a place and memory, in
+    /// at most three requests. Then the error is `TooManyRegions` exactly if all 4,294,967,296 places are in use, and otherwise `OutOfMemory`.
     pub fn free(&mut self, start: u64, length: u64) -> Result<(), FreeError>
         ensures freed { OnOk result (FreesRegion (region_of start length) self.old.regions self.new.regions) }
         ensures refused { IfErr result (λ error. (self.new ≡ self.old) × IsRefused (region_of start length) self.old error) }
@@ -83,11 +82,12 @@ impl<A: Allocator> RegionAllocator<A> {
         self.regions.add(Region { start, length })
     }
 
-    /// Allocates `length` addresses in a row, and returns the first one. No lower address has as many free ones after it: it is the start of
-    /// the first free region that is long enough. It takes no memory.
+    /// Allocates `length` consecutive addresses, and returns the first one, which is the start of the first free region that is long enough. It takes
+    /// no memory.
     ///
-    /// `None` says that all regions are shorter, and no address has changed then. Of no length, it takes nothing: the answer is where the first
-    /// region starts. O(log n) over a run of calls: it renews the greatest lengths that the calls since the last one made stale, O(log n) for each.
+    /// `None` means that all regions are shorter, and then nothing has changed. For the length 0 it takes nothing, and returns the start of the first
+    /// region. O(log n) on average over many calls: it updates the greatest lengths that the calls since the last `allocate` made stale, in O(log n)
+    /// for each call.
     pub fn allocate(&mut self, length: u64) -> Option<u64>
         ensures allocated { IfSome result (λ start. AllocatesRegion (region_of start length) self.old.regions self.new.regions) }
         ensures first_fit { IfSome result (λ start. IsFirstFit (region_of start length) self.old.regions) }
@@ -100,7 +100,7 @@ impl<A: Allocator> RegionAllocator<A> {
         Some(start)
     }
 
-    /// Whether the address is free. O(log n).
+    /// Returns whether the address is free. O(log n).
     pub fn is_free(&self, address: u64) -> bool
         ensures { IsTrue result ↔ IsFree self.now.regions address }
     {
@@ -110,7 +110,7 @@ impl<A: Allocator> RegionAllocator<A> {
         }
     }
 
-    /// Whether no address is free. O(1).
+    /// Returns whether no address is free. O(1).
     pub fn is_empty(&self) -> bool
         ensures { IsTrue result ↔ (self.now.regions ≡ []) }
     {

@@ -1,4 +1,4 @@
--- What a scheduler keeps of its objects, its two tables, its tree and its lists.
+-- What a scheduler maintains for its objects, its two tables, its tree and its lists.
 use Rattle.std.specs.Prelude.{◌≡◌, ℕ, ◌^◌, ◌<◌, true, leb, Option, List, map, slice_index_or}
 use Rattle.std.specs.Ordering.{nat_cmp}
 use Rattle.ic_link_ops.specs.Prelude.{Place, index_of, Objects, is_placed, IsCovered, values_at}
@@ -11,7 +11,7 @@ use Rattle.ic_rbtree.specs.SortedValues.{HasSorted}
 use Rattle.scheduler.specs.declared.task.Task.{Task}
 use Rattle.scheduler.specs.Schedule.{Schedule}
 
--- the list of the queue of that number
+-- the list of the queue with this number
 abbrev pub list_at : List Ends → ℕ → Ends
 list_at queues q = slice_index_or queues q no_members
 
@@ -23,7 +23,7 @@ module _ {V : Type 0} where
   abbrev pub queue_of : Task V → ℕ
   queue_of task = task.queue
 
--- a place that has room in the lists' table, and is one of those that are given
+-- a place that the lists' table covers, and that the pool can give out
 abbrev pub HasRoom : {B : Type 0} → lists.DoublyLinkOps B → Place → Type 0
 HasRoom links p = IsCovered (lists.plain_table links) p × index_of p < 2 ^ 32
 
@@ -38,9 +38,9 @@ module _ {V A B : Type 0} (objects : Objects (Task V)) (deadline_links : trees.T
     queued_at = map (λ list. lists.members_of queue_links list) queues;
   }
 
-  -- WHAT IT KEEPS: the tasks in the tree rise by their deadlines, and nothing else is linked in its table; list q has tasks of queue q
-  -- alone, and no place is linked in the lists' table but their members; each task is linked in exactly one of the two fields, and has
-  -- room in the lists' table
+  -- WHAT IT MAINTAINS: the tasks in the tree are sorted by their deadlines, and nothing else is linked in its table. List q has only tasks of queue
+  -- q, and only members of the lists are linked in the lists' table. Each task is linked in exactly one of the two fields, and the lists' table
+  -- covers its place
   pub record IsKept : Type 0 where
     pub waiting : List (Task V)
     pub queued : ℕ → List (Task V)

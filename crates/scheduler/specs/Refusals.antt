@@ -1,9 +1,9 @@
--- Refusals: their numbers, and what comes back.
+-- Refusals: their numbers, and the values that they return.
 use Rattle.std.specs.Prelude.{ℕ, Bool, true, false}
 use Rattle.scheduler.specs.declared.add_error.AddError.{AddError}
 use Rattle.scheduler.specs.declared.add_error.AddError.TheVariants.{TooManyTasks, OutOfMemory}
 
--- with which number a scheduler refuses that has no place left, and one that has
+-- the number of a refusal if all places are in use, and otherwise
 abbrev pub refusal_number : Bool → ℕ
 refusal_number true = 21
 refusal_number false = 22
@@ -13,7 +13,7 @@ abbrev pub number_of : {V : Type 0} → AddError V → ℕ
 number_of (TooManyTasks value) = refusal_number true
 number_of (OutOfMemory value) = refusal_number false
 
--- the value that comes back
+-- the value that the caller gets back
 abbrev pub value_of : {V : Type 0} → AddError V → V
 value_of (TooManyTasks value) = value
 value_of (OutOfMemory value) = value

@@ -5,8 +5,8 @@ use Rattle.ic_link_ops.specs.Prelude.{Place, IsDistinct, IsDisjoint}
 use Rattle.ic_rbtree.specs.Borders.{IsSorted}
 use Rattle.scheduler.specs.declared.task.Task.{Task}
 
--- the tasks that wait, as the tree of deadlines has them; those of each queue, from front to back; whether there is no place left for
--- another task; and the places at which those that wait stand, and those of each queue, in the same order
+-- the waiting tasks, in the order of the tree of deadlines; the tasks of each queue, from front to back; whether all places are in use; and the
+-- places of the waiting tasks and of those in each queue, in the same order
 pub record Schedule (V : Type 0) : Type 0 where
   pub waiting : List (Task V)
   pub queues : List (List (Task V))
@@ -15,15 +15,15 @@ pub record Schedule (V : Type 0) : Type 0 where
   pub queued_at : List (List Place)
 
 module _ {V : Type 0} where
-  -- the tasks of the queue of that number, none beyond the last
+  -- the tasks of the queue with this number, or none beyond the last queue
   abbrev pub queue_at : Schedule V → ℕ → List (Task V)
   queue_at schedule q = slice_index_or schedule.queues q []
 
-  -- the places of those of the queue of that number
+  -- the places of the tasks of the queue with this number
   abbrev pub places_at : Schedule V → ℕ → List Place
   places_at schedule q = slice_index_or schedule.queued_at q []
 
-  -- EACH TASK STANDS AT ONE PLACE, in the tree of those that wait or in one queue: never in both, and never in two queues
+  -- EACH TASK IS IN ONE COLLECTION, the tree of waiting tasks or one queue: never in both, and never in two queues
   pub record IsOnceEach (schedule : Schedule V) : Type 0 where
     pub waiting : (length schedule.waiting_at ≡ length schedule.waiting) × IsDistinct schedule.waiting_at
     pub queued : (q : ℕ) → (length (places_at schedule q) ≡ length (queue_at schedule q)) × IsDistinct (places_at schedule q)
@@ -38,7 +38,7 @@ module _ {V : Type 0} where
   abbrev pub deadlines : List (Task V) → List ℕ
   deadlines tasks = map (λ (task : Task V). task.deadline) tasks
 
-  -- whether a task has that deadline, is due at that time, belongs to that queue
+  -- whether a task has this deadline; is due at this time; belongs to this queue
   abbrev pub has_deadline : ℕ → Task V → Bool
   has_deadline d task = eqb task.deadline d
 
@@ -48,12 +48,12 @@ module _ {V : Type 0} where
   abbrev pub is_for : ℕ → Task V → Bool
   is_for q task = eqb task.queue q
 
-  -- BY DEADLINE, EQUAL ONES AS IN w: their deadlines never fall, and those with one deadline are those of w with it, in the order of w
+  -- BY DEADLINE, WITH EQUAL ONES AS IN w: the deadlines never decrease, and the tasks with one deadline are those of w with it, in the order of w
   pub record IsByDeadline (tasks w : List (Task V)) : Type 0 where
     pub rises : IsSorted nat_cmp (deadlines tasks)
     pub alike : (d : ℕ) → filter (has_deadline d) tasks ≡ filter (has_deadline d) w
 
-  -- THE SCHEDULE STANDS FOR w, the tasks that wait in the order in which they were added
+  -- THE SCHEDULE REPRESENTS w, the waiting tasks in the order in which they were added
   abbrev pub IsScheduleOf : Schedule V → List (Task V) → Type 0
   IsScheduleOf schedule w = IsByDeadline schedule.waiting w
 
@@ -71,13 +71,13 @@ module _ {V : Type 0} where
     pub waiting_at : new.waiting_at ≡ old.waiting_at
     pub queued_at : (q : ℕ) → places_at new q ≡ places_at old q
 
-  -- THE TASK IS ADDED: it waits after all that were added before
+  -- THE TASK IS ADDED after all tasks that were added before
   pub record Adds (task : Task V) (old new : Schedule V) : Type 0 where
     pub waits : (w : List (Task V)) → IsScheduleOf old w → IsScheduleOf new (w ++ task ∷ [])
     pub queues : (q : ℕ) → queue_at new q ≡ queue_at old q
 
-  -- THE TICK at `now`: those of w that are due, by deadline, equal ones as in w, go to the backs of their queues. The others wait
-  -- still, in their order
+  -- THE TICK at `now`: the tasks of w that are due move to the backs of their queues, by deadline, and equal ones in the order of w. The others still
+  -- wait, in their order
   pub record Ticks (now : ℕ) (old new : Schedule V) (moved : ℕ) : Type 0 where
     pub due : List (Task V)
     pub in_order : (w : List (Task V)) → IsScheduleOf old w → IsByDeadline due (filter (is_due now) w)
@@ -86,14 +86,14 @@ module _ {V : Type 0} where
     pub count : moved ≡ length due
     pub is_full : new.is_full ≡ old.is_full
 
-  -- THE TASK IS TAKEN off the front of its queue, and nothing else changes: its place is free
+  -- THE TASK IS REMOVED from the front of its queue, so that its place is free. Nothing else changes
   pub record TakesFront (task : Task V) (old new : Schedule V) : Type 0 where
     pub front : queue_at old task.queue ≡ task ∷ queue_at new task.queue
     pub others : (q : ℕ) → q ≢ task.queue → queue_at new q ≡ queue_at old q
     pub waiting : new.waiting ≡ old.waiting
     pub is_full : new.is_full ≡ false
 
-  -- the first task that waits is due, and goes to the back of its queue
+  -- the first waiting task is due, and moves to the back of its queue
   pub record MovesFirst (now : ℕ) (old new : Schedule V) : Type 0 where
     pub task : Task V
     pub first : old.waiting ≡ task ∷ new.waiting

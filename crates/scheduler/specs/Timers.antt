@@ -1,4 +1,4 @@
--- What clauses see of what waits.
+-- What contracts see of the waiting timers.
 use Rattle.std.specs.Prelude.{◌≡◌, ℕ, ◌≤◌, Bool, false, leb, Option, None, Some, Result, Ok, Err, List, [], ◌∷◌, ◌++◌}
 use Rattle.std.specs.List.{AllByRecursion}
 use Rattle.std.specs.declared.alloc.AllocFailed.{AllocFailed}
@@ -12,21 +12,21 @@ module _ {T : Type 0} (deadline : T → ℕ) where
   due now None = false
   due now (Some timer) = leb (deadline timer) now
 
-  -- the same of the timer at a place
+  -- the same for the timer at a place
   abbrev pub is_due : Objects T → ℕ → Place → Bool
   is_due objects now p = due now (object_at objects p)
 
-  -- those of `taken` stand first in s, and each of them is due; `rest` are the others
+  -- s begins with `taken`, whose timers are all due, and goes on with `rest`
   pub record ComesFirst (objects : Objects T) (now : ℕ) (taken rest s : List Place) : Type 0 where
     pub same : taken ++ rest ≡ s
     pub are_due : AllByRecursion (λ p. key_at deadline objects p ≤ now) taken
 
-  -- a position is on the first timer of a queue, null where there is none; the timers are placed, and in the order of their deadlines
+  -- a position is on the first timer of a queue, or null if there is none; the timers are objects, and sorted by their deadlines
   pub record IsAtFront {L E : Type 0} (n : E → Node) (table : L → Table E) (objects : Objects T) (at : CursorState L (Option Place)) : Type 0 where
     pub queue : RepresentsSorted deadline (RepresentsAt (Represents n) table at) objects
     pub first_is : (s : List Place) → RepresentsAt (Represents n) table at s → at.position ≡ first s
 
--- what comes back where there was no room for it
+-- the timer that is returned if there was no room for it
 abbrev pub handed_back : {T : Type 0} → Result Unit (AllocFailed T) → List T
 handed_back (Ok u) = []
 handed_back (Err refused) = refused.value ∷ []

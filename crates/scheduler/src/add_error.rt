@@ -2,19 +2,19 @@
 
 ghost use Rattle.std.specs.Prelude.{◌≡◌};
 
-/// A task that was not added. Its value comes back.
+/// Why a task was not added, with its value.
 #[derive(Debug, Drop)]
 pub enum AddError<V> {
-    /// There is no place left for another task.
+    /// All places are in use.
     TooManyTasks(V),
-    /// There was no memory, for the task or for its links.
+    /// There was not enough memory for the task or its links.
     OutOfMemory(V),
 }
 
 impl<V> AddError<V> {
     ghost use Rattle.scheduler.specs.Refusals.{number_of};
 
-    /// The number of the refusal: 21 or 22.
+    /// Returns the number of the refusal: 21 or 22.
     pub fn number(&self) -> u8
         ensures { result ≡ number_of self.now }
     {

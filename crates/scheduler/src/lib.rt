@@ -1,4 +1,4 @@
-//! A scheduler: tasks wait for their deadlines, and go then to the queues that they were added for.
+//! A scheduler: tasks wait for their deadlines, and then move to the queues for which they were added.
 //!
 //! ```text
 //! let mut scheduler = Scheduler::new(rt.alloc());
@@ -7,9 +7,8 @@
 //! let next = scheduler.next_task(queue); // a deadline and its task
 //! ```
 //!
-//! Each task is one object with a link in each of two fields: in the tree of deadlines while it waits, and in the list of its queue
-//! once it was due. So a task moves from one to the other, and no memory is taken for it. [`timer_queue`] is that tree, for objects of your
-//! own.
+//! Each task is one object with a link in each of two fields: in the tree of deadlines while it waits, and in the list of its queue once it was due.
+//! So a task moves from one to the other without taking memory. [`timer_queue`] is this tree, for objects of your own.
 #![tactic(auto)]
 
 mod add_error;

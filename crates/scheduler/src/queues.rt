@@ -17,14 +17,14 @@ use std::array;
 /// The lists, by the numbers of their queues.
 pub(crate) type Queues<V> = [LinkedList<Task<V>>; 8];
 
-// Eight queues with no task.
+// Makes eight empty queues.
 pub(crate) fn no_queues<V>() -> Queues<V>
     ensures { (q : ℕ) → list_at result q ≡ no_members }
 {
     array::from_fn(|_| LinkedList::new())
 }
 
-// Puts a task at the back of the queue.
+// Inserts a task at the back of the queue.
 pub(crate) fn enqueue<V, A: Allocator>(
     queues: &mut Queues<V>,
     links: &mut LinkOps<A>,
@@ -44,7 +44,7 @@ pub(crate) fn enqueue<V, A: Allocator>(
     let _ = queues[queue.number()].push_back(links, object); // proved: it is not linked
 }
 
-// Takes the task at the front of the queue off.
+// Removes the task at the front of the queue.
 pub(crate) fn dequeue<V, A: Allocator>(
     queues: &mut Queues<V>,
     links: &mut LinkOps<A>,

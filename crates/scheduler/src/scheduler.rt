@@ -13,10 +13,10 @@ use ic_rbtree::RBTree;
 use std::alloc::{Allocator, Global};
 use std::marker::Model;
 
-/// Tasks that wait for their deadlines, and eight queues of those that were due.
+/// Tasks that wait for their deadlines, and eight queues of tasks whose deadlines have come.
 ///
-/// A clause sees the tasks that wait, in the order of their deadlines, those of each queue from its front, and whether there is no
-/// place left for another one. Each task is linked in the tree of deadlines or in the list of its queue, never in both.
+/// A contract sees the waiting tasks in the order of their deadlines, the tasks of each queue from its front, and whether all places are in use. Each
+/// task is linked in the tree of deadlines or in the list of its queue, never in both.
 #[derive(Drop)]
 pub struct Scheduler<V, A: Allocator = Global> {
     pool: Pool<Task<V>, (linked_list::LinkOps<A>, rbtree::LinkOps<A>), A>,
@@ -40,7 +40,7 @@ impl<V, A: Allocator> Scheduler<V, A> {
     ghost use Rattle.scheduler.specs.Schedule.{IsEmpty, IsOnceEach, IsScheduleOf, IsUnchanged, Adds, Ticks, TakesFront, queue_at, task_of};
     ghost use Rattle.scheduler.specs.Refusals.{number_of, refusal_number, value_of};
 
-    /// A scheduler with no task. It takes no memory.
+    /// Makes a scheduler with no task. It takes no memory.
     #[tactic(auto, using(crate::proofs::Keeping::kept_none))]
     pub fn new(alloc: A) -> Scheduler<V, A>
     where
@@ -58,10 +58,10 @@ impl<V, A: Allocator> Scheduler<V, A> {
         }
     }
 
-    /// Adds a task, which waits then, also where its deadline has passed. O(log n).
+    /// Adds a task, which then waits, even if its deadline has passed. O(log n).
     ///
-    /// Where it is refused the value comes back and nothing has changed: with `TooManyTasks` exactly if there is no place left, of
-    /// 4,294,967,296, and else with `OutOfMemory`. At most three requests for memory.
+    /// If it is refused, the caller gets the value back, and nothing has changed. The error is `TooManyTasks` exactly if all 4,294,967,296 places are
+    /// in use, and otherwise `OutOfMemory`. It makes at most three requests for memory.
     pub fn add(&mut self, deadline: u64, queue: Queue, value: V) -> Result<(), AddError<V>>
         ensures added { OnOk result (Adds (task_of deadline queue value) self.old self.new) }
         ensures refused { IfErr result (λ refused. (value_of refused ≡ value) × IsUnchanged self.old self.new
@@ -73,7 +73,7 @@ impl<V, A: Allocator> Scheduler<V, A> {
             queue,
             value,
         };
-        // With room in both tables, so that whatever waits can be moved without memory.
+        // It makes room in both tables, so that a waiting task can later move without memory.
         let object = match self.pool.place(task) {
             Ok(object) => object,
             Err(PlaceError::NoPlaceLeft(task)) => return Err(AddError::TooManyTasks(task.value)),
@@ -84,8 +84,8 @@ impl<V, A: Allocator> Scheduler<V, A> {
         Ok(())
     }
 
-    /// Moves the tasks that are due at `now` to the backs of their queues, the earliest first, and of equal ones the one that was
-    /// added first. It returns how many. O(log n), and O(1) on average for each of them, and it takes no memory.
+    /// Moves the tasks that are due at `now` to the backs of their queues, the earliest first, and among tasks with equal deadlines the one that was
+    /// added first. It returns how many tasks it moved. It costs O(log n), plus O(1) on average for each of them, and takes no memory.
     pub fn tick(&mut self, now: u64) -> usize
         ensures { Ticks now self.old self.new result }
     {
@@ -99,7 +99,8 @@ impl<V, A: Allocator> Scheduler<V, A> {
         )
     }
 
-    /// Takes the task at the front of the queue out, with its deadline: `None` if the queue is empty. O(1), and it takes no memory.
+    /// Removes the task at the front of the queue and returns it with its deadline, or returns `None` if the queue is empty. O(1), and it takes no
+    /// memory.
     pub fn next_task(&mut self, queue: Queue) -> Option<(u64, V)>
         ensures taken { IfSome result (λ answer. TakesFront (task_of answer.0 queue answer.1) self.old self.new) }
         ensures none { IfNone result ((queue_at self.old queue ≡ []) × IsUnchanged self.old self.new) }
@@ -109,15 +110,16 @@ impl<V, A: Allocator> Scheduler<V, A> {
         Some((task.deadline, task.value))
     }
 
-    /// Says that each task stands at one place, in the tree of those that wait or in one queue, and never in both. It does nothing.
+    /// Gives a caller's proof that each task is in one collection, the tree of waiting tasks or one queue, and never in both. It does nothing itself.
     pub fn each_task_is_once(&self)
         ensures { IsOnceEach self.now }
     {
-        // What is read is kept by a scheduler, of which this is the law.
+        // What this function reads belongs to a scheduler, of which the law holds.
         let _ = self.pool.len();
     }
 
-    /// Says that the tasks that wait are in order of deadline: so there is a list for which the scheduler stands. It does nothing.
+    /// Gives a caller's proof that the waiting tasks are sorted by deadline, so that there is a list that the scheduler represents. It does nothing
+    /// itself.
     pub fn stands_for_what_waits(&self)
         ensures { IsScheduleOf self.now self.now.waiting }
     {

@@ -1,4 +1,5 @@
-//! A queue by deadlines, of whatever waits: what has the earliest one is taken first, and of equal ones what was scheduled first.
+//! A queue of values sorted by deadline. The value with the earliest deadline is taken first, and among equal deadlines the one that was scheduled
+//! first.
 //!
 //! ```text
 //! let mut timers = RBTree::new(ByDeadline::new());
@@ -30,11 +31,11 @@ use ic_rbtree::{CursorMut, RBTree};
 use ic_unsafe_ref::{Objects, UnsafeRef};
 use std::alloc::{AllocFailed, Allocator};
 
-/// Puts a timer into the queue, after all with its deadline or an earlier one, unless its link is refused. O(log n), and it
-/// takes no memory.
+/// Inserts a timer into the queue, after all timers with the same deadline or an earlier one, unless its link is refused. O(log n), and it takes no
+/// memory.
 ///
-/// It requires that the timer is placed and its place covered, and that the timers in the queue are placed and stand in the order
-/// of their deadlines, as each call here leaves them. A refused timer comes back, and the queue is as it was.
+/// It requires that the timer is an object and the table covers its place, and that the timers in the queue are objects, sorted by their deadlines,
+/// as every call of this module leaves them. If the link is refused, the caller gets the timer back, and the queue is as it was.
 pub fn schedule<T: HasDeadline, L: RBTreeOps, B: Allocator>(
     timers: &mut RBTree<ByDeadline<T>>,
     links: &mut L,
@@ -55,7 +56,7 @@ pub fn schedule<T: HasDeadline, L: RBTreeOps, B: Allocator>(
     timers.insert(links, objects, timer)
 }
 
-// Whether there is a timer, and it is due.
+// Returns whether there is a timer, and it is due.
 #[inline]
 fn is_due<T: HasDeadline>(timer: Option<&T>, now: u64) -> bool
     ensures { result ≡ due T.deadline now (option_copied timer.entry) }
@@ -66,8 +67,8 @@ fn is_due<T: HasDeadline>(timer: Option<&T>, now: u64) -> bool
     }
 }
 
-// Takes the first timer off, on which the cursor stands, if its deadline is at most `now`, and returns `None` otherwise. The cursor goes on to
-// the one that is first then. O(log n), and O(1) on average over all that are taken so.
+// Removes the first timer, on which the cursor is, if its deadline is at most `now`, or else returns `None`. The cursor goes on to the timer that is
+// then first. O(log n), and O(1) on average over many removals.
 #[inline]
 pub(crate) fn take_due_at<T: HasDeadline, L: RBTreeOps, B: Allocator>(
     cursor: &mut CursorMut<'_, ByDeadline<T>, L>,
@@ -93,10 +94,10 @@ pub(crate) fn take_due_at<T: HasDeadline, L: RBTreeOps, B: Allocator>(
     cursor.remove()
 }
 
-/// Takes the first timer off if its deadline is at most `now`, and returns `None` otherwise. O(log n).
+/// Removes the first timer if its deadline is at most `now`, and returns `None` otherwise. O(log n).
 ///
-/// It requires that the timers in the queue are placed and stand in the order of their deadlines. The timer is unlinked then, and
-/// stays placed; none in the queue was due before it. Where the answer is `None` all wait still, and nothing has changed.
+/// It requires that the timers in the queue are objects, sorted by their deadlines. The timer is then unlinked, but keeps its place, and no timer in
+/// the queue was due before it. If it returns `None`, nothing has changed.
 pub fn take_due<T: HasDeadline, L: RBTreeOps, B: Allocator>(
     timers: &mut RBTree<ByDeadline<T>>,
     links: &mut L,
@@ -120,12 +121,12 @@ pub fn take_due<T: HasDeadline, L: RBTreeOps, B: Allocator>(
     take_due_at(&mut cursor, objects, now)
 }
 
-/// Takes all timers off that are due at `now`, the earliest first, and puts them after those in `due`. O(log n), and O(1) on average for
-/// each that is taken.
+/// Removes all timers that are due at `now`, the earliest first, and appends them to `due`. It costs O(log n), plus O(1) on average for each removed
+/// timer.
 ///
-/// It requires that the timers in the queue are placed and stand in the order of their deadlines. What was taken is unlinked then,
-/// and stays placed. It takes memory for `due` alone, and none where that has room. Where it has none left and can't grow, the
-/// timer that it had no room for comes back, unlinked as those in `due`, and the others wait still.
+/// It requires that the timers in the queue are objects, sorted by their deadlines. The removed timers are unlinked, but keep their places. It takes
+/// memory only for `due`, and none if that has room. If `due` cannot grow, it returns the timer for which there was no room, which is unlinked like
+/// those in `due`, and the others still wait.
 pub fn take_all_due<T: HasDeadline, L: RBTreeOps, B: Allocator, C: Allocator>(
     timers: &mut RBTree<ByDeadline<T>>,
     links: &mut L,
@@ -151,9 +152,9 @@ pub fn take_all_due<T: HasDeadline, L: RBTreeOps, B: Allocator, C: Allocator>(
     Ok(())
 }
 
-/// Takes a timer off before it is due: all others stay, in their order. O(log n), and it takes no memory.
+/// Removes a timer before it is due: all others stay, in their order. O(log n), and it takes no memory.
 ///
-/// It requires that the timer is in the queue, and is never refused. The timer is unlinked then, and stays placed.
+/// It requires that the timer is in the queue, and is never refused. The timer is then unlinked, but keeps its place.
 pub fn cancel<T: HasDeadline, L: RBTreeOps>(
     timers: &mut RBTree<ByDeadline<T>>,
     links: &mut L,

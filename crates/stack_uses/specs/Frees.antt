@@ -6,7 +6,7 @@ use Rattle.ic_lock_free_stack.specs.declared.stacks.Holder.{Holder}
 use Rattle.ic_lock_free_stack.specs.Holders.{stacks_of, IsOf, HasChain}
 use Rattle.stack_uses.specs.declared.remote_frees.Owner.{Owner}
 
--- an owner's holder, and the stack to which its places are freed
+-- an owner's holder, and the stack to which other threads free its places
 abbrev pub user_of : Owner → Holder
 user_of owner = owner.holder
 

@@ -1,4 +1,4 @@
--- Mailboxes: what was sent to one and what was received of it.
+-- Mailboxes: the places that were sent to one, and those that were received from it.
 use Rattle.std.specs.Prelude.{◌≡◌, ◌≢◌, ℕ, ◌<◌, ◌==◌, Bool, true, false, if◌then◌else◌, List, [], ◌∷◌, ◌++◌, map, All, Contains}
 use Rattle.ic_unsafe_ref.specs.declared.place.Place.{Place}
 use Rattle.ic_unsafe_ref.specs.Places.{index_of}
@@ -24,16 +24,16 @@ box_of receiver = receiver.mailbox
 abbrev pub sent_by : ℕ → Holder → List Place
 sent_by mailbox holder = of_record (sent mailbox) (record_of holder)
 
--- the steps by which a place is sent, or is not where the claim is refused
+-- the steps by which a place is sent. If its claim is refused, it is not sent
 abbrev pub steps_to_send : ℕ → Place → Bool → List Step
 steps_to_send mailbox p true = Claim p true ∷ Push mailbox (p ∷ []) ∷ []
 steps_to_send mailbox p false = Claim p false ∷ []
 
--- these are the places that the receiver has taken of its mailbox and has not given out
+-- these are the places that the receiver has taken from its mailbox and has not returned to its caller yet
 abbrev pub HasOpened : {A : Type 0} → Stacks A → Receiver → List Place → Type 0
 HasOpened stacks receiver s = HasChain stacks receiver.holder receiver.opened s
 
--- THE RECEIVER HAS GIVEN OUT these places so far: what it got is these and then what it has opened
+-- THE RECEIVER HAS RETURNED these places so far: the places that it got are these, followed by those that it has taken but not returned
 pub record HasReceived {A : Type 0} (stacks : Stacks A) (receiver : Receiver) (ps : List Place) : Type 0 where
   pub made : IsOf stacks receiver.holder
   pub mailbox : receiver.mailbox < stacks_of stacks
@@ -41,27 +41,28 @@ pub record HasReceived {A : Type 0} (stacks : Stacks A) (receiver : Receiver) (p
   pub opened : HasChain stacks receiver.holder receiver.opened rest
   pub got_is : of_record (got receiver.mailbox) (record_of receiver.holder) ≡ ps ++ rest
 
--- it holds the place, and has not opened it again
+-- it holds the place, and has not taken it again
 pub record IsOut {A : Type 0} (stacks : Stacks A) (receiver : Receiver) (p : Place) : Type 0 where
   pub inside : index_of p < places_of stacks
   pub held : holds p (record_of receiver.holder) ≡ true
   pub apart : (s : List Place) → HasChain stacks receiver.holder receiver.opened s → is_in p s ≡ false
 
--- none but the holder of that name has taken of the mailbox
+-- only the holder with this name has taken places from the mailbox
 abbrev pub IsOnlyReceiver : ℕ → ℕ → List Party → Type 0
 IsOnlyReceiver mailbox name parties = All (λ (x : Party). x.name ≢ name → of_record (got mailbox) x.steps ≡ []) parties
 
--- a place on its way, and who sent it
+-- a letter: a place on its way, and the name of its sender
 pub record Letter : Type 0 where
   pub sender : ℕ
   pub place : Place
 
--- the places of those letters that the holder of that name sent
+-- the places of the letters that the holder with this name sent
 abbrev pub sent_from : ℕ → List Letter → List Place
 sent_from name [] = []
 sent_from name (x ∷ xs) = if x.sender == name then x.place ∷ sent_from name xs else sent_from name xs
 
--- THE MAIL OF A MAILBOX: what was received and what lies there are letters of holders in one order, and those of each are what it sent, in its order
+-- THE MAIL OF A MAILBOX: the received letters and those that are still there are in one order, and the letters of each holder are the places that it
+-- sent, in its order
 pub record IsMail (mailbox : ℕ) (parties : List Party) (received waiting : List Place) : Type 0 where
   pub letters : List Letter
   pub all : map (λ (x : Letter). x.place) letters ≡ received ++ waiting

@@ -1,4 +1,4 @@
-//! Threads that send to one mailbox, and their caller, who receives what they send.
+//! Threads that send to one mailbox, and their caller, who receives the places.
 //!
 //! ```text
 //! let came = deliver(&rt, rt.alloc(), 4, 250)?; // 1,000 places of 4 senders, each sender's in the order of their indexes
@@ -19,7 +19,7 @@ use std::thread::Threads;
 // The mailbox to which all send.
 const MAILBOX: usize = 0;
 
-// A sender before its thread begins: it is to send so many places, from the one with index `first` on.
+// A sender before its thread begins: it is to send `count` places, from the one with index `first` on.
 #[derive(Drop)]
 struct Sender<'c, A: Allocator> {
     stacks: &'c Stacks<A>,
@@ -28,7 +28,7 @@ struct Sender<'c, A: Allocator> {
     count: usize,
 }
 
-// Sends each place of a sender, in the order of their indexes, and gives its holder back.
+// Sends each place of a sender, in the order of their indexes, and returns its holder.
 fn send_each<A: Allocator>(sender: Sender<'_, A>) -> Holder
     requires { IsReady sender.stacks.now sender.first sender.count sender }
     ensures { HasSent sender.entry.stacks.now sender.entry.first sender.entry.count result }
@@ -47,7 +47,7 @@ fn send_each<A: Allocator>(sender: Sender<'_, A>) -> Holder
     holder
 }
 
-// A sender for each holder, of `count` places each.
+// Makes a sender of `count` places for each holder.
 fn senders<'c, A: Allocator + Copy>(
     alloc: A,
     stacks: &'c Stacks<A>,
@@ -75,7 +75,7 @@ fn senders<'c, A: Allocator + Copy>(
     Ok(senders)
 }
 
-// Receives what comes to the mailbox, in so many turns.
+// Receives the places that come to the mailbox, in this many turns.
 fn receive_some<A: Allocator>(
     alloc: A,
     stacks: &Stacks<A>,
@@ -96,7 +96,7 @@ fn receive_some<A: Allocator>(
     Ok((receiver.into_holder(), came))
 }
 
-// Lets each sender send in a thread of its own, and gives their holders back in order.
+// Lets each sender send in a thread of its own, and returns their holders in order.
 fn send_in_threads<R: Threads + Sync, A: Allocator + Copy + Send + Sync>(
     rt: &R,
     stacks: &Stacks<A>,
@@ -146,7 +146,7 @@ fn send_and_receive<R: Threads + Sync, A: Allocator + Copy + Send + Sync>(
     Ok((holders, came))
 }
 
-// Receives the rest, once all senders have sent, between two audits of all holders: so nothing comes after it.
+// Receives the rest after all senders have sent, between two audits of all holders, which show that nothing comes later.
 fn receive_rest<A: Allocator>(
     stacks: &Stacks<A>,
     mut holders: Vec<Holder, A>,
@@ -168,7 +168,7 @@ fn receive_rest<A: Allocator>(
     Ok(came)
 }
 
-// What the last of the holders receives of all others.
+// Lets the last of the holders receive what all others send.
 fn deliver_over<R: Threads + Sync, A: Allocator + Copy + Send + Sync>(
     rt: &R,
     alloc: A,
@@ -190,14 +190,14 @@ fn deliver_over<R: Threads + Sync, A: Allocator + Copy + Send + Sync>(
     receive_rest(stacks, holders, came, count)
 }
 
-/// Lets so many senders send `places` places each to one mailbox, and returns what came, in the order in which it came.
+/// Lets `senders` threads send `places` places each to one mailbox, and returns the received places, in the order in which they came.
 ///
-/// Each sender sends in a thread of its own, in the order of the places' indexes: the first sender those from 0 on, the next those after
-/// them. The caller's thread receives meanwhile, and the rest when all have sent. What came is all that was sent, and each place came
-/// once. Those of each sender came in their order. How those of several senders lie among one another is left open.
+/// Each sender sends in a thread of its own, in the order of the places' indexes: the first sender sends those from 0 on, the next one those after
+/// them. The caller's thread receives meanwhile, and receives the rest when all have sent. Every sent place came exactly once, and the places of each
+/// sender came in their order. It is left open how the places of several senders are interleaved.
 ///
-/// It requires at most 65,534 senders. It is refused where they have more than 4,294,967,296 places, and where no memory is found; senders
-/// that have begun then come to their end first. It joins its threads, and takes no lock. O(senders * places).
+/// It requires at most 65,534 senders. It is refused if they have more than 4,294,967,296 places together, or if memory runs out. Then it waits first
+/// until the senders that have begun are done. It joins its threads, and takes no lock. O(senders * places).
 pub fn deliver<R: Threads + Sync, A: Allocator + Copy + Send + Sync>(
     rt: &R,
     alloc: A,

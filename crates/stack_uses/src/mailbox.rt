@@ -10,7 +10,7 @@
 //! }
 //! ```
 //!
-//! A message is a place. What it says lies wherever the sender of a place and its receiver look for it.
+//! A message is a place. Its content is wherever the sender and the receiver of the place agree to store it.
 
 ghost use Rattle.std.specs.Prelude.{◌≡◌, ◌<◌, ◌≤◌, ◌+◌, ℕ, [], ◌∷◌, ◌++◌, reverse, List, IfSome, IfNone, OnOk, Contains};
 ghost use Rattle.std.specs.Bool.{OnTrue, OnFalse};
@@ -29,7 +29,7 @@ use ic_lock_free_stack::{Chain, Holder, Stacks};
 use ic_unsafe_ref::Place;
 use std::alloc::{AllocError, Allocator};
 
-/// Who receives what is sent to one mailbox, the stack of that number.
+/// The receiver of one mailbox, which is the stack with this number.
 #[derive(Drop)]
 pub struct Receiver {
     holder: Holder,
@@ -37,7 +37,7 @@ pub struct Receiver {
     opened: Chain,
 }
 
-/// Claims a place and sends it, and says whether it did: not where somebody holds the place, or where it is on its way.
+/// Claims a place and sends it, and returns whether it did. It does not if somebody holds the place, or if the place is on its way.
 ///
 /// It requires that the holder has made fewer than 281,474,976,710,656 pushes and calls that take all. It waits for nobody.
 pub fn send<A: Allocator>(
@@ -65,7 +65,8 @@ pub fn send<A: Allocator>(
 }
 
 impl Receiver {
-    /// A receiver for the mailbox of that number, which has received what its holder took of it: nothing, if the holder has made no step.
+    /// Makes a receiver for the mailbox with this number. It has received what its holder has taken from the mailbox: nothing, if the holder has made
+    /// no step.
     pub fn new<A: Allocator>(stacks: &Stacks<A>, holder: Holder, mailbox: usize) -> Receiver
         requires mailbox { mailbox < stacks_of stacks.now }
         requires made { IsOf stacks.now holder }
@@ -82,10 +83,10 @@ impl Receiver {
         }
     }
 
-    /// The next place that was sent, which the receiver holds then, or `None` where none had come. It waits for nobody.
+    /// Returns the next place that was sent, which the receiver then holds, or `None` if none had come. It waits for nobody.
     ///
-    /// It requires that its holder has made fewer than 281,474,976,710,656 pushes and calls that take all. A load; where all that was taken is
-    /// received, a swap more, and a load and a store for each place that had come. O(1) a place.
+    /// It requires that its holder has made fewer than 281,474,976,710,656 pushes and calls that take all. It makes one load. If it has already
+    /// returned all places that it took, it makes a swap, and a load and a store for each place that had come. O(1) for each place.
     pub fn receive<A: Allocator>(&mut self, stacks: &Stacks<A>) -> Option<Place>
         requires kept { (ps : List Place) × HasReceived stacks.now self.old ps }
         requires room { spent_by (holder_of self.old) < most_steps }
@@ -103,8 +104,8 @@ impl Receiver {
 
     /// Receives all places that had come at one moment of the call, and appends them to `came`. It waits for nobody.
     ///
-    /// It requires that its holder has made fewer than 281,474,976,710,656 pushes and calls that take all. Where no memory is found, the places
-    /// that are not in `came` are still to be received. A swap, and two loads and a store for each place.
+    /// It requires that its holder has made fewer than 281,474,976,710,656 pushes and calls that take all. If memory runs out, a later call still
+    /// receives the places that are not in `came`. It makes a swap, and two loads and a store for each place.
     pub fn receive_all<A: Allocator, B: Allocator>(
         &mut self,
         stacks: &Stacks<A>,
@@ -124,7 +125,7 @@ impl Receiver {
         self.receive_opened(stacks, came)
     }
 
-    // Receives the places that it has opened.
+    // Receives the places that it has taken but not returned.
     fn receive_opened<A: Allocator, B: Allocator>(
         &mut self,
         stacks: &Stacks<A>,
@@ -144,7 +145,7 @@ impl Receiver {
         Ok(())
     }
 
-    // Takes what has come, where all that was taken is received.
+    // Takes the places that have come, if it has returned all places that it took before.
     fn open<A: Allocator>(&mut self, stacks: &Stacks<A>)
         requires kept { (ps : List Place) × HasReceived stacks.now self.old ps }
         requires room { spent_by (holder_of self.old) < most_steps }
@@ -161,7 +162,7 @@ impl Receiver {
         }
     }
 
-    /// Gives up a place that was received, so that it can be sent again. One store.
+    /// Gives up a received place, so that it can be sent again. It makes one store.
     pub fn give_up<A: Allocator>(&mut self, stacks: &Stacks<A>, place: Place)
         requires kept { (ps : List Place) × HasReceived stacks.now self.old ps }
         requires out { IsOut stacks.now self.old place }
@@ -173,7 +174,7 @@ impl Receiver {
         stacks.release(&mut self.holder, place);
     }
 
-    /// The holder, for an audit.
+    /// Returns the holder, for an audit.
     pub fn into_holder(self) -> Holder
         ensures { result ≡ holder_of self }
     {
@@ -181,8 +182,8 @@ impl Receiver {
     }
 }
 
-/// The law of a mailbox from which one receiver takes: what it got, and what still lies there, is what was sent, each place once, and those of
-/// each sender in the order in which it sent them.
+/// Gives a caller's proof the law of a mailbox with one receiver: the places that it got and those that are still in the mailbox are the places that
+/// were sent, each once, and those of each sender in the order in which it sent them.
 ///
 /// An `audit` of all holders gives the history.
 pub fn mail_comes_in_order()

@@ -9,7 +9,7 @@
 //! free(&stacks, &mut worker, 0, place);          // back to the owner, with no lock; `free_all` frees many at once
 //! ```
 //!
-//! The owner takes from a chain of its own, by one load a place. Only where that is empty it takes, by one swap, all that was freed.
+//! The owner takes from a chain of its own, by one load a place. Only if that chain is empty, it takes all freed places with one swap.
 
 ghost use Rattle.std.specs.Prelude.{◌≡◌, ◌<◌, ◌≤◌, ◌+◌, ℕ, true, false, [], ◌∷◌, reverse, List, Some, IfSome, IfNone};
 ghost use Rattle.std.specs.Bool.{OnTrue, OnFalse};
@@ -25,7 +25,7 @@ use ic_lock_free_stack::{Chain, Holder, Stacks};
 use ic_unsafe_ref::Place;
 use std::alloc::Allocator;
 
-/// Who gives out places, and takes those back that were freed to the stack of that number.
+/// An owner, which gives out places, and takes back those that were freed to the stack with this number.
 #[derive(Drop)]
 pub struct Owner {
     holder: Holder,
@@ -33,9 +33,9 @@ pub struct Owner {
     free: Chain,
 }
 
-/// Frees a place from any thread: it is its owner's again, who takes it in time. It waits for nobody.
+/// Frees a place from any thread, so that its owner can take it back. It waits for nobody.
 ///
-/// Each chain of the user in which the place is not stays, so he may free a chain place by place.
+/// Every chain of the user that does not contain the place stays as it is, so the user may free a chain place by place.
 pub fn free<A: Allocator>(stacks: &Stacks<A>, user: &mut Holder, stack: usize, place: Place)
     requires stack { stack < stacks_of stacks.now }
     requires place { index_of place < places_of stacks.now }
@@ -50,7 +50,7 @@ pub fn free<A: Allocator>(stacks: &Stacks<A>, user: &mut Holder, stack: usize, p
     stacks.push(user, stack, place);
 }
 
-/// Frees all places of a chain by one push. A load and a store a place. It waits for nobody.
+/// Frees all places of a chain with one push. It makes a load and a store for each place, and waits for nobody.
 pub fn free_all<A: Allocator>(stacks: &Stacks<A>, user: &mut Holder, stack: usize, chain: Chain)
     requires stack { stack < stacks_of stacks.now }
     requires made { IsOf stacks.now user.old }
@@ -68,7 +68,7 @@ pub fn free_all<A: Allocator>(stacks: &Stacks<A>, user: &mut Holder, stack: usiz
 }
 
 impl Owner {
-    /// An owner with no place to give out.
+    /// Makes an owner with no place to give out.
     pub fn new<A: Allocator>(stacks: &Stacks<A>, holder: Holder, stack: usize) -> Owner
         requires stack { stack < stacks_of stacks.now }
         requires made { IsOf stacks.now holder }
@@ -84,7 +84,8 @@ impl Owner {
         }
     }
 
-    /// Claims a place to give it out, and says whether it did: not where somebody holds it. One compare-exchange and one store.
+    /// Claims a place to give it out, and returns whether it did, which it does not if somebody holds the place. It makes one compare-exchange and
+    /// one store.
     pub fn own<A: Allocator>(&mut self, stacks: &Stacks<A>, place: Place) -> bool
         requires place { index_of place < places_of stacks.now }
         requires kept { (s : List Place) × HasFree stacks.now self.old s }
@@ -101,10 +102,10 @@ impl Owner {
         is_claimed
     }
 
-    /// A free place, which the owner then holds and has not free, or `None` where all are out. It waits for nobody.
+    /// Returns a free place, which the owner then holds but no longer counts as free, or `None` if all are given out. It waits for nobody.
     ///
-    /// It requires that its holder has made fewer than 281,474,976,710,656 pushes and calls that take all. A load; where the owner's own places
-    /// are given out, a swap more, for all that were freed. O(1).
+    /// It requires that its holder has made fewer than 281,474,976,710,656 pushes and calls that take all. It makes one load. If the owner's chain is
+    /// empty, it also makes one swap, for all freed places. O(1).
     pub fn take<A: Allocator>(&mut self, stacks: &Stacks<A>) -> Option<Place>
         requires kept { (s : List Place) × HasFree stacks.now self.old s }
         requires room { spent_by (user_of self.old) < most_steps }
@@ -121,7 +122,7 @@ impl Owner {
         stacks.next(&mut self.holder, &mut self.free)
     }
 
-    // Takes what was freed, where none is free.
+    // Takes the freed places, if the owner's chain is empty.
     fn refill<A: Allocator>(&mut self, stacks: &Stacks<A>)
         requires kept { (s : List Place) × HasFree stacks.now self.old s }
         requires room { spent_by (user_of self.old) < most_steps }
@@ -137,7 +138,7 @@ impl Owner {
         }
     }
 
-    /// Frees a place that the owner holds and has not free, by one store.
+    /// Frees a place that the owner holds and has given out, with one store.
     pub fn give_back<A: Allocator>(&mut self, stacks: &Stacks<A>, place: Place)
         requires place { index_of place < places_of stacks.now }
         requires held { holds place (record_of (user_of self.old)) ≡ true }
@@ -149,7 +150,7 @@ impl Owner {
         stacks.link(&mut self.holder, &mut self.free, place); // to be given out next
     }
 
-    /// Lends a place that the owner holds and has not free, to whoever takes of the stack of that number.
+    /// Lends a place that the owner holds and does not count as free, to any thread that takes from the stack with this number.
     pub fn lend<A: Allocator>(&mut self, stacks: &Stacks<A>, to: usize, place: Place)
         requires to { to < stacks_of stacks.now }
         requires place { index_of place < places_of stacks.now }

@@ -1,4 +1,4 @@
--- What the rows of the tests of rings keep: eight places, and two rings that share none.
+-- What the rows of the tests of rings maintain: eight places, and two rings that share no place.
 use Rattle.std.specs.Prelude.{◌≡◌, List, ◌∷◌}
 use Rattle.ic_link_ops.specs.Prelude.{Place, IsAbsent, Table}
 use Rattle.ic_link_ops.specs.LinkedList.{Neighbors}

@@ -19,7 +19,7 @@ use ic_test_support::objects::{TENS, eight_objects, place_at};
 use ic_unsafe_ref::{Objects, Place, UnsafeRef};
 use std::process::Abort;
 
-// Puts the objects at the first places into a new list, as many as that and in their order.
+// Inserts the objects at the first places into a new list, as many as that and in their order.
 fn filled<K: ForwardLinks<L>, L: LinkOps>(links: &mut L, members: usize) -> Chain<K, u64>
     requires covered { (L.table links.old).extent.places ≡ 8 }
     requires few { members ≤ 8 }
@@ -62,7 +62,7 @@ fn sort_and_count<K: Following<L>, L: LinkOps>(
     order.looks()
 }
 
-// Sorts a list by the numbers that stand beside its links, the largest first, and returns the member that is first then.
+// Sorts a list by the numbers beside its links, the largest first, and returns the member that is then first.
 fn sorted_down_keyed<K: Following<L>, L: LinkValues<u64>>(
     list: &mut Chain<K, u64>,
     links: &mut L,
@@ -76,7 +76,7 @@ fn sorted_down_keyed<K: Following<L>, L: LinkValues<u64>>(
     index_of_first(list)
 }
 
-// Sorts a list by the numbers that stand beside its links, the smallest first, merges an empty list into it, and returns its first member.
+// Sorts a list by the numbers beside its links, the smallest first, merges an empty list into it, and returns its first member.
 fn merged_keyed<K: Following<L>, L: LinkValues<u64>>(
     list: &mut Chain<K, u64>,
     links: &mut L,
@@ -90,7 +90,7 @@ fn merged_keyed<K: Following<L>, L: LinkValues<u64>>(
     index_of_first(list)
 }
 
-// Whether a list is in order, and how many members it has, which is the fourth, and which is the first above 40.
+// Returns whether a list is in order, and how many members it has, which is the fourth, and which is the first above 40.
 fn walked<K: ForwardLinks<L>, L: LinkOps>(
     list: &Chain<K, u64>,
     links: &L,
@@ -115,7 +115,7 @@ fn index(object: Option<UnsafeRef<u64>>) -> Option<usize> {
     }
 }
 
-// Merges an empty list into one, puts one after it, and turns it after its first two members: it returns the member that is first then.
+// Merges an empty list into a list, appends an empty list, and rotates the list by its first two members. It returns the member that is then first.
 fn merged<K: Following<L>, L: LinkOps>(
     list: &mut Chain<K, u64>,
     links: &mut L,
@@ -128,7 +128,7 @@ fn merged<K: Following<L>, L: LinkOps>(
     turned(list, links)
 }
 
-// Turns a list after its first two members, and returns the member that is first then.
+// Turns a list after its first two members, and returns the member that is then first.
 fn turned<K: ForwardLinks<L>, L: LinkOps>(list: &mut Chain<K, u64>, links: &mut L) -> Option<usize>
     requires shown { RepresentsSomeChain K.Between K.kept (L.table links.old) list.old }
     ensures shown { RepresentsSomeChain K.Between K.kept (L.table links.new) list.new }
@@ -151,7 +151,7 @@ fn sifted<K: ForwardLinks<L>, L: LinkOps>(
     index_of_first(list)
 }
 
-// Of the numbers that have the same hundreds keeps the first: it returns how many members there are then.
+// Keeps the first of the numbers that have the same hundreds, and returns how many members are left.
 fn deduped<K: ForwardLinks<L>, L: LinkOps>(
     list: &mut Chain<K, u64>,
     links: &mut L,
@@ -169,7 +169,7 @@ fn deduped<K: ForwardLinks<L>, L: LinkOps>(
     algorithms::len(list, links)
 }
 
-// Puts an empty list after this one.
+// Inserts an empty list after this one.
 fn appended<K: DoubleEnded + ForwardLinks<L>, L: LinkOps>(
     list: &mut Chain<K, u64>,
     links: &mut L,
@@ -253,7 +253,7 @@ fn play_single_ended<K: SingleEnded + Following<L>, L: LinkOps>(
     assert_true(rt, appended_walking(&mut list, links));
 }
 
-// Makes the calls of a list by numbers that stand beside the links: 30, 10 and 20.
+// Makes the calls of a list by numbers beside the links: 30, 10 and 20.
 fn play_keyed<K: Following<L>, L: LinkValues<u64>>(rt: &impl Abort, links: &mut L)
     requires covered { (L.table links.old).extent.places ≡ 8 }
 {

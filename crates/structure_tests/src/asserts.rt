@@ -9,7 +9,7 @@ use std::process::Abort;
 
 /// Ends the test unless it is so.
 ///
-/// What comes of it is proved once, here, and not again at each call.
+/// Its result is proved once, here, and not again at each call.
 pub(crate) fn assert_true(rt: &impl Abort, is_so: bool) {
     assert!(rt; is_so);
 }

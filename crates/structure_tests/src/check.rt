@@ -61,7 +61,7 @@ fn list_of_three<K: TellsNeighbors<PlainTable<W>>, W: Words>(
     list
 }
 
-// Notes what a check of a list of three members finds, and what it finds once the second of them is unlinked.
+// Notes the result of a check of a list of three members, and the result after the second of them was unlinked.
 fn write_list<K: NamesItsNext<PlainTable<W>>, W: Words>(
     rt: &impl Abort,
     alloc: Global,
@@ -109,8 +109,8 @@ fn a_whole_table_is_checked(rt: HostRuntime) {
     assert_true(&rt, notes.has_words("3 none"));
 }
 
-// The second of three members leaves an XOR list, whose other entries still lead to it. The marks are set before each check, which does not
-// ask what they were.
+// The second of three members leaves an XOR list, whose other entries still lead to it. The marks are set before each check, which does not depend on
+// them.
 #[test]
 fn an_xor_list_is_checked(rt: HostRuntime) {
     let alloc = rt.alloc();
@@ -236,7 +236,7 @@ fn read_links(links: &mut linked_list::LinkOps, words: &[(usize, usize)])
     }
 }
 
-// The list with these ends, if its words are those of a list.
+// Returns the list with these ends, if the words represent one.
 fn list_from_file(
     links: &linked_list::LinkOps,
     first: Option<Place>,
@@ -251,7 +251,7 @@ fn list_from_file(
     Some(list)
 }
 
-// Notes the member that is taken off a list of two, whose words are these.
+// Notes the member that is removed a list of two, whose words are these.
 fn write_from_file(rt: &impl Abort, alloc: Global, notes: &mut Text, words: &[(usize, usize)])
     requires { length words.now ≡ 2 }
 {

@@ -14,7 +14,7 @@ use ic_test_support::objects::{TENS, eight_objects};
 use std::alloc::Global;
 use std::process::Abort;
 
-// Links of the last of these holders, none of which has made a step, over the places 0 to 7.
+// Makes links for the last of these holders, none of which has made a step, over the places 0 to 7.
 fn claimed_links<'c>(
     rt: &impl Abort,
     alloc: Global,

@@ -10,7 +10,7 @@ use ic_unsafe_ref::UnsafeRef;
 use std::alloc::Allocator;
 use std::process::Abort;
 
-// Puts a number that was met before at the front again, and another one in its place. It returns the old one, if the number is there still.
+// Inserts a number that was met before at the front again, and another one in its place. It returns the old one, if the number is there still.
 fn renew<A: Allocator, W: PrevPlace>(
     numbers: &mut Listed<u64, A, W>,
     met: &UnsafeRef<u64>,
@@ -26,13 +26,13 @@ fn renew<A: Allocator, W: PrevPlace>(
     Some(numbers.replace(met.place(), number))
 }
 
-// Takes the oldest number out, if there is one.
+// Removes the oldest number, if there is one.
 fn forget_oldest<A: Allocator, W: PrevPlace>(numbers: &mut Listed<u64, A, W>) -> Option<u64> {
     let oldest = numbers.last()?;
     Some(numbers.remove(oldest))
 }
 
-// Puts the newest number after all others, and takes the first one out, and then that one.
+// Inserts the newest number at the back, removes the first number, and then the newest one.
 fn take_ends<A: Allocator, W: PrevPlace>(
     numbers: &mut Listed<u64, A, W>,
 ) -> (Option<u64>, Option<u64>) {
@@ -62,7 +62,7 @@ fn meet<A: Allocator, W: PrevPlace>(rt: &impl Abort, numbers: &mut Listed<u64, A
     assert_true(rt, numbers.place_front(number).is_ok());
 }
 
-// Whether that is the only number.
+// Returns whether that is the only number.
 fn is_only<A: Allocator, W: PrevPlace>(numbers: &Listed<u64, A, W>, number: u64) -> bool {
     let mut walk = numbers.iter();
     let is_first = walk.next().copied() == Some(number);

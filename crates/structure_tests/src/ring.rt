@@ -1,5 +1,5 @@
-//! Rings, by rows of calls. What the rows expect is what Linux's own tests of its lists expect (`lib/list-test.c`), of the calls of the same
-//! meaning.
+//! Rings, by rows of calls. Each row expects what Linux's own tests of its lists (`lib/list-test.c`) expect of the corresponding
+//! call.
 
 ghost use Rattle.std.specs.Prelude.{◌≡◌, ◌<◌, List, [], true};
 ghost use Rattle.ic_link_ops.specs.Prelude.{Place, index_of, is_placed, IsAbsent};
@@ -47,10 +47,10 @@ fn write_bypassed<L: LinkedListOps>(notes: &mut Text, links: &mut L, ring: &Ring
     let head = ring.head();
     let first = next(&*links, head);
     let before = prev(&*links, first);
-    let behind = next(&*links, first);
-    bypass(links, before, behind);
+    let after = next(&*links, first);
+    bypass(links, before, after);
     write_places(notes, &[links.next(head)]);
-    turn_to(links, before, first, behind);
+    turn_to(links, before, first, after);
     write_places(notes, &[links.next(head)]);
 }
 
@@ -138,8 +138,8 @@ fn write_printed<L: LinkedListOps>(
     }
 }
 
-/// Plays the rows on two new rings, and ends the test unless each call has the outcome that stands beside it. Then the heads are exchanged, and
-/// the first ring is served, as the queue of a server's connections, and printed, and its first member is bypassed.
+/// Plays the rows on two new rings, and fails the test unless each call has the outcome in its row. Then the heads are exchanged, and the first ring
+/// is served, as the queue of a server's connections, and printed, and its first member is bypassed.
 pub(crate) fn play<L: LinkedListOps>(
     rt: &impl Abort,
     alloc: Global,

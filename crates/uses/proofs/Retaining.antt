@@ -12,10 +12,10 @@ use Rattle.uses.specs.Retain.{Parts, TellsOf}
 module _ {L E T : Type 0} (n : E → Neighbors) (table : L → Table E) (Trace : L → L → List LinkStep → Type 0) (objects : Objects T) (tells : T → Bool → Type 0) where
   -- the walk from a table that showed s is here, with these members ahead, and has kept and let go as the test told
   pub record Retains (start : L) (s : List Place) (now : CursorState L Ends) (ahead : List Place) : Type 0 where
-    pub behind : List Place
+    pub after : List Place
     pub gone : List Place
-    pub walked : Walked (Represents n) table Trace start s now behind gone ahead
-    pub parted : (k g : List Place) → Parts (TellsOf objects tells) ahead k g → Parts (TellsOf objects tells) s (behind ++ k) (gone ++ g)
+    pub walked : Walked (Represents n) table Trace start s now after gone ahead
+    pub parted : (k g : List Place) → Parts (TellsOf objects tells) ahead k g → Parts (TellsOf objects tells) s (after ++ k) (gone ++ g)
     pub placed : ArePlaced objects ahead
 
   -- a turn has led on, and less is ahead
@@ -26,7 +26,7 @@ module _ {L E T : Type 0} (n : E → Neighbors) (table : L → Table E) (Trace :
 module _ {L E T : Type 0} {n : E → Neighbors} {table : L → Table E} {Trace : L → L → List LinkStep → Type 0}
     {objects : Objects T} {tells : T → Bool → Type 0} {start : L} {s : List Place} {now : CursorState L Ends} where
   pub retains_gap : {ahead : List Place} → Retains n table Trace objects tells start s now ahead → (gap : Cut) × Represents n (table now.links) now.head (join gap) × IsAfter gap now.position
-  retains_gap {ahead} h = let gap = gap_after (record { front = h.behind; back = ahead }) now.position h.walked.here in (gap.0, rw gap.1 h.walked.shown, gap.2)
+  retains_gap {ahead} h = let gap = gap_after (record { front = h.after; back = ahead }) now.position h.walked.here in (gap.0, rw gap.1 h.walked.shown, gap.2)
 
   module _ (covered : (l : L) (q : Place) → (n ((table l).entry q)).linked ≡ true → IsCovered (table l) q) where
     turns : {p : Place} {rest : List Place} {new : CursorState L Ends} → Retains n table Trace objects tells start s now (p ∷ rest)
@@ -36,8 +36,8 @@ module _ {L E T : Type 0} {n : E → Neighbors} {table : L → Table E} {Trace :
       r,
       omega (
         arith,
-        ap length (members_after (table now.links) (covered now.links) h.behind (p ∷ rest) h.walked.shown h.walked.here),
-        ap length (members_after (table new.links) (covered new.links) r.behind rest r.walked.shown r.walked.here),
+        ap length (members_after (table now.links) (covered now.links) h.after (p ∷ rest) h.walked.shown h.walked.here),
+        ap length (members_after (table new.links) (covered new.links) r.after rest r.walked.shown r.walked.here),
       ),
     )
 
@@ -46,10 +46,10 @@ module _ {L E T : Type 0} {n : E → Neighbors} {table : L → Table E} {Trace :
         → {position : Option Place} → MovesOn (Represents n) table now position → Turns n table Trace objects tells start s now (site now.links now.head position)
     retains_kept {x} [] h there answered moves = absurd (none_not x (sym (ap (object_there objects) h.walked.here) ∙ there))
     retains_kept {x} (p ∷ rest) h there answered moves = turns h (record {
-      behind = h.behind ++ p ∷ [];
+      after = h.after ++ p ∷ [];
       gone = h.gone;
       walked = walk_leaves h.walked moves;
-      parted = λ k g parts. rw (append_assoc h.behind (p ∷ []) k) (h.parted (p ∷ k) g (inl (k, (x, sym (ap (object_there objects) h.walked.here) ∙ there, answered), refl, parts)));
+      parted = λ k g parts. rw (append_assoc h.after (p ∷ []) k) (h.parted (p ∷ k) g (inl (k, (x, sym (ap (object_there objects) h.walked.here) ∙ there, answered), refl, parts)));
       placed = h.placed.1;
     })
 
@@ -59,7 +59,7 @@ module _ {L E T : Type 0} {n : E → Neighbors} {table : L → Table E} {Trace :
         → {new : CursorState L Ends} {r : Option Place} → RemovesThere (Represents n) table Trace now r new → Turns n table Trace objects tells start s now new
     retains_gone does_on {x} [] h there answered removes = absurd (none_not x (sym (ap (object_there objects) h.walked.here) ∙ there))
     retains_gone does_on {x} (p ∷ rest) h there answered removes = turns h (record {
-      behind = h.behind;
+      after = h.after;
       gone = h.gone ++ p ∷ [];
       walked = walk_takes h.walked does_on removes;
       parted = λ k g parts. rw (append_assoc h.gone (p ∷ []) g) (h.parted k (p ∷ g) (inr (g, (x, sym (ap (object_there objects) h.walked.here) ∙ there, answered), refl, parts)));
@@ -70,5 +70,5 @@ module _ {L E T : Type 0} {n : E → Neighbors} {table : L → Table E} {Trace :
   pub retains_all : (ahead : List Place) → Retains n table Trace objects tells start s now ahead → object_there objects now.position ≡ None
       → (kept gone : List Place) × Parts (TellsOf objects tells) s kept gone × Represents n (table now.links) now.head kept × Trace start now.links (releases_each gone)
   retains_all [] h over =
-      (h.behind, h.gone, rw (append-nil h.behind, append-nil h.gone) at (h.parted [] [] (refl, refl)), rw (append-nil h.behind) at h.walked.shown, h.walked.steps)
+      (h.after, h.gone, rw (append-nil h.after, append-nil h.gone) at (h.parted [] [] (refl, refl)), rw (append-nil h.after) at h.walked.shown, h.walked.steps)
   retains_all (p ∷ rest) h over = absurd (true≢false (sym h.placed.0 ∙ ap is_some (sym (ap (object_there objects) h.walked.here) ∙ over)))

@@ -1,23 +1,23 @@
--- A table that is borrowed, as a table of links.
+-- A borrowed table as a table of links.
 use Rattle.std.specs.Prelude.{◌≡◌, ◌∷◌}
 use Rattle.std.specs.Borrow.{MutBor}
 use Rattle.ic_link_ops.specs.Tables.{Extent, Table, with_extent}
 use Rattle.uses.specs.declared.borrowed_table.BorrowedTable.{BorrowedTable}
 
 module _ {L : Type 0} where
-  -- the table after it
+  -- the table that is borrowed
   abbrev pub links_of : BorrowedTable L → L
   links_of t = t.links.now
 
-  -- it is this borrow, of a table that is as it was
+  -- the view has this borrow, of the same table
   abbrev pub IsBorrowed : MutBor L → BorrowedTable L → Type 0
   IsBorrowed links t = (t.links.ghost_name ≡ links.ghost_name) × (t.links.now ≡ links.now)
 
 module _ {L E : Type 0} (table : L → Table E) where
-  -- the name of the borrow tells it from other tables that are borrowed
+  -- the name of the borrow distinguishes the table from other borrowed tables
   abbrev pub named : BorrowedTable L → Extent
   named t = record { places = (table t.links.now).extent.places; identity = t.links.ghost_name ∷ (table t.links.now).extent.identity }
 
-  -- its entries are those of the table after it
+  -- its entries are those of the borrowed table
   abbrev pub borrowed : BorrowedTable L → Table E
   borrowed t = with_extent (named t) (table t.links.now)

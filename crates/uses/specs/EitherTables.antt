@@ -1,4 +1,4 @@
--- A table that is one of two, as a table of links.
+-- One of two tables, as a table of links.
 use Rattle.std.specs.Prelude.{◌≡◌, Bool, List, [], ◌∷◌, ◌++◌, ℕ}
 use Rattle.std.proofs.Common.{ap}
 use Rattle.ic_link_ops.specs.Prelude.{Place, Extent, Table, IsLinked, IsCovered, with_extent, LinkStep, TraceIs}
@@ -6,7 +6,7 @@ use Rattle.ic_link_ops.specs.StepLaws.{trace_within}
 use Rattle.uses.specs.declared.either_table.EitherTable.{EitherTable}
 use Rattle.uses.specs.declared.either_table.EitherTable.TheVariants.{First, Second}
 
--- the number of the variant tells the two apart
+-- the number of the variant distinguishes the two
 abbrev pub numbered : ℕ → Extent → Extent
 numbered n e = record { places = e.places; identity = n ∷ e.identity }
 
@@ -17,13 +17,13 @@ Alike R (First a) (Second b) x = ⊥
 Alike R (Second a) (First b) x = ⊥
 Alike R (Second a) (Second b) x = R a b x
 
--- which of the two it is
+-- which of the two tables it is
 abbrev pub variant : {L : Type 0} → EitherTable L → ℕ
 variant (First t) = 0
 variant (Second t) = 1
 
 module _ {L E : Type 0} (table : L → Table E) where
-  -- its entries are those of the table that it is
+  -- its entries are those of the variant that it contains
   abbrev pub one_of : EitherTable L → Table E
   one_of (First t) = with_extent (numbered 0 (table t).extent) (table t)
   one_of (Second t) = with_extent (numbered 1 (table t).extent) (table t)

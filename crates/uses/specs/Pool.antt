@@ -1,11 +1,11 @@
--- A pool that threads share: what taking an object out adds to a holder's record.
+-- A pool that threads share: what a call that takes an object adds to a holder's record.
 use Rattle.std.specs.Prelude.{◌≡◌, ℕ, ◌+◌, ◌<◌, List, [], ◌∷◌, ◌++◌, length}
 use Rattle.ic_link_ops.specs.Prelude.{Place, index_of}
 use Rattle.ic_atomic.specs.declared.step.Step.TheVariants.{Claim}
 use Rattle.ic_atomic.specs.declared.step.Event.{Event}
 use Rattle.ic_atomic.specs.Records.{event, HoldsAlso, HoldsTheSame}
 
--- one claim of each of these places, which found 1
+-- one claim of each of these places, which found the word 1, so that it was refused
 abbrev pub refusals : List Place → List Event
 refusals [] = []
 refusals (p ∷ ps) = event (Claim p) 1 ∷ refusals ps
@@ -15,14 +15,14 @@ abbrev pub IsRow : ℕ → List Place → Type 0
 IsRow from [] = Unit {0}
 IsRow from (p ∷ ps) = (index_of p ≡ from) × IsRow (from + 1) ps
 
--- so many first places were claimed, each once and in order, and each was refused
+-- the first `count` places were claimed, each once and in order, and every claim was refused
 pub record WereRefused (count : ℕ) (old new : List Event) : Type 0 where
   pub tried : List Place
   pub row : IsRow 0 tried
   pub count_is : length tried ≡ count
   pub gained : new ≡ old ++ refusals tried
 
--- THE PLACE WAS TAKEN OUT: all before it were refused, it was had, and the holder holds that one more
+-- A PLACE WAS TAKEN: the claims of all places before it were refused, its own succeeded, and the holder holds this place in addition
 pub record TakesOut (places : ℕ) (old new : List Event) (place : Place) : Type 0 where
   pub inside : index_of place < places
   pub refused : List Event
@@ -30,7 +30,7 @@ pub record TakesOut (places : ℕ) (old new : List Event) (place : Place) : Type
   pub had : new ≡ refused ++ event (Claim place) 0 ∷ []
   pub held : HoldsAlso old new place
 
--- NOTHING WAS TAKEN OUT: each place was refused, and the holder holds what it held
+-- NOTHING WAS TAKEN: the claim of every place was refused, and the holder holds what it held before
 pub record TakesNone (places : ℕ) (old new : List Event) : Type 0 where
   pub refused : WereRefused places old new
   pub held : HoldsTheSame old new

@@ -1,4 +1,4 @@
--- What a thread needs that claims a place, and what it brings back.
+-- What a thread that claims a place needs, and what it returns.
 use Rattle.std.specs.Prelude.{◌≡◌, ◌<◌, Bool, if◌then◌else◌, [], ◌∷◌, ◌++◌}
 use Rattle.ic_link_ops.specs.Prelude.{Place, index_of}
 use Rattle.ic_atomic.specs.declared.step.Step.TheVariants.{Claim}
@@ -12,7 +12,7 @@ pub record CanClaim {A : Type 0} (claims : Claims A) (place : Place) (holder : H
   pub inside : index_of place < places_of claims
   pub made : IsOf claims holder
 
--- the holder has its old record, and after that a claim of the place that was answered so
+-- the holder's record is extended by a claim of the place with this result
 pub record HasClaimed {A : Type 0} (claims : Claims A) (place : Place) (old new : Holder) (answer : Bool) : Type 0 where
   pub made : IsOf claims new
   pub step : record_of new ≡ record_of old ++ event (Claim place) (if answer then 0 else 1) ∷ []

@@ -4,7 +4,7 @@ use Rattle.ic_link_ops.specs.Prelude.{Place, IsAbsent, IsUnlinked}
 use Rattle.ic_link_ops.specs.Chains.{Ends}
 use Rattle.ic_link_ops.specs.DoublyEntries.{DoublyLinkOps, is_linked, plain_table, PlainRepresents}
 
--- THE LIST HAS ALL that the table links: s is represented for it, and no other place is linked
+-- THE LIST HAS ALL linked places of the table: the table represents s for it, and no other place is linked
 pub record HasAll {A : Type 0} (links : DoublyLinkOps A) (jobs : Ends) (s : List Place) : Type 0 where
   pub shown : PlainRepresents links jobs s
   pub only : (p : Place) → IsAbsent p s → IsUnlinked is_linked (plain_table links) p

@@ -14,7 +14,7 @@ use ic_link_ops::{AlreadyLinked, LinkOps};
 use ic_linked_list::LinkedList;
 use ic_unsafe_ref::{Place, UnsafeRef};
 
-/// A view of a table, for as long as it is borrowed. No call makes it a view of another one.
+/// A view of a table, for as long as it is borrowed. No call makes it a view of another table.
 pub struct BorrowedTable<'a, L> {
     links: &'a mut L,
 }
@@ -30,7 +30,7 @@ impl<L> Drop for BorrowedTable<'_, L> {
 impl<'a, L> BorrowedTable<'a, L> {
     ghost use Rattle.uses.specs.BorrowedTables.{IsBorrowed};
 
-    /// A view of the table. O(1).
+    /// Makes a view of the table. O(1).
     #[inline]
     pub fn new(links: &'a mut L) -> BorrowedTable<'a, L>
         ensures { IsBorrowed links.entry result }
@@ -105,10 +105,10 @@ impl<L: LinkedListOps> LinkedListOps for BorrowedTable<'_, L> {
     ghost linked_alike = { L.linked_alike };
 }
 
-/// Puts an unlinked object at the back of a list by a view of the table, and the table has then what the view showed.
+/// Inserts an unlinked object at the back of a list through a view of the table. Afterwards the table has the entries that the view had.
 ///
-/// It requires that the table covers the object's place and represents a sequence for the list. A linked object comes back, and
-/// no entry has changed. O(1).
+/// It requires that the table covers the object's place and represents a sequence for the list. If the object is already linked, the caller gets it
+/// back, and no entry has changed. O(1).
 pub fn push_back<T, L: LinkedListOps>(
     list: &mut LinkedList<T>,
     links: &mut L,

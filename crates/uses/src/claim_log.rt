@@ -1,4 +1,4 @@
-//! A check of a log of claims: were its calls answered as claims are?
+//! A check of a log of claims: it finds out whether the recorded results are those that claims return.
 //!
 //! ```text
 //! let mut core = Core::new(alloc, 100)?; // nobody holds any of the places
@@ -13,10 +13,10 @@ ghost use Rattle.ic_atomic.specs.LastChange.{answers_read_off, map_read_off};
 use ic_atomic::{Core, Step};
 use std::alloc::{AllocError, Allocator};
 
-/// Whether a log is right: each call, a party and what it asked, was told what the claims answer. O(calls).
+/// Returns whether a log is right: for each call, a party and what it did, the recorded result is the one that the claims return. O(calls).
 ///
-/// It requires that each call is on one of the core's places. The core says who holds them before the first call, and is left
-/// as the last one leaves it. `Err`: no memory was found for the answers, and the core is as it was.
+/// It requires that each call is on one of the core's places. The core has the holders before the first call, and afterwards those after the last
+/// call. `Err` means that there was not enough memory for the results, and then the core is as it was.
 pub fn is_right<A: Allocator>(
     alloc: A,
     core: &mut Core,

@@ -1,4 +1,4 @@
-//! A list dealt to two hands from its two ends, in turns.
+//! A list that is dealt to two hands, in turns from its front and its back.
 //!
 //! ```text
 //! deal::represent(&list, &links, &objects, &mut seen_first, &mut seen_last)?;
@@ -16,7 +16,7 @@ use ic_linked_list::LinkedList;
 use ic_unsafe_ref::{Objects, UnsafeRef};
 use std::alloc::{AllocError, Allocator};
 
-// Deals what a walk gives, the front's first, until an end gives nothing. Only a hand with no room left stops it before.
+// Deals the items of a walk, first from the front, until an end returns nothing. It stops earlier only if a hand has no room left.
 fn in_turns<I: DoubleEndedIterator + Drop, A: Allocator>(
     mut walk: I,
     fronts: &mut Vec<I::Item, A>,
@@ -47,9 +47,9 @@ where
 
 /// Deals the members of a list to two hands, one from its front and one from its back in turns, until none is left.
 ///
-/// It requires that the table represents a sequence for the list. Each member is unlinked as it is dealt. Where a hand has no room
-/// left and no memory to grow, those dealt so far are unlinked, and so is the one that the hand had no room for; the others
-/// stay linked. One step for each member, and memory for the hands alone.
+/// It requires that the table represents a sequence for the list. Each member is unlinked as it is dealt. If a hand cannot grow, the members dealt so
+/// far are unlinked, and so is the one for which the hand had no room. The others stay linked. It takes one step for each member, and memory only for
+/// the hands.
 pub fn deal<T, L: LinkedListOps, A: Allocator>(
     list: LinkedList<T>,
     links: &mut L,
@@ -71,8 +71,8 @@ pub fn deal<T, L: LinkedListOps, A: Allocator>(
 
 /// Deals the objects of a list out to two hands, one from its front and one from its back in turns, until all are dealt.
 ///
-/// It requires that the table represents a sequence for the list, whose members are placed. Where a hand has no room left and no
-/// memory to grow, the hands have those represented so far. One step for each member, and memory for the hands alone.
+/// It requires that the table represents a sequence for the list, whose members are placed. If a hand cannot grow, the hands have the objects dealt
+/// so far. It takes one step for each member, and memory only for the hands.
 pub fn show<'a, T, L: LinkedListOps, A: Allocator, B: Allocator>(
     list: &LinkedList<T>,
     links: &'a L,

@@ -1,4 +1,4 @@
-//! A table that is one of two of a kind, as where a program picks one of them when it runs.
+//! One of two tables, for a program that chooses between them when it runs.
 //!
 //! ```text
 //! let mut links = EitherTable::Second(large);
@@ -14,7 +14,7 @@ use ic_link_ops::{AlreadyLinked, LinkOps};
 use ic_linked_list::LinkedList;
 use ic_unsafe_ref::{Place, UnsafeRef};
 
-/// One of two tables of links. No call makes it the other one.
+/// One of two tables of links. No call changes which one it is.
 #[derive(Drop)]
 pub enum EitherTable<L> {
     /// The first of the two.
@@ -108,10 +108,10 @@ impl<L: LinkedListOps> LinkedListOps for EitherTable<L> {
 impl<L: LinkedListOps> EitherTable<L> {
     ghost use Rattle.uses.specs.EitherTables.{one_of, variant, Alike};
 
-    /// Puts an unlinked object at the back of a list whose links this table has; it is the same one of the two then.
+    /// Inserts an unlinked object at the back of a list whose links this table has. Afterwards it is still the same one of the two.
     ///
-    /// It requires that the table covers the object's place and represents a sequence for the list. A linked object comes back,
-    /// and no entry has changed. O(1).
+    /// It requires that the table covers the object's place and represents a sequence for the list. If the object is already linked, the caller gets
+    /// it back, and no entry has changed. O(1).
     pub fn push_back<T>(
         &mut self,
         list: &mut LinkedList<T>,

@@ -1,4 +1,4 @@
-//! The first objects: two values are placed and linked into a list, walked there, and the first is taken out again.
+//! A first example: it places two values, links them into a list, walks over them, and removes the first again.
 //!
 //! ```text
 //! let (seen, taken, left) = first_objects(rt.alloc(), 10, 20)?; // [10, 20], 10, Some(20)
@@ -16,10 +16,10 @@ use thiserror::Error;
 /// Why an object was not placed.
 #[derive(Clone, Copy, PartialEq, Eq, Debug, Error)]
 pub enum ObjectsError {
-    /// There was no memory, for the object, for its link or for what was asked of it.
+    /// There was not enough memory for the object, for its link or for the values that were read.
     #[error("OutOfMemory")]
     OutOfMemory,
-    /// There is no place left.
+    /// All places are in use.
     #[error("NoPlaceLeft")]
     NoPlaceLeft,
 }
@@ -45,11 +45,11 @@ impl<T: Drop> From<PlaceError<T>> for ObjectsError {
     }
 }
 
-/// Places two values and links them into a list, and returns what a walk sees there, what is taken out, and which value
-/// is first then.
+/// Places two values and links them into a list. It returns the values that a walk sees there, the value that it then removes, and the one that is
+/// first afterwards.
 ///
-/// It makes the objects, the table and the list, and they are gone when it returns. Where no memory is found, or no place
-/// is left, that is the answer, and nothing remains either. No link is refused. O(1).
+/// It makes the objects, the table and the list, and drops them when it returns. If memory runs out or all places are in use, it returns that, and
+/// nothing remains either. No link is refused. O(1).
 #[tactic(auto, using(ic_linked_list::proofs::ListedValues::has_placed))]
 pub fn first_objects<A: Allocator + Copy>(
     alloc: A,

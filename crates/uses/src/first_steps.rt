@@ -1,4 +1,4 @@
-//! The first steps: two objects pushed into a new list, and a cursor on the first of them.
+//! First steps: two objects are pushed into a new list, and a cursor moves to the first of them.
 //!
 //! ```text
 //! let position = first_steps(links, first, second)?; // Some(first)
@@ -14,10 +14,10 @@ use ic_linked_list::LinkedList;
 use ic_unsafe_ref::{Place, UnsafeRef};
 use std::alloc::Allocator;
 
-/// Pushes two objects into a new list, and returns where a cursor stands that has moved once: on the first of them.
+/// Pushes two objects into a new list, moves a new cursor once, and returns the object that it is then on: the first of the two.
 ///
-/// It requires that the table covers both places, and uses the table up. An object that is linked already, or pushed twice,
-/// comes back. O(1), and it takes no memory.
+/// It requires that the table covers both places, and consumes the table. If an object is linked already, or pushed twice, the caller gets it back.
+/// O(1), and it takes no memory.
 pub fn first_steps<T, A: Allocator>(
     mut links: LinkOps<A>,
     first: UnsafeRef<T>,

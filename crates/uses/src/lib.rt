@@ -1,4 +1,4 @@
-//! Uses of the collections and of claims, as a caller writes them: each with a contract, and run by a test.
+//! Uses of the collections and of claims, as a caller writes them: each with a contract, and a test that runs it.
 #![tactic(auto)]
 
 pub mod borrowed_table;

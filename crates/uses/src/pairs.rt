@@ -15,7 +15,7 @@ use ic_linked_list::LinkedList;
 use ic_unsafe_ref::{Objects, Place, UnsafeRef};
 use std::alloc::Allocator;
 
-/// The two places, the one with the smaller index first. O(1).
+/// Returns the two places, the one with the smaller index first. O(1).
 pub fn in_order(first: Place, second: Place) -> (Place, Place)
     ensures sorted { index_of result.0 ≤ index_of result.1 }
     ensures same { ((result.0 ≡ first) × (result.1 ≡ second)) ⊎ ((result.0 ≡ second) × (result.1 ≡ first)) }
@@ -28,7 +28,7 @@ pub fn in_order(first: Place, second: Place) -> (Place, Place)
     }
 }
 
-/// The two objects of a list that has two, `None` where it has another number of them. O(1).
+/// Returns the two objects of a list of two, or `None` if the list has another number of objects. O(1).
 ///
 /// It requires that the table represents a sequence for the list, whose members are placed.
 pub fn both<'a, T, L: LinkedListOps, A: Allocator>(
@@ -51,7 +51,7 @@ pub fn both<'a, T, L: LinkedListOps, A: Allocator>(
     Some((first, second))
 }
 
-/// The larger of the two numbers of a list that has two, `None` where it has another number of them. O(1).
+/// Returns the larger of the two numbers of a list of two, or `None` if the list has another number of members. O(1).
 ///
 /// It requires what [`both`] does.
 pub fn larger<L: LinkedListOps>(
@@ -69,10 +69,10 @@ pub fn larger<L: LinkedListOps>(
     Some((*first).max(*second))
 }
 
-/// Takes the two members of a list that has two off it, `None` where it has another number of them. O(1).
+/// Removes and returns the two members of a list of two, or returns `None` if the list has another number of members. O(1).
 ///
-/// It requires that the table represents a sequence for the list. Of a list with another number of members those that came off,
-/// three at most, are unlinked, and the others stay linked.
+/// It requires that the table represents a sequence for the list. If the list has another number of members, it has removed and unlinked at most
+/// three of them, and the others stay linked.
 pub fn take_both<T, L: LinkedListOps>(
     list: LinkedList<T>,
     links: &mut L,

@@ -1,4 +1,4 @@
-//! Two threads claim one place, and just one of them is told that it holds the place.
+//! Two threads claim the same place, and exactly one of the claims returns true.
 //!
 //! ```text
 //! let (claims, mut holders) = Claims::new(rt.alloc(), 1000, 2)?;
@@ -16,7 +16,7 @@ use ic_unsafe_ref::Place;
 use std::thread;
 use std::thread::Threads;
 
-// A claim by a holder that a thread takes along and brings back.
+// A claim by a holder, which a thread takes along and returns.
 fn claim_by(claims: &Claims, mut holder: Holder, place: Place) -> (Holder, bool)
     requires { CanClaim claims.now place holder }
     ensures { HasClaimed claims.now place holder result.0 result.1 }
@@ -25,17 +25,15 @@ fn claim_by(claims: &Claims, mut holder: Holder, place: Place) -> (Holder, bool)
     (holder, is_claimed)
 }
 
-/// Lets two threads claim one place, each by a holder of its own, and returns what the first and the second holder were
-/// told: just one of them, that it holds the place now.
+/// Lets two threads claim the same place, each with its own holder, and returns the results of both claims. Exactly one of them is true: that holder
+/// now holds the place.
 ///
-/// That is so in whatever order the threads come to the place, and which of the two it is is left open. No contract of
-/// `claim` alone says it, since each call speaks of its own caller: it is `audit` that puts both records together. Were
-/// both told true, both would hold the place, and no place is held by two. Were both told false, somebody would hold
-/// it, and nobody does.
+/// This holds in whatever order the threads come to the place, and it is left open which of the two gets it. The contract of `claim` alone does not
+/// state it, since each call only speaks of its own caller: `audit` brings both records together. If both results were true, both holders would hold
+/// the place, but no place has two holders. If both were false, another holder would hold it, but nobody does.
 ///
-/// It requires that the two are all holders of the claims, and that neither holds the place. The holders come back, each
-/// with what it was told: it holds the place exactly if the answer is true. O(1), and it takes no memory but that of
-/// one more thread; where none can be started, this thread makes both claims.
+/// It requires that the two are the only holders of the claims, and that neither holds the place. Afterwards each holder holds the place exactly if
+/// its result is true. O(1). It takes no memory except that of one more thread. If that thread cannot be started, this thread makes both claims.
 pub fn race<R: Threads + Sync>(
     rt: &R,
     claims: &Claims,

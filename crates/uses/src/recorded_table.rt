@@ -1,4 +1,4 @@
-//! A table that notes each of its link steps, as for a log, or to see what a collection does.
+//! A table that records each of its link steps, for a log, or to see what a collection does.
 //!
 //! ```text
 //! let mut links = RecordedTable::new(links, recorder);
@@ -18,7 +18,7 @@ use ic_link_ops::{AlreadyLinked, LinkOps};
 use ic_linked_list::LinkedList;
 use ic_unsafe_ref::{Place, UnsafeRef};
 
-/// A link step of a table, or a try that was refused.
+/// A link step of a table, or an attempt that was refused.
 #[derive(Clone, Copy, PartialEq, Eq, Debug)]
 pub enum Note {
     /// The place was linked.
@@ -29,7 +29,7 @@ pub enum Note {
     Released(Place),
 }
 
-/// What keeps notes.
+/// Something that stores notes.
 pub trait Recorder {
     // The notes so far.
     ghost notes: { Self → List Note };
@@ -39,7 +39,7 @@ pub trait Recorder {
         ensures { notes self.new ≡ notes self.old ++ note ∷ [] };
 }
 
-/// A table of links that notes each link step, and each that was refused, in order.
+/// A table of links that records each link step, and each refused one, in order.
 #[derive(Drop)]
 pub struct RecordedTable<L, R> {
     links: L,
@@ -117,7 +117,7 @@ impl<L: LinkedListOps, R: Recorder> LinkedListOps for RecordedTable<L, R> {
 impl<L: LinkedListOps, R: Recorder> RecordedTable<L, R> {
     ghost use Rattle.uses.specs.RecordedTables.{links_of, notes_of};
 
-    /// A table that notes its steps from now on.
+    /// Makes a table that records its steps from now on.
     pub fn new(links: L, recorder: R) -> RecordedTable<L, R>
         ensures links { links_of result ≡ links }
         ensures notes { notes_of R.notes result ≡ R.notes recorder }
@@ -125,14 +125,14 @@ impl<L: LinkedListOps, R: Recorder> RecordedTable<L, R> {
         RecordedTable { links, recorder }
     }
 
-    /// The recorder, with its notes.
+    /// Returns the recorder, with its notes.
     pub fn recorder(&self) -> &R
         ensures { R.notes result.now ≡ notes_of R.notes self.now }
     {
         &self.recorder
     }
 
-    /// Takes the first object off a list: one note is added, that this object was released. `None` adds none. O(1).
+    /// Removes the first object of a list, and adds one note, that this object was released. If it returns `None`, it adds no note. O(1).
     ///
     /// It requires that the table represents a sequence for the list.
     pub fn pop_front<T>(&mut self, list: &mut LinkedList<T>) -> Option<UnsafeRef<T>>
@@ -147,7 +147,7 @@ impl<L: LinkedListOps, R: Recorder> RecordedTable<L, R> {
         list.pop_front(self)
     }
 
-    /// Puts an object at the back of a list: one note is added, that it was acquired, or that it was refused. O(1).
+    /// Inserts an object at the back of a list, and adds one note, that its link was acquired or refused. O(1).
     ///
     /// It requires that the table covers the object's place and represents a sequence for the list.
     pub fn push_back<T>(
@@ -167,7 +167,7 @@ impl<L: LinkedListOps, R: Recorder> RecordedTable<L, R> {
         list.push_back(self, object)
     }
 
-    /// Clears a list: each member is noted as released, in order, and nothing else is. One step for each member.
+    /// Clears a list, and adds a note for each member that it was released, in order, and no other note. It takes one step for each member.
     ///
     /// It requires that the table represents a sequence for the list.
     pub fn clear<T>(&mut self, list: &mut LinkedList<T>)

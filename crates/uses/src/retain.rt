@@ -1,4 +1,4 @@
-//! A list that keeps what passes a test: one walk, which takes members off on its way.
+//! A list that keeps the members that pass a test. One walk removes the others on its way.
 //!
 //! ```text
 //! retain::retain(&mut sessions, &mut links, &objects, |session| session.is_alive());
@@ -15,10 +15,10 @@ use ic_linked_list::LinkedList;
 use ic_unsafe_ref::Objects;
 use std::alloc::Allocator;
 
-/// Takes off each member whose object fails the test. The others stay, in their order.
+/// Removes each member whose object fails the test. The others stay, in their order.
 ///
-/// It requires that the table represents a sequence for the list, whose members are placed. The test is asked once for each member,
-/// from the front. What was taken off is unlinked, and stays placed. One step for each member, and no memory.
+/// It requires that the table represents a sequence for the list, whose members are placed. It calls the test once for each member, from the front.
+/// The removed objects are unlinked, but keep their places. It takes one step for each member, and no memory.
 pub fn retain<T, L: LinkedListOps, A: Allocator, F: Fn(&T) -> bool>(
     list: &mut LinkedList<T>,
     links: &mut L,

@@ -1,5 +1,5 @@
-//! A ring of nodes that share out keys by consistent hashing: a key belongs to the first node at its hash or above it. After the
-//! last node the ring goes on with the first.
+//! A ring of nodes that share out keys by consistent hashing: a key belongs to the first node whose point is at least its hash. After the last node
+//! the ring continues with the first.
 //!
 //! ```text
 //! let mut hand = ring::owner_of(ring, &links, &objects, hash); // on the node that the key belongs to
@@ -7,7 +7,7 @@
 //! let (left, hand) = ring::leave(hand.into_inner(), &mut links, &objects, 70); // and on the node that gets its keys
 //! ```
 //!
-//! Each call takes the ring and returns a hand: a cursor that keeps the ring, and stands on a node.
+//! Each call takes the ring and returns a hand, which is a cursor on a node that owns the ring.
 
 ghost use Rattle.std.specs.Prelude.{◌≡◌, List, filter};
 ghost use Rattle.ic_link_ops.specs.Prelude.{Place, first, site, IsValidCursor};
@@ -26,13 +26,13 @@ use ic_unsafe_ref::{Objects, UnsafeRef};
 /// A node of the ring.
 #[derive(Copy, Clone, Debug)]
 pub struct Node {
-    /// Where it stands. A server may have several nodes, at points of their own.
+    /// The point of the node on the ring. A server may have several nodes, each with its own point.
     pub point: u64,
-    /// The server that it is of, as the caller numbers it.
+    /// The number of its server, as the caller numbers them.
     pub server: u64,
 }
 
-/// NodeStore stand by their points.
+/// Orders nodes by their points.
 #[derive(Copy, Clone)]
 pub struct ByPoint;
 
@@ -49,9 +49,9 @@ impl KeyAdapter for ByPoint {
     }
 }
 
-/// The ring, with a hand on the node that a key of this hash belongs to, null in an empty ring. O(log n).
+/// Returns the ring, with its hand on the node to which a key with this hash belongs, or at null in an empty ring. O(log n).
 ///
-/// It requires that the nodes are placed and stand in the order of their points.
+/// It requires that the nodes are objects, and sorted by their points.
 pub fn owner_of<L: RBTreeOps>(
     ring: RBTree<ByPoint>,
     links: &L,
@@ -72,7 +72,7 @@ pub fn owner_of<L: RBTreeOps>(
     hand
 }
 
-/// The ring, with a hand on the node before this hash, null in an empty ring. O(log n).
+/// Returns the ring, with its hand on the last node before this hash, or at null in an empty ring. O(log n).
 ///
 /// A node that joins at the hash gets the keys between the two. It requires what [`owner_of`] requires.
 pub fn node_before<L: RBTreeOps>(
@@ -95,10 +95,10 @@ pub fn node_before<L: RBTreeOps>(
     hand
 }
 
-/// Takes the first node at this hash off the ring, and returns it with the ring. O(log n).
+/// Removes the first node at this hash from the ring, and returns the node with the ring. O(log n).
 ///
-/// It requires what [`owner_of`] requires. The node is unlinked then, and stays placed. The hand is on the node after it, which
-/// gets its keys; it is null if it was the last. `None`: no node is there, the hand is null, and nothing has changed.
+/// It requires what [`owner_of`] requires. The node is then unlinked, but keeps its place. The hand is on the node after it, which gets its keys, or
+/// at null if it was the last in the order of points. `None` means that there is no such node: then the hand is at null, and nothing has changed.
 pub fn leave<L: RBTreeOps>(
     ring: RBTree<ByPoint>,
     links: &mut L,

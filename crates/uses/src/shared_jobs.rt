@@ -1,4 +1,4 @@
-//! Jobs that workers share: each worker has a list of those that it has claimed.
+//! Jobs that workers share: each worker has a list of the jobs that it has claimed.
 //!
 //! ```text
 //! jobs.push_back(&mut links, job)?; // Err: a worker has claimed it
@@ -18,10 +18,10 @@ use ic_atomic::linked_list::AtomicLinkOps;
 use ic_linked_list::LinkedList;
 use ic_unsafe_ref::UnsafeRef;
 
-/// Gives a job up that this worker has claimed: it comes off the worker's list, and any worker can claim it. O(1).
+/// Gives up a job that this worker has claimed: removes it from the worker's list, so that any worker can claim it. O(1).
 ///
-/// It requires that the job's place is covered, and that the list has all that the table links, which is so still. It takes no
-/// memory, and waits for nobody. `false`: this worker has not claimed the job, and nothing has changed.
+/// It requires that the table covers the job's place, and that the list has all linked places of the table, as it does afterwards, too. It takes no
+/// memory, and waits for nobody. `false` means that this worker has not claimed the job, and then nothing has changed.
 pub fn give_up<T>(jobs: &mut LinkedList<T>, links: &mut AtomicLinkOps, job: &UnsafeRef<T>) -> bool
     requires covered { IsCovered (plain_table (links_of links.old)) job.now }
     requires jobs { (s : List Place) × HasAll (links_of links.old) jobs.old s }

@@ -1,4 +1,4 @@
-//! A pool of objects that threads share: each thread takes an object out, and gives it back, with no lock.
+//! A pool of objects that threads share. Each thread takes objects and gives them back, without a lock.
 //!
 //! ```text
 //! if let Some(place) = shared_pool::take(&claims, &mut holder) {
@@ -18,12 +18,12 @@ use ic_atomic::{Claims, Holder};
 use ic_unsafe_ref::Place;
 use std::alloc::Allocator;
 
-/// Takes an object out of the pool: the first of its places that nobody holds as this holder comes by. `None`: somebody held
-/// each of them as it was tried.
+/// Takes an object from the pool: the first of its places that nobody holds when this holder tries it. `None` means that each place was held by
+/// somebody when it was tried.
 ///
-/// The pool is the claims' places. It requires that these are no more than places can be, and that the holder was made with the
-/// claims. Nobody else takes that object out until this holder gives it back. One claim a place that is tried: O(places), no
-/// memory, and it waits for nobody.
+/// The pool consists of the claims' places. It requires that there are at most 4,294,967,296 of them, and that the holder was made with the claims.
+/// Nobody else takes the object until this holder gives it back. It makes one claim for each place that it tries, in O(places). It takes no memory,
+/// and waits for nobody.
 pub fn take<A: Allocator>(claims: &Claims<A>, holder: &mut Holder) -> Option<Place>
     requires small { places_of claims.now ≤ 4294967296 }
     requires made { IsOf claims.now holder.old }
@@ -41,9 +41,9 @@ pub fn take<A: Allocator>(claims: &Claims<A>, holder: &mut Holder) -> Option<Pla
     None
 }
 
-/// Gives an object back, which any thread may take out then.
+/// Gives an object back, so that any thread may take it.
 ///
-/// It requires that this holder has taken it out. One release, O(1), no memory.
+/// It requires that this holder has taken it. It makes one release, in O(1), and takes no memory.
 pub fn give_back<A: Allocator>(claims: &Claims<A>, holder: &mut Holder, place: Place)
     requires place { index_of place < places_of claims.now }
     requires made { IsOf claims.now holder.old }

@@ -5,7 +5,7 @@ use connections::{ConnectionTable, OpenError};
 use ic_hash_index::{HashIndex, empty_buckets};
 use ic_test_support::rationed::Rationed;
 
-// Two connections in two chains. What is open already is refused, and so is one where no memory is left.
+// Two connections in two chains. An id that is already open is refused, and so is a connection for which there is no memory.
 #[test]
 fn connections_by_a_hash_table(rt: HostRuntime) {
     let buckets = empty_buckets(rt.alloc(), 2).expect(&rt, "memory for buckets");

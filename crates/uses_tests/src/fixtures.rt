@@ -1,4 +1,4 @@
-//! What the tests stand on: tables of a few places, objects, and the comparison of places.
+//! What the tests share: tables of a few places, objects, and the comparison of places.
 
 ghost use Rattle.std.specs.Prelude.{◌≡◌, true};
 ghost use Rattle.ic_link_ops.specs.Prelude.{index_of, is_placed, IsCovered};
@@ -12,13 +12,13 @@ use std::alloc::Global;
 use std::fmt::Debug;
 use std::process::Abort;
 
-/// What the objects of a test are at first.
+/// The message of an assertion that the objects of a test are unlinked at first.
 pub(crate) const UNLINKED: &str = "objects that are linked nowhere";
 
-/// What a test has enough of.
+/// The message of an assertion that a test has enough memory.
 pub(crate) const MEMORY: &str = "memory";
 
-// Where no object is found: there is no place with that index.
+// The index that stands for no object: no place has it.
 const NONE: usize = Place::COUNT;
 
 /// Asserts that it is so.
@@ -34,7 +34,7 @@ pub(crate) fn index(place: Option<Place>) -> usize {
     }
 }
 
-/// The index of the place where an object stands, or `NONE`.
+/// Returns the index of an object's place, or `NONE`.
 pub(crate) fn index_of_object<T>(object: Option<UnsafeRef<T>>) -> usize {
     match object {
         Some(object) => object.place().index(),
@@ -51,7 +51,7 @@ pub(crate) fn covering<W: Words>(rt: &impl Abort, alloc: Global) -> PlainTable<W
     links
 }
 
-/// The reference to whatever stands at the place with that index.
+/// Returns the reference to the object at the place with this index.
 pub(crate) fn reference(rt: &impl Abort, index: usize) -> UnsafeRef<u64>
     ensures { index_of result ≡ index }
 {

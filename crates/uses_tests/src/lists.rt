@@ -22,7 +22,7 @@ use uses::{borrowed_table, deal, pairs};
 
 #[test]
 fn the_first_objects_need_memory(rt: HostRuntime) {
-    // The objects and the links can't do with less than two requests. The values seen ask once more, for no more than they need.
+    // The objects and the links need at least two requests for memory. The list of seen values makes one more, for no more than it needs.
     for request in 0..3 {
         let short = Rationed::new(rt.alloc(), request);
         let is_so = match first_objects(&short, 10, 20) {
@@ -70,7 +70,7 @@ fn two_members_come_off_a_table_that_is_one_of_two(rt: HostRuntime) {
     );
 }
 
-// So many of the objects, one after the other.
+// Makes a list of the first `members` objects, in their order.
 fn linked(
     rt: &impl Abort,
     links: &mut LinkOps,

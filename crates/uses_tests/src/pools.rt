@@ -1,4 +1,4 @@
-//! What stands over pools.
+//! Tests of the containers over pools.
 
 use crate::fixtures::check;
 use ic_link_ops::{linked_list, singly_linked_list};
@@ -82,7 +82,7 @@ fn timers_are_taken_by_deadline_and_called_off(rt: HostRuntime) {
 
 #[test]
 fn all_timers_that_are_due_are_taken_in_order(rt: HostRuntime) {
-    // The first request for more room is refused, so the earliest timer comes back.
+    // The first request for more room is refused, so the caller gets the earliest timer back.
     let short = Rationed::new(rt.alloc(), 0);
     let mut due = Vec::new(&short);
     let mut timers = Timers::new(rt.alloc());

@@ -23,7 +23,7 @@ use uses::shared_pool::{give_back, take};
 
 const ROUNDS: usize = 1000;
 
-// Takes an object out and gives it back, as often as there are rounds. Each time there has to be one.
+// Takes an object and gives it back, once for each round. Each time there must be one to take.
 fn visit(rt: &impl Abort, claims: &Claims, holder: &mut Holder)
     requires small { places_of claims.now ≤ 4294967296 }
     requires made { IsOf claims.now holder.old }
@@ -51,7 +51,7 @@ fn threads_claim_a_place_and_share_the_others(rt: HostRuntime) {
     check(&rt, first != second);
 }
 
-// Links of the last of these holders, none of which has made a step, over all places of the claims.
+// Makes links for the last of these holders, none of which has made a step, over all places of the claims.
 fn next_links<'c>(
     rt: &impl Abort,
     alloc: Global,

@@ -7,7 +7,7 @@ use ic_test_support::rationed::Rationed;
 use scheduler::timer_queue::{ByDeadline, HasDeadline, cancel, schedule, take_all_due, take_due};
 use uses::ring::{ByPoint, Node, leave, node_before, owner_of};
 
-// What waits for its deadline.
+// A value that waits for its deadline.
 #[derive(Copy, Clone, Debug)]
 struct Timer {
     deadline: u64,
@@ -34,7 +34,7 @@ fn the_earliest_timer_is_taken_first(rt: HostRuntime) {
     let objects = placed(&rt, rt.alloc(), &TIMERS);
     let mut links: LinkOps = covering(&rt, rt.alloc());
     let mut timers = RBTree::new(ByDeadline::new());
-    // they stand as 1, 3, 4, 2, 0: of the two at 20 the last place is scheduled first
+    // their order is 1, 3, 4, 2, 0: of the two at 20 the last place is scheduled first
     for index in [4, 1, 0, 3, 2] {
         let timer = object(&rt, &links, &objects, index);
         schedule(&mut timers, &mut links, &objects, timer).expect(&rt, UNLINKED);
@@ -74,7 +74,7 @@ const NODES: [Node; 3] = [
     },
 ];
 
-// Hashes, the places of the nodes that their keys belong to, and those of the nodes before them.
+// Hashes, the places of the nodes to which their keys belong, and the places of the nodes before these.
 const OWNERS: [(u64, usize, usize); 8] = [
     (0, 1, 0),
     (10, 1, 0),

@@ -5,7 +5,7 @@ use ic_unsafe_ref::Place;
 use ic_world::Kind;
 use std::alloc::Global;
 
-// How many of the first four places a new table of the kind tells to be unlinked, where it was made to cover three.
+// Returns how many of the first four places are unlinked in a new table of this kind that covers three.
 fn unlinked_of_three(alloc: Global, kind: Kind) -> usize {
     let mut links = AnyTable::new(alloc, kind);
     let _ = links.cover(3);

@@ -1,4 +1,4 @@
-//! What the laws of a world are good for: the proof of each function needs one.
+//! Uses of the laws of a world: the proof of each function needs one of them.
 
 ghost use Rattle.std.specs.Prelude.{◌≡◌, ◌≢◌, ◌≤◌, ◌++◌, [], ◌∷◌, List, true, Some, IfSome, IsTrue, length};
 ghost use Rattle.std.specs.FinSet as set;
@@ -14,7 +14,7 @@ use ic_unsafe_ref::Place;
 use ic_world::{Answer, Call, Command, Gap, Insertion, Kind, Refusal, Search, World};
 use std::alloc::Allocator;
 
-/// Makes a call, and where it is refused once more, as if the first had not been made.
+/// Makes a call, and if it is refused makes it again, as if the first had not been made.
 fn made_again<A: KeyAdapter, M: Allocator + Copy>(
     world: &mut World<A, M>,
     command: Command<A::Value, A::Key>,
@@ -30,7 +30,7 @@ where
     }
 }
 
-/// Puts an object after all members of a list. `true`: it was linked in the list's field already, and all is as it was.
+/// Inserts an object after all members of a list. `true`: it was linked in the list's field already, and all is as it was.
 fn was_linked<A: KeyAdapter, M: Allocator + Copy>(
     world: &mut World<A, M>,
     collection: usize,
@@ -49,7 +49,7 @@ where
     }
 }
 
-/// Puts an object into a tree by its key. `true`: it stands after all of its key that were inserted before.
+/// Inserts an object into a tree by its key, and returns whether it is after all members with the same key that were inserted before.
 fn put_last<A: KeyAdapter, M: Allocator + Copy>(
     world: &mut World<A, M>,
     tree: usize,
@@ -70,7 +70,7 @@ where
     }
 }
 
-/// How many members of a tree a find looks at: by the law, of three members at most four.
+/// Returns how many members of a tree a `find` compares: by the law, at most four for three members.
 fn looks_of_find<A: KeyAdapter, M: Allocator + Copy>(
     world: &mut World<A, M>,
     collection: usize,
@@ -106,7 +106,7 @@ fn both_represented<A: KeyAdapter, M: Allocator + Copy>(
     }
 }
 
-/// The members of a collection, at each of which an object stands.
+/// Returns the members of a collection, each of which is an object.
 fn members_placed<A: KeyAdapter, M: Allocator + Copy>(
     world: &World<A, M>,
     collection: usize,
@@ -121,7 +121,7 @@ fn members_placed<A: KeyAdapter, M: Allocator + Copy>(
     }
 }
 
-// Whether the tree's members have the values from 0 on, in this order.
+// Returns whether the tree's members have the values from 0 on, in this order.
 fn has_values_from_0(world: &World<OwnKey>, tree: usize) -> bool {
     let Some(members) = members_placed(world, tree) else {
         return false;
@@ -156,7 +156,7 @@ fn first_wrong(world: &mut World<OwnKey>) -> &'static str {
     else {
         return "a refused call, made again";
     };
-    // It goes on below the root, where the first member of the key may stand.
+    // The search goes on below the root, where the first member with the key may be.
     let Some(2) = looks_of_find(world, keyed, 1) else {
         return "a find of the root";
     };

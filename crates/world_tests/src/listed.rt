@@ -6,10 +6,10 @@ use ic_unsafe_ref::Place;
 use ic_world::{Answer, Command, Refusal, World};
 use std::alloc::{Allocator, Global};
 
-// The request to refuse where none is.
+// The number of the request to refuse if none is refused.
 const NONE: u64 = u64::MAX;
 
-// Which of a run's requests for memory is refused, the commands that are run, and the answers.
+// Rows: which of a run's requests for memory is refused, the commands of the run, and the answers.
 type List = (u64, &'static str, &'static str);
 
 const COMMANDS: &str = "\
@@ -20,7 +20,7 @@ const ANSWERS: &str = "\
 field 0\ncollection 0\nobject 0\nobject 1\nobject 2\nok\nitems 0\nok\nitems 1 0\nok\nitems 1 0 2\nobject 1\nitems 0 2\nobject 2\n\
 items 0\nobject 0\nitems\nnone\nnone\ncollection 1\n";
 
-// The first request of a run is for its answers: refused it refuses the run, which has changed nothing then.
+// The first request of a run is for its answers: if it is refused, so is the run, which then has changed nothing.
 const LISTS: &[List] = &[
     (0, COMMANDS, "no memory"),
     (NONE, COMMANDS, ANSWERS),
@@ -29,7 +29,7 @@ const LISTS: &[List] = &[
     (0, "", ""),
 ];
 
-// The commands of a text, in which they stand between semicolons, as far as there is memory for them.
+// Returns the commands of a text, which are separated by semicolons, as far as there is memory for them.
 pub(crate) fn commands_in(alloc: Global, text: &str) -> Vec<Command<u64, u64>> {
     let mut commands = Vec::new(alloc);
     for line in text.split("; ") {
@@ -40,7 +40,7 @@ pub(crate) fn commands_in(alloc: Global, text: &str) -> Vec<Command<u64, u64>> {
     commands
 }
 
-// The lines of the answers, as far as there is memory for them.
+// Returns the lines of the answers, as far as there is memory for them.
 pub(crate) fn lines_of<M: Allocator>(alloc: Global, answers: &[Answer<M>]) -> Vec<u8> {
     let mut lines = Vec::new(alloc);
     for answer in answers {
@@ -49,7 +49,7 @@ pub(crate) fn lines_of<M: Allocator>(alloc: Global, answers: &[Answer<M>]) -> Ve
     lines
 }
 
-// Whether the world answers the list so.
+// Returns whether the world answers the list like this.
 fn is_answered<'r>(
     alloc: Global,
     rationed: &'r Rationed,
@@ -68,7 +68,7 @@ fn is_answered<'r>(
     }
 }
 
-// Whether the lists are, one after the other.
+// Returns whether the world answers these lists like this, one after the other.
 fn are_answered<'r>(
     alloc: Global,
     rationed: &'r Rationed,
@@ -87,7 +87,7 @@ fn second_value(world: &World<OwnKey, &Rationed>) -> Option<u64> {
     world.objects().get(Place::new(1)?).copied()
 }
 
-// Whether a refused value comes back from a new world, which answers the lists then.
+// Returns whether a new world gives a refused value back, and then answers the lists.
 fn is_right(alloc: Global, lists: &[List]) -> bool {
     let rationed = Rationed::new(alloc, 0);
     let mut world = World::new(&rationed, OwnKey);

@@ -4,7 +4,7 @@ use ic_program::OwnKey;
 use ic_unsafe_ref::Place;
 use ic_world::{Bound, Kind, Refusal, World};
 
-// Whether the call found that place with so many looks.
+// Returns whether the call found this place with this many key comparisons.
 fn is_found(
     found: Result<(Option<Place>, u64), Refusal>,
     place: Option<Place>,
@@ -13,12 +13,12 @@ fn is_found(
     matches!(found, Ok((at, looked)) if at == place && looked == looks)
 }
 
-// Whether the entry is at that place, and whether a member had the key before.
+// Returns whether the entry is at that place, and whether a member had the key before.
 fn is_entry(entry: Result<(bool, Place, u64), Refusal>, had_key: bool, place: Place) -> bool {
     matches!(entry, Ok((had, at, _)) if had == had_key && at == place)
 }
 
-// The first thing that is not as it should be, where objects of the keys 3, 5, 5 and 8 at these places come to a tree. Nothing: the empty text.
+// Inserts objects with the keys 3, 5, 5 and 8 at these places into a tree, and returns the first result that is wrong, or the empty text.
 fn first_wrong_in_tree(world: &mut World<OwnKey>, tree: usize, places: [Place; 4]) -> &'static str {
     let [three, five, other_five, eight] = places;
     if world.insert(tree, three) != Ok(0) || world.insert(tree, five) != Ok(1) {
@@ -51,7 +51,7 @@ fn first_wrong_in_tree(world: &mut World<OwnKey>, tree: usize, places: [Place; 4
     ""
 }
 
-// The same, where the first three of them come to an XOR list.
+// The same for an XOR list, with the first three of the objects.
 fn first_wrong_in_xor(world: &mut World<OwnKey>, list: usize, places: [Place; 4]) -> &'static str {
     let [first, second, third, _] = places;
     for place in [first, second, third] {

@@ -60,7 +60,7 @@ pub(crate) fn done(status: u32) -> Result<(), Error> {
     }
 }
 
-/// What a call returned that hands out a member, if there is one.
+/// Makes a call that sets a member's number, and returns the member, or `None` if there is none.
 #[inline]
 pub(crate) fn handed_out(call: impl FnOnce(&mut u32) -> u32) -> Result<Option<u32>, Error> {
     let mut member = IC_NONE;

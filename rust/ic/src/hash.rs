@@ -120,7 +120,7 @@ pub fn insert(table: &mut [Link1], buckets: &mut [Stack], hash: u64, place: u32)
     done(unsafe { ic_hash_insert(links, places, buckets.as_mut_ptr().cast(), buckets.len(), hash, place) })
 }
 
-/// Removes `place` from the chain of `hash`, wherever it is in it, in O(members of the chain).
+/// Removes `place` from the chain of `hash`, wherever it is in that chain, in O(members of the chain).
 ///
 /// # Errors
 ///
@@ -166,7 +166,7 @@ pub fn next_equal(table: &[Link1], keys: &[u64], at: u32) -> Result<Option<u32>,
 
 /// Counts the members of all chains, and returns how many there are, in O(buckets + n). Call it if the words come from a file, or from
 /// memory that others write. `hashes` has the hash of each place. If it returns a number, each member is in the chain of its hash and in no
-/// other one, and each call does what it says of a hash table that the table holds.
+/// other chain, and every other call on this hash table does what the comment of that call says.
 ///
 /// # Errors
 ///
@@ -182,9 +182,10 @@ pub fn check(table: &[Link1], hashes: &[u64], buckets: &[Stack]) -> Result<u64, 
 }
 
 /// Moves all members of `chain`, a bucket of another array, each to the front of the chain of its hash, and leaves `chain` empty, in
-/// O(members of the chain). `hashes` has the hash of each place. Members that come into one bucket keep their order, and come before those
-/// that are there. So of moved members with one key a search still finds the one that was inserted last. Each place stays linked during the
-/// call. To grow or to shrink a hash table, make another array of buckets, and call this for each bucket of the old one.
+/// O(members of the chain). `hashes` has the hash of each place. Members that move to the same bucket keep their order, and come before the
+/// members that the bucket had. So of moved members with one key a search still finds the one that was inserted last. Each place stays
+/// linked during the call. To grow or to shrink a hash table, make another array of buckets, and make this call for each bucket of the old
+/// array.
 ///
 /// # Errors
 ///

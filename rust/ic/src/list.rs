@@ -178,8 +178,8 @@ impl List {
     /// # Errors
     ///
     /// [`Error::Null`] if the place `at` is `u32::MAX`. [`Error::OutOfRange`] if `at` or `place` is not below the table's length.
-    /// [`Error::Linked`] if `place` is linked already, also where `at` and `place` are the same. [`Error::NotLinked`] if the place `at` is
-    /// not linked. [`Error::Broken`] if `at` is no member of the list.
+    /// [`Error::Linked`] if `place` is linked already, also if `at` and `place` are the same. [`Error::NotLinked`] if the place `at` is not
+    /// linked. [`Error::Broken`] if `at` is no member of the list.
     #[inline]
     pub fn replace(&mut self, table: &mut [Link2], at: u32, place: u32) -> Result<(), Error> {
         let (links, places) = Link2::parts(table);
@@ -303,7 +303,7 @@ impl List {
     ///
     /// # Errors
     ///
-    /// [`Error::Broken`] if the links do not lead from the first member to the last, each to the next one and back.
+    /// [`Error::Broken`] if the links do not lead from the first member to the last, or the links of two neighbors do not name each other.
     #[inline]
     pub fn clear(&mut self, table: &mut [Link2]) -> Result<(), Error> {
         let (links, places) = Link2::parts(table);
@@ -340,8 +340,8 @@ impl List {
     }
 
     /// Counts the members, and returns how many there are, in O(n). Call it if the words come from a file, or from memory that others
-    /// write. If it returns a number, each call does what it says of a list that the table holds. It returns `None` if the links do not
-    /// lead from the first member to the last, each to the next one and back.
+    /// write. If it returns a number, every other call on this list does what the comment of that call says. It returns `None` if the links
+    /// do not lead from the first member to the last, or the links of two neighbors do not name each other.
     #[inline]
     #[must_use]
     pub fn check(&self, table: &[Link2]) -> Option<u64> {
@@ -355,7 +355,7 @@ impl List {
     /// # Errors
     ///
     /// [`Error::OutOfRange`] if there are fewer keys than places. [`Error::Broken`] if the links do not lead from the first member to the
-    /// last, each to the next one and back.
+    /// last, or the links of two neighbors do not name each other.
     #[inline]
     pub fn sort(&mut self, table: &mut [Link2], keys: &[u64]) -> Result<(), Error> {
         let (links, places) = Link2::parts(table);
@@ -369,7 +369,8 @@ impl List {
     /// # Errors
     ///
     /// [`Error::OutOfRange`] if there are fewer keys than places. [`Error::Broken`] if the links of one of the lists do not lead from its
-    /// first member to its last, each to the next one and back, or both lists begin with the same member, as a list and its copy do.
+    /// first member to its last, or the links of two neighbors do not name each other, or both lists begin with the same member, as a list
+    /// and its copy do.
     #[inline]
     pub fn merge(&mut self, table: &mut [Link2], keys: &[u64], given: &mut List) -> Result<(), Error> {
         let (links, places) = Link2::parts(table);
@@ -383,8 +384,8 @@ impl List {
     /// # Errors
     ///
     /// [`Error::Null`] if `place` is `u32::MAX`. [`Error::OutOfRange`] if `at` or `place` is not below the table's length.
-    /// [`Error::NotLinked`] if `at` or `place` is not linked. [`Error::Broken`] if `at` is no member of the list, or `place` is none of
-    /// `given`, or both lists begin with the same member, as a list and its copy do.
+    /// [`Error::NotLinked`] if `at` or `place` is not linked. [`Error::Broken`] if `at` is no member of the list, or `place` is no member
+    /// of `given`, or both lists begin with the same member, as a list and its copy do.
     #[inline]
     pub fn transfer_after(
         &mut self,
@@ -404,8 +405,8 @@ impl List {
     /// # Errors
     ///
     /// [`Error::Null`] if `place` is `u32::MAX`. [`Error::OutOfRange`] if `at` or `place` is not below the table's length.
-    /// [`Error::NotLinked`] if `at` or `place` is not linked. [`Error::Broken`] if `at` is no member of the list, or `place` is none of
-    /// `given`, or both lists begin with the same member, as a list and its copy do.
+    /// [`Error::NotLinked`] if `at` or `place` is not linked. [`Error::Broken`] if `at` is no member of the list, or `place` is no member
+    /// of `given`, or both lists begin with the same member, as a list and its copy do.
     #[inline]
     pub fn transfer_before(
         &mut self,

@@ -134,8 +134,8 @@ impl List32 {
     /// # Errors
     ///
     /// [`Error::Null`] if the place `at` is `u32::MAX`. [`Error::OutOfRange`] if `at` or `place` is not below the table's length, or is
-    /// 536,870,911 or more. [`Error::Linked`] if `place` is linked already, also where `at` and `place` are the same. [`Error::NotLinked`]
-    /// if the place `at` is not linked. [`Error::Broken`] if `at` is no member of the list.
+    /// 536,870,911 or more. [`Error::Linked`] if `place` is linked already, also if `at` and `place` are the same. [`Error::NotLinked`] if
+    /// the place `at` is not linked. [`Error::Broken`] if `at` is no member of the list.
     #[inline]
     pub fn replace(&mut self, table: &mut [Link2x32], at: u32, place: u32) -> Result<(), Error> {
         let (links, places) = Link2x32::parts(table);
@@ -249,7 +249,7 @@ impl List32 {
     ///
     /// # Errors
     ///
-    /// [`Error::Broken`] if the links do not lead from the first member to the last, each to the next one and back.
+    /// [`Error::Broken`] if the links do not lead from the first member to the last, or the links of two neighbors do not name each other.
     #[inline]
     pub fn clear(&mut self, table: &mut [Link2x32]) -> Result<(), Error> {
         let (links, places) = Link2x32::parts(table);
@@ -286,8 +286,8 @@ impl List32 {
     }
 
     /// Counts the members, and returns how many there are, in O(n). Call it if the words come from a file, or from memory that others
-    /// write. If it returns a number, each call does what it says of a list that the table holds. It returns `None` if the links do not
-    /// lead from the first member to the last, each to the next one and back.
+    /// write. If it returns a number, every other call on this list does what the comment of that call says. It returns `None` if the links
+    /// do not lead from the first member to the last, or the links of two neighbors do not name each other.
     #[inline]
     #[must_use]
     pub fn check(&self, table: &[Link2x32]) -> Option<u64> {
@@ -303,7 +303,7 @@ impl List32 {
     ///
     /// [`Error::Null`] if `place` is `u32::MAX`. [`Error::OutOfRange`] if `at` or `place` is not below the table's length, or is
     /// 536,870,911 or more. [`Error::NotLinked`] if `at` or `place` is not linked. [`Error::Broken`] if `at` is no member of the list, or
-    /// `place` is none of `given`, or both lists begin with the same member, as a list and its copy do.
+    /// `place` is no member of `given`, or both lists begin with the same member, as a list and its copy do.
     #[inline]
     pub fn transfer_after(
         &mut self,
@@ -324,7 +324,7 @@ impl List32 {
     ///
     /// [`Error::Null`] if `place` is `u32::MAX`. [`Error::OutOfRange`] if `at` or `place` is not below the table's length, or is
     /// 536,870,911 or more. [`Error::NotLinked`] if `at` or `place` is not linked. [`Error::Broken`] if `at` is no member of the list, or
-    /// `place` is none of `given`, or both lists begin with the same member, as a list and its copy do.
+    /// `place` is no member of `given`, or both lists begin with the same member, as a list and its copy do.
     #[inline]
     pub fn transfer_before(
         &mut self,

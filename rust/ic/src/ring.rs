@@ -67,7 +67,7 @@ pub fn init(table: &mut [Link2], head: u32) -> Result<(), Error> {
 /// # Errors
 ///
 /// [`Error::Null`] if the place `at` is `u32::MAX`. [`Error::OutOfRange`] if `at` or `place` is not below the table's length.
-/// [`Error::Linked`] if `place` is linked already, also where `at` and `place` are the same. [`Error::NotLinked`] if the place `at` is not
+/// [`Error::Linked`] if `place` is linked already, also if `at` and `place` are the same. [`Error::NotLinked`] if the place `at` is not
 /// linked. [`Error::Broken`] if `at` is in no ring.
 #[inline]
 pub fn insert_after(table: &mut [Link2], at: u32, place: u32) -> Result<(), Error> {
@@ -82,7 +82,7 @@ pub fn insert_after(table: &mut [Link2], at: u32, place: u32) -> Result<(), Erro
 /// # Errors
 ///
 /// [`Error::Null`] if the place `at` is `u32::MAX`. [`Error::OutOfRange`] if `at` or `place` is not below the table's length.
-/// [`Error::Linked`] if `place` is linked already, also where `at` and `place` are the same. [`Error::NotLinked`] if the place `at` is not
+/// [`Error::Linked`] if `place` is linked already, also if `at` and `place` are the same. [`Error::NotLinked`] if the place `at` is not
 /// linked. [`Error::Broken`] if `at` is in no ring.
 #[inline]
 pub fn insert_before(table: &mut [Link2], at: u32, place: u32) -> Result<(), Error> {
@@ -91,8 +91,8 @@ pub fn insert_before(table: &mut [Link2], at: u32, place: u32) -> Result<(), Err
     done(unsafe { ic_ring_insert_before(links, places, at, place) })
 }
 
-/// Removes `place` from its ring, whichever that is, as list_del of Linux does, in O(1). If `place` is a head without members, its ring is
-/// gone then.
+/// Removes `place` from its ring, whichever ring that is, as list_del of Linux does, in O(1). If `place` is a head without members, its
+/// ring no longer exists.
 ///
 /// # Errors
 ///
@@ -105,9 +105,10 @@ pub fn remove(table: &mut [Link2], place: u32) -> Result<(), Error> {
     done(unsafe { ic_ring_remove(links, places, place) })
 }
 
-/// Exchanges the places after `one` and after `other`, which are in rings, in O(1). If `one` and `other` are in two rings, the call joins
-/// the rings. If they are different places of one ring, it splits that ring into two. If you repeat the call, you undo it. If `one` is the
-/// last member of a ring and `other` the head of another one, all members of the second ring, and then its head, come after `one`.
+/// Exchanges the place that follows `one` and the place that follows `other`, in O(1). Both `one` and `other` are in rings. If `one` and
+/// `other` are in two rings, the call joins the rings. If they are different places of one ring, it splits that ring into two. If you
+/// repeat the call, you undo it. If `one` is the last member of a ring and `other` the head of another one, all members of the second ring,
+/// and then its head, come after `one`.
 ///
 /// # Errors
 ///
@@ -120,8 +121,8 @@ pub fn exchange(table: &mut [Link2], one: u32, other: u32) -> Result<(), Error> 
     done(unsafe { ic_ring_exchange(links, places, one, other) })
 }
 
-/// Removes the first member of the head `head`, and returns it, in O(1). It returns `None` if `head` is `u32::MAX`, or `head` has no
-/// members.
+/// Removes the first member of the ring with the head `head`, and returns it, in O(1). It returns `None` if `head` is `u32::MAX`, or `head`
+/// has no members.
 ///
 /// # Errors
 ///
@@ -134,8 +135,8 @@ pub fn pop_front(table: &mut [Link2], head: u32) -> Result<Option<u32>, Error> {
     handed_out(|it| unsafe { ic_ring_pop_front(links, places, head, it) })
 }
 
-/// Removes the last member of the head `head`, and returns it, in O(1). It returns `None` if `head` is `u32::MAX`, or `head` has no
-/// members.
+/// Removes the last member of the ring with the head `head`, and returns it, in O(1). It returns `None` if `head` is `u32::MAX`, or `head`
+/// has no members.
 ///
 /// # Errors
 ///
@@ -153,7 +154,7 @@ pub fn pop_back(table: &mut [Link2], head: u32) -> Result<Option<u32>, Error> {
 /// # Errors
 ///
 /// [`Error::Null`] if the place `at` is `u32::MAX`. [`Error::OutOfRange`] if `at` or `place` is not below the table's length.
-/// [`Error::Linked`] if `place` is linked already, also where `at` and `place` are the same. [`Error::NotLinked`] if the place `at` is not
+/// [`Error::Linked`] if `place` is linked already, also if `at` and `place` are the same. [`Error::NotLinked`] if the place `at` is not
 /// linked. [`Error::Broken`] if `at` is in no ring.
 #[inline]
 pub fn replace(table: &mut [Link2], at: u32, place: u32) -> Result<(), Error> {
@@ -190,14 +191,14 @@ pub fn move_before(table: &mut [Link2], at: u32, place: u32) -> Result<(), Error
     done(unsafe { ic_ring_move_before(links, places, at, place) })
 }
 
-/// Moves all members of the head `head`, in their order, after the place `at` of another ring, as list_splice_init of Linux does, in O(1).
-/// Afterwards `head` is the head of a ring with no members.
+/// Moves all members of the ring with the head `head`, in their order, after the place `at` of another ring, as list_splice_init of Linux
+/// does, in O(1). Afterwards `head` is the head of a ring with no members.
 ///
 /// # Errors
 ///
 /// [`Error::Null`] if `at` or `head` is `u32::MAX`. [`Error::OutOfRange`] if `at` or `head` is not below the table's length.
-/// [`Error::NotLinked`] if `at` or `head` is not linked. [`Error::Broken`] if `at` or `head` is in no ring, or `at` is that head itself or
-/// its last member.
+/// [`Error::NotLinked`] if `at` or `head` is not linked. [`Error::Broken`] if `at` or `head` is in no ring, or `at` is `head` itself or its
+/// last member.
 #[inline]
 pub fn splice_after(table: &mut [Link2], at: u32, head: u32) -> Result<(), Error> {
     let (links, places) = Link2::parts(table);
@@ -205,14 +206,14 @@ pub fn splice_after(table: &mut [Link2], at: u32, head: u32) -> Result<(), Error
     done(unsafe { ic_ring_splice_after(links, places, at, head) })
 }
 
-/// Moves all members of the head `head`, in their order, before the place `at` of another ring, as list_splice_tail_init of Linux does, in
-/// O(1). Afterwards `head` is the head of a ring with no members.
+/// Moves all members of the ring with the head `head`, in their order, before the place `at` of another ring, as list_splice_tail_init of
+/// Linux does, in O(1). Afterwards `head` is the head of a ring with no members.
 ///
 /// # Errors
 ///
 /// [`Error::Null`] if `at` or `head` is `u32::MAX`. [`Error::OutOfRange`] if `at` or `head` is not below the table's length.
-/// [`Error::NotLinked`] if `at` or `head` is not linked. [`Error::Broken`] if `at` or `head` is in no ring, or `at` is that head itself or
-/// its first member.
+/// [`Error::NotLinked`] if `at` or `head` is not linked. [`Error::Broken`] if `at` or `head` is in no ring, or `at` is `head` itself or its
+/// first member.
 #[inline]
 pub fn splice_before(table: &mut [Link2], at: u32, head: u32) -> Result<(), Error> {
     let (links, places) = Link2::parts(table);
@@ -220,13 +221,14 @@ pub fn splice_before(table: &mut [Link2], at: u32, head: u32) -> Result<(), Erro
     done(unsafe { ic_ring_splice_before(links, places, at, head) })
 }
 
-/// Counts the members of the head `head`, and returns how many there are, in O(n). Call it if the words come from a file, or from memory
-/// that others write. If it returns a number, each call does what it says of a ring that the table holds.
+/// Counts the members of the ring with the head `head`, and returns how many there are, in O(n). Call it if the words come from a file, or
+/// from memory that others write. If it returns a number, every other call on this ring does what the comment of that call says.
 ///
 /// # Errors
 ///
 /// [`Error::Null`] if `head` is `u32::MAX`. [`Error::OutOfRange`] if `head` is not below the table's length. [`Error::NotLinked`] if `head`
-/// is not linked. [`Error::Broken`] if the links do not lead from `head` around a ring and back to it, each to the next place and back.
+/// is not linked. [`Error::Broken`] if the links do not lead from `head` around a ring and back to `head`, or the links of two neighbors do
+/// not name each other.
 #[inline]
 pub fn check(table: &[Link2], head: u32) -> Result<u64, Error> {
     let (links, places) = Link2::read_parts(table);
@@ -234,13 +236,14 @@ pub fn check(table: &[Link2], head: u32) -> Result<u64, Error> {
     try_counted(|members| unsafe { ic_ring_check(links, places, head, members) })
 }
 
-/// Sorts the members of the head `head` by their keys, as list_sort of Linux does, in O(n log n). Members with equal keys keep their order.
+/// Sorts the members of the ring with the head `head` by their keys, as list_sort of Linux does, in O(n log n). Members with equal keys
+/// keep their order.
 ///
 /// # Errors
 ///
 /// [`Error::Null`] if `head` is `u32::MAX`. [`Error::OutOfRange`] if there are fewer keys than places, or `head` is not below the table's
 /// length. [`Error::NotLinked`] if `head` is not linked. [`Error::Broken`] if the links do not lead from `head` around a ring and back to
-/// it, each to the next place and back.
+/// `head`, or the links of two neighbors do not name each other.
 #[inline]
 pub fn sort(table: &mut [Link2], keys: &[u64], head: u32) -> Result<(), Error> {
     let (links, places) = Link2::parts(table);
@@ -248,14 +251,16 @@ pub fn sort(table: &mut [Link2], keys: &[u64], head: u32) -> Result<(), Error> {
     done(unsafe { ic_ring_sort(links, places, keys.as_ptr(), keys.len(), head) })
 }
 
-/// Moves all members of the head `given` to where their keys belong among those of the head `head`, if both rings are in the order of their
-/// keys, in O(n). Of members with equal keys, those of `head` come first. Afterwards `given` is the head of a ring with no members.
+/// Moves all members of the ring with the head `given` to where their keys belong among those of the ring with the head `head`, if both
+/// rings are in the order of their keys, in O(n). Of members with equal keys, those of `head` come first. Afterwards `given` is the head of
+/// a ring with no members.
 ///
 /// # Errors
 ///
 /// [`Error::Null`] if `head` or `given` is `u32::MAX`. [`Error::OutOfRange`] if there are fewer keys than places, or `head` or `given` is
 /// not below the table's length. [`Error::NotLinked`] if `head` or `given` is not linked. [`Error::Broken`] if the links do not lead from
-/// `head` or from `given` around a ring and back to it, each to the next place and back, or both are in one ring.
+/// `head` or from `given` around a ring and back to the same place, or the links of two neighbors do not name each other, or `head` and
+/// `given` are in one ring.
 #[inline]
 pub fn merge(table: &mut [Link2], keys: &[u64], head: u32, given: u32) -> Result<(), Error> {
     let (links, places) = Link2::parts(table);

@@ -43,8 +43,8 @@ pub fn init(table: &mut [Link2x32], head: u32) -> Result<(), Error> {
 /// # Errors
 ///
 /// [`Error::Null`] if the place `at` is `u32::MAX`. [`Error::OutOfRange`] if `at` or `place` is not below the table's length, or is
-/// 536,870,911 or more. [`Error::Linked`] if `place` is linked already, also where `at` and `place` are the same. [`Error::NotLinked`] if
-/// the place `at` is not linked. [`Error::Broken`] if `at` is in no ring.
+/// 536,870,911 or more. [`Error::Linked`] if `place` is linked already, also if `at` and `place` are the same. [`Error::NotLinked`] if the
+/// place `at` is not linked. [`Error::Broken`] if `at` is in no ring.
 #[inline]
 pub fn insert_after(table: &mut [Link2x32], at: u32, place: u32) -> Result<(), Error> {
     let (links, places) = Link2x32::parts(table);
@@ -58,8 +58,8 @@ pub fn insert_after(table: &mut [Link2x32], at: u32, place: u32) -> Result<(), E
 /// # Errors
 ///
 /// [`Error::Null`] if the place `at` is `u32::MAX`. [`Error::OutOfRange`] if `at` or `place` is not below the table's length, or is
-/// 536,870,911 or more. [`Error::Linked`] if `place` is linked already, also where `at` and `place` are the same. [`Error::NotLinked`] if
-/// the place `at` is not linked. [`Error::Broken`] if `at` is in no ring.
+/// 536,870,911 or more. [`Error::Linked`] if `place` is linked already, also if `at` and `place` are the same. [`Error::NotLinked`] if the
+/// place `at` is not linked. [`Error::Broken`] if `at` is in no ring.
 #[inline]
 pub fn insert_before(table: &mut [Link2x32], at: u32, place: u32) -> Result<(), Error> {
     let (links, places) = Link2x32::parts(table);
@@ -67,8 +67,8 @@ pub fn insert_before(table: &mut [Link2x32], at: u32, place: u32) -> Result<(), 
     done(unsafe { ic_ring32_insert_before(links, places, at, place) })
 }
 
-/// Removes `place` from its ring, whichever that is, as list_del of Linux does, in O(1). If `place` is a head without members, its ring is
-/// gone then.
+/// Removes `place` from its ring, whichever ring that is, as list_del of Linux does, in O(1). If `place` is a head without members, its
+/// ring no longer exists.
 ///
 /// # Errors
 ///
@@ -81,9 +81,10 @@ pub fn remove(table: &mut [Link2x32], place: u32) -> Result<(), Error> {
     done(unsafe { ic_ring32_remove(links, places, place) })
 }
 
-/// Exchanges the places after `one` and after `other`, which are in rings, in O(1). If `one` and `other` are in two rings, the call joins
-/// the rings. If they are different places of one ring, it splits that ring into two. If you repeat the call, you undo it. If `one` is the
-/// last member of a ring and `other` the head of another one, all members of the second ring, and then its head, come after `one`.
+/// Exchanges the place that follows `one` and the place that follows `other`, in O(1). Both `one` and `other` are in rings. If `one` and
+/// `other` are in two rings, the call joins the rings. If they are different places of one ring, it splits that ring into two. If you
+/// repeat the call, you undo it. If `one` is the last member of a ring and `other` the head of another one, all members of the second ring,
+/// and then its head, come after `one`.
 ///
 /// # Errors
 ///
@@ -96,8 +97,8 @@ pub fn exchange(table: &mut [Link2x32], one: u32, other: u32) -> Result<(), Erro
     done(unsafe { ic_ring32_exchange(links, places, one, other) })
 }
 
-/// Removes the first member of the head `head`, and returns it, in O(1). It returns `None` if `head` is `u32::MAX`, or `head` has no
-/// members.
+/// Removes the first member of the ring with the head `head`, and returns it, in O(1). It returns `None` if `head` is `u32::MAX`, or `head`
+/// has no members.
 ///
 /// # Errors
 ///
@@ -110,8 +111,8 @@ pub fn pop_front(table: &mut [Link2x32], head: u32) -> Result<Option<u32>, Error
     handed_out(|it| unsafe { ic_ring32_pop_front(links, places, head, it) })
 }
 
-/// Removes the last member of the head `head`, and returns it, in O(1). It returns `None` if `head` is `u32::MAX`, or `head` has no
-/// members.
+/// Removes the last member of the ring with the head `head`, and returns it, in O(1). It returns `None` if `head` is `u32::MAX`, or `head`
+/// has no members.
 ///
 /// # Errors
 ///
@@ -129,8 +130,8 @@ pub fn pop_back(table: &mut [Link2x32], head: u32) -> Result<Option<u32>, Error>
 /// # Errors
 ///
 /// [`Error::Null`] if the place `at` is `u32::MAX`. [`Error::OutOfRange`] if `at` or `place` is not below the table's length, or is
-/// 536,870,911 or more. [`Error::Linked`] if `place` is linked already, also where `at` and `place` are the same. [`Error::NotLinked`] if
-/// the place `at` is not linked. [`Error::Broken`] if `at` is in no ring.
+/// 536,870,911 or more. [`Error::Linked`] if `place` is linked already, also if `at` and `place` are the same. [`Error::NotLinked`] if the
+/// place `at` is not linked. [`Error::Broken`] if `at` is in no ring.
 #[inline]
 pub fn replace(table: &mut [Link2x32], at: u32, place: u32) -> Result<(), Error> {
     let (links, places) = Link2x32::parts(table);
@@ -166,14 +167,14 @@ pub fn move_before(table: &mut [Link2x32], at: u32, place: u32) -> Result<(), Er
     done(unsafe { ic_ring32_move_before(links, places, at, place) })
 }
 
-/// Moves all members of the head `head`, in their order, after the place `at` of another ring, as list_splice_init of Linux does, in O(1).
-/// Afterwards `head` is the head of a ring with no members.
+/// Moves all members of the ring with the head `head`, in their order, after the place `at` of another ring, as list_splice_init of Linux
+/// does, in O(1). Afterwards `head` is the head of a ring with no members.
 ///
 /// # Errors
 ///
 /// [`Error::Null`] if `at` or `head` is `u32::MAX`. [`Error::OutOfRange`] if `at` or `head` is not below the table's length, or is
 /// 536,870,911 or more. [`Error::NotLinked`] if `at` or `head` is not linked. [`Error::Broken`] if `at` or `head` is in no ring, or `at` is
-/// that head itself or its last member.
+/// `head` itself or its last member.
 #[inline]
 pub fn splice_after(table: &mut [Link2x32], at: u32, head: u32) -> Result<(), Error> {
     let (links, places) = Link2x32::parts(table);
@@ -181,14 +182,14 @@ pub fn splice_after(table: &mut [Link2x32], at: u32, head: u32) -> Result<(), Er
     done(unsafe { ic_ring32_splice_after(links, places, at, head) })
 }
 
-/// Moves all members of the head `head`, in their order, before the place `at` of another ring, as list_splice_tail_init of Linux does, in
-/// O(1). Afterwards `head` is the head of a ring with no members.
+/// Moves all members of the ring with the head `head`, in their order, before the place `at` of another ring, as list_splice_tail_init of
+/// Linux does, in O(1). Afterwards `head` is the head of a ring with no members.
 ///
 /// # Errors
 ///
 /// [`Error::Null`] if `at` or `head` is `u32::MAX`. [`Error::OutOfRange`] if `at` or `head` is not below the table's length, or is
 /// 536,870,911 or more. [`Error::NotLinked`] if `at` or `head` is not linked. [`Error::Broken`] if `at` or `head` is in no ring, or `at` is
-/// that head itself or its first member.
+/// `head` itself or its first member.
 #[inline]
 pub fn splice_before(table: &mut [Link2x32], at: u32, head: u32) -> Result<(), Error> {
     let (links, places) = Link2x32::parts(table);

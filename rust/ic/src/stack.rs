@@ -194,8 +194,8 @@ impl Stack {
         Ok(rest)
     }
 
-    /// Inserts `count` places, `first` and those after it, at the front in the order of their numbers, so that `first` becomes the first
-    /// member, in O(count). The call changes nothing if `count` is 0.
+    /// Inserts the `count` places `first`, `first` + 1 and so on at the front, in rising order, so that `first` becomes the first member,
+    /// in O(count). The call changes nothing if `count` is 0.
     ///
     /// # Errors
     ///
@@ -221,8 +221,8 @@ impl Stack {
     }
 
     /// Counts the members, and returns how many there are, in O(n). Call it if the words come from a file, or from memory that others
-    /// write. If it returns a number, each call does what it says of a list that the table holds. It returns `None` if the links lead from
-    /// the first member to no end within the table.
+    /// write. If it returns a number, every other call on this list does what the comment of that call says. It returns `None` if the links
+    /// lead from the first member to no end within the table.
     #[inline]
     #[must_use]
     pub fn check(&self, table: &[Link1]) -> Option<u64> {

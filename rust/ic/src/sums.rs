@@ -1,4 +1,4 @@
-//! Trees with sums: a value for each place, and what the values of a member and of all members below it make together.
+//! Trees with sums: each place has a value and a sum, which combines the values of a member and of all members below it.
 
 use crate::error::{done, handed_out, try_counted};
 use crate::link::{number, Link};
@@ -7,9 +7,8 @@ use ic_sys::*;
 
 /// What a tree with sums has for each place beside its link: a value, which you write, and a sum, which calls write.
 ///
-/// A slice of yours has one for each place. The sum at a member is what the values of this member and of all members below it make together, by
-/// the [`SumKind`] that you hand to each call. If each value is 1, a search by sums finds the member at a position, and tells the position of a
-/// member:
+/// A slice of yours has one for each place. The sum at a member combines the values of this member and of all members below it, by the
+/// [`SumKind`] that you pass to each call. If each value is 1, a search by sums finds the member at a position, and the position of a member:
 ///
 /// ```
 /// use ic::{Error, Link3, Sum, SumKind, Tree};
@@ -23,7 +22,7 @@ use ic_sys::*;
 /// assert_eq!(timers.sums_find(&links, &counts, SumKind::Sum, None, 1)?, Some(2)); // at the position 1, from 0 on
 /// assert_eq!(Tree::sums_before(&links, &counts, SumKind::Sum, 0)?, 2);
 ///
-/// // After the value of one member has changed, the call makes those sums right that it is part of.
+/// // After the value of one member has changed, this call updates the sums that include it.
 /// counts[2].value = 5;
 /// Tree::sums_renew(&links, &mut counts, SumKind::Sum, Some(2))?;
 /// assert_eq!(Tree::sums_before(&links, &counts, SumKind::Sum, 0)?, 6);
@@ -54,12 +53,12 @@ use ic_sys::*;
 pub struct Sum {
     /// The value of the place, which you write, and no call changes.
     pub value: u64,
-    /// What the value and those of all members below the place make together, once a call has made it right.
+    /// The combined value of the place and of all members below it, once a call has computed it.
     pub sum: u64,
 }
 
 impl Sum {
-    /// Returns a value with a sum that is yet to be made, in O(1).
+    /// Returns a value with a sum that no call has computed yet, in O(1).
     #[inline]
     #[must_use]
     pub const fn new(value: u64) -> Sum {
@@ -67,7 +66,7 @@ impl Sum {
     }
 }
 
-/// What values make together.
+/// How values are combined into a sum.
 #[repr(u32)]
 #[derive(Clone, Copy, Debug, Default, PartialEq, Eq, Hash)]
 pub enum SumKind {
@@ -83,7 +82,7 @@ pub enum SumKind {
 /// The edits below keep right sums right, and those of an empty tree are right. Other edits leave the sums as they are. After those call
 /// [`sums_renew`](Self::sums_renew) with `None`, and after you have changed the value of one member, with that member.
 impl Tree {
-    /// Returns what the values of all members make together, in O(1), if the sums are right, and 0 if there are no members.
+    /// Returns the combined value of all members, in O(1), if the sums are right, and 0 if there are no members.
     #[inline]
     #[must_use]
     pub fn sums_total(&self, sums: &[Sum]) -> u64 {
@@ -91,8 +90,8 @@ impl Tree {
     }
 
     // tools/c-calls --write writes from here: tree-sums
-    /// Inserts `place` by its key as ic_tree_insert does, and makes the sums right again that change with it, in O(log n). If those of the
-    /// tree were right before the call, they are right after it, whatever the sum of `place` was.
+    /// Inserts `place` by its key as ic_tree_insert does, and updates the sums that this changes, in O(log n). If the sums of the tree were
+    /// right before the call, they are right after it, whatever the sum of `place` was.
     ///
     /// # Errors
     ///
@@ -124,7 +123,7 @@ impl Tree {
         })
     }
 
-    /// Inserts `place` as ic_tree_insert_left does, and makes the sums right again that change with it, in O(log n).
+    /// Inserts `place` as ic_tree_insert_left does, and updates the sums that this changes, in O(log n).
     ///
     /// # Errors
     ///
@@ -156,7 +155,7 @@ impl Tree {
         })
     }
 
-    /// Inserts `place` as ic_tree_insert_right does, and makes the sums right again that change with it, in O(log n).
+    /// Inserts `place` as ic_tree_insert_right does, and updates the sums that this changes, in O(log n).
     ///
     /// # Errors
     ///
@@ -188,8 +187,8 @@ impl Tree {
         })
     }
 
-    /// Removes the member `at`, and makes the sums right again that change with it, in O(log n). If those of the tree were right before the
-    /// call, they are right after it.
+    /// Removes the member `at`, and updates the sums that this changes, in O(log n). If the sums of the tree were right before the call,
+    /// they are right after it.
     ///
     /// # Errors
     ///
@@ -205,9 +204,9 @@ impl Tree {
         })
     }
 
-    /// Makes the sums right again after the value of `at` has changed: its own sum, and those above it as far as they change, in O(log n).
-    /// If `at` is `None`, it makes all sums of the table right, of whichever trees it has, in O(p log p) for p places. It writes nothing
-    /// else.
+    /// Updates the sums after the caller has changed the value of `at`: the sum at `at`, and the sums above it as far as they change, in
+    /// O(log n). If `at` is `None`, it computes all sums of the table, for all trees in it, in O(p log p) for p places. The call writes
+    /// nothing else.
     ///
     /// # Errors
     ///
@@ -222,9 +221,9 @@ impl Tree {
         })
     }
 
-    /// Finds the first member after the member `at`, or the first of all if `at` is `None`, at which what the values of the members after
-    /// `at` up to it make together is greater than `bound`, and returns it, in O(log n). It writes nothing else. It returns `None` if what
-    /// the values of all members after `at` make together is not greater than `bound`.
+    /// Combines the values of the members after the member `at`, or of all members if `at` is `None`, one after the other, finds the first
+    /// member at which the combined value exceeds `bound`, and returns it, in O(log n). The call writes nothing else. It returns `None` if
+    /// the combined value of all members after `at` does not exceed `bound`.
     ///
     /// # Errors
     ///
@@ -256,7 +255,7 @@ impl Tree {
         })
     }
 
-    /// Finds what the values of the members before the member `at` make together, and returns it, in O(log n). It writes nothing else.
+    /// Finds the combined value of the members before the member `at`, and returns it, in O(log n). The call writes nothing else.
     ///
     /// # Errors
     ///
@@ -272,10 +271,10 @@ impl Tree {
         })
     }
 
-    /// Finds the first member after the member `at`, or the first of all if `at` is `None`, whose interval overlaps the one from `from` on
-    /// before `to`, and returns it, in O(log n). The interval of a member is from its key on before its value. The sums are those of
-    /// [`SumKind::Greatest`], and from one member to the next the keys must not fall. It writes nothing else. It returns `None` if no such
-    /// interval overlaps it.
+    /// Finds the first member after the member `at`, or the first of all members if `at` is `None`, whose interval overlaps the interval
+    /// that begins at `from` and ends before `to`, and returns it, in O(log n). The interval of a member begins at its key and ends before
+    /// its value. The sums must be those of [`SumKind::Greatest`], and the keys must not decrease from one member to the next. The call
+    /// writes nothing else. It returns `None` if no member after `at` has such an interval.
     ///
     /// # Errors
     ///

@@ -137,8 +137,8 @@ impl Tree {
     }
 
     // tools/c-calls --write writes from here: tree
-    /// Inserts `place` as the left child of the member `at`, which has none, and balances the tree, in O(log n). No member comes between
-    /// the place and `at`, which is after it. If `at` is `None`, the tree has to be empty, and `place` becomes its root.
+    /// Inserts `place` as the left child of the member `at`, which must have no left child, and balances the tree, in O(log n). So `place`
+    /// comes directly before `at` in the order of the members. If `at` is `None`, the tree has to be empty, and `place` becomes its root.
     ///
     /// # Errors
     ///
@@ -152,8 +152,9 @@ impl Tree {
         done(unsafe { ic_tree_insert_left(links, places, &mut self.0, number(at), place) })
     }
 
-    /// Inserts `place` as the right child of the member `at`, which has none, and balances the tree, in O(log n). No member comes between
-    /// `at` and the place, which is after it. If `at` is `None`, the tree has to be empty, and `place` becomes its root.
+    /// Inserts `place` as the right child of the member `at`, which must have no right child, and balances the tree, in O(log n). So
+    /// `place` comes directly after `at` in the order of the members. If `at` is `None`, the tree has to be empty, and `place` becomes its
+    /// root.
     ///
     /// # Errors
     ///
@@ -180,14 +181,14 @@ impl Tree {
         done(unsafe { ic_tree_remove(links, places, &mut self.0, at) })
     }
 
-    /// Removes the member `at`, and inserts `place` where it was, in O(1). The call compares nothing, so hand in a place that belongs
-    /// there.
+    /// Removes the member `at`, and inserts `place` where it was, in O(1). The call compares no keys, so pass a place that belongs at this
+    /// position.
     ///
     /// # Errors
     ///
     /// [`Error::Null`] if the place `at` is `u32::MAX`. [`Error::OutOfRange`] if `at` or `place` is not below the table's length.
-    /// [`Error::Linked`] if `place` is linked already, also where `at` and `place` are the same. [`Error::NotLinked`] if the place `at` is
-    /// not linked. [`Error::Broken`] if the root does not belong to this table.
+    /// [`Error::Linked`] if `place` is linked already, also if `at` and `place` are the same. [`Error::NotLinked`] if the place `at` is not
+    /// linked. [`Error::Broken`] if the root does not belong to this table.
     #[inline]
     pub fn replace(&mut self, table: &mut [Link3], at: u32, place: u32) -> Result<(), Error> {
         let (links, places) = Link3::parts(table);
@@ -195,9 +196,9 @@ impl Tree {
         done(unsafe { ic_tree_replace(links, places, &mut self.0, at, place) })
     }
 
-    /// Moves all members of `given`, in their order, after those of this tree, and leaves `given` empty, in O(n). The call compares
-    /// nothing, so hand in trees of which all keys of the one come before those of the other. It checks both trees first. In Rattle, where
-    /// types vouch for the links, it takes O(log n).
+    /// Moves all members of `given`, in their order, after those of this tree, and leaves `given` empty, in O(n). The call compares no
+    /// keys, so pass as `given` a tree whose keys all come after the keys of this tree. It checks both trees first. In Rattle, where types
+    /// vouch for the links, this takes O(log n).
     ///
     /// # Errors
     ///
@@ -210,7 +211,7 @@ impl Tree {
     }
 
     /// Inserts `place` after all members of this tree, moves all members of `given`, in their order, after the place, and leaves `given`
-    /// empty, in O(n). The call compares nothing, and checks both trees first. In Rattle, where types vouch for the links, it takes O(log
+    /// empty, in O(n). The call compares no keys, and checks both trees first. In Rattle, where types vouch for the links, this takes O(log
     /// n).
     ///
     /// # Errors
@@ -228,8 +229,8 @@ impl Tree {
     ///
     /// # Errors
     ///
-    /// [`Error::Broken`] if the root does not belong to this table, or the steps from the first member on come to a place that is not
-    /// linked, or to no end within as many steps as the table has places.
+    /// [`Error::Broken`] if the root does not belong to this table, or a walk from the first member on comes to a place that is not linked,
+    /// or to no end within as many steps as the table has places.
     #[inline]
     pub fn clear(&mut self, table: &mut [Link3]) -> Result<(), Error> {
         let (links, places) = Link3::parts(table);
@@ -238,13 +239,13 @@ impl Tree {
     }
 
     /// Moves the member `at` and all members after it to a new tree, which it returns, in O(n). The call checks the tree first. In Rattle,
-    /// where types vouch for the links, it takes O(log n).
+    /// where types vouch for the links, this takes O(log n).
     ///
     /// # Errors
     ///
     /// [`Error::Null`] if the place `at` is `u32::MAX`. [`Error::OutOfRange`] if the place `at` is not below the table's length.
     /// [`Error::NotLinked`] if the place `at` is not linked. [`Error::Broken`] if the links form no red-black tree from the root on, or
-    /// `at` is no member of it.
+    /// `at` is no member of the tree.
     #[inline]
     pub fn split(&mut self, table: &mut [Link3], at: u32) -> Result<Tree, Error> {
         let ((links, places), mut rest) = (Link3::parts(table), Tree::new());
@@ -254,9 +255,9 @@ impl Tree {
     }
 
     /// Counts the members, and returns how many there are, in O(n). Call it if the words come from a file, or from memory that others
-    /// write. If it returns a number, each call does what it says of a tree that the table holds. The check reads no keys, and calls
-    /// itself, at most 67 times within one another. It returns `None` if the links form no red-black tree from the root on, because a
-    /// parent, a color or a child is wrong.
+    /// write. If it returns a number, every other call on this tree does what the comment of that call says. The check reads no keys. It is
+    /// recursive, to a depth of at most 67 calls. It returns `None` if the links form no red-black tree from the root on, because a parent,
+    /// a color or a child is wrong.
     #[inline]
     #[must_use]
     pub fn check(&self, table: &[Link3]) -> Option<u64> {
@@ -310,8 +311,8 @@ impl Tree {
         handed_out(|it| unsafe { ic_tree_lower_bound(links, places, keys.as_ptr(), keys.len(), &self.0, key, it) })
     }
 
-    /// Finds the LAST member whose key is NOT GREATER than `key`, and returns it, in O(log n). The upper_bound of C++ finds another one,
-    /// the first member whose key is greater. Both bounds have their names from the Rust crate intrusive-collections. If there are members
+    /// Finds the LAST member whose key is NOT GREATER than `key`, and returns it, in O(log n). The upper_bound of C++ finds another member,
+    /// the first one whose key is greater. Both bounds have their names from the Rust crate intrusive-collections. If there are members
     /// with keys from `low` to `high`, the lower bound of `low` is the first of them, and the upper bound of `high` is the last. It returns
     /// `None` if there is no such member.
     ///
@@ -438,7 +439,8 @@ impl Tree {
         done(unsafe { ic_tree_ends_insert_right(links, places, &mut self.0, &mut ends.0, number(at), place) })
     }
 
-    /// Removes the member `at`, in O(log n). If it is an end, the member next to it becomes that end.
+    /// Removes the member `at`, in O(log n). If `at` is the first or the last member of the tree, the member next to it takes over as that
+    /// end.
     ///
     /// # Errors
     ///
@@ -452,14 +454,14 @@ impl Tree {
         done(unsafe { ic_tree_ends_remove(links, places, &mut self.0, &mut ends.0, at) })
     }
 
-    /// Removes the member `at`, and inserts `place` where it was, also as an end, in O(1). The call compares nothing, so hand in a place
-    /// that belongs there.
+    /// Removes the member `at`, and inserts `place` where it was, in O(1). If `at` was the first or the last member of the tree, `place`
+    /// takes over as that end. The call compares no keys, so pass a place that belongs at this position.
     ///
     /// # Errors
     ///
     /// [`Error::Null`] if the place `at` is `u32::MAX`. [`Error::OutOfRange`] if `at` or `place` is not below the table's length.
-    /// [`Error::Linked`] if `place` is linked already, also where `at` and `place` are the same. [`Error::NotLinked`] if the place `at` is
-    /// not linked. [`Error::Broken`] if the root does not belong to this table.
+    /// [`Error::Linked`] if `place` is linked already, also if `at` and `place` are the same. [`Error::NotLinked`] if the place `at` is not
+    /// linked. [`Error::Broken`] if the root does not belong to this table.
     #[inline]
     pub fn ends_replace(&mut self, table: &mut [Link3], ends: &mut TreeEnds, at: u32, place: u32) -> Result<(), Error> {
         let (links, places) = Link3::parts(table);
@@ -467,13 +469,13 @@ impl Tree {
         done(unsafe { ic_tree_ends_replace(links, places, &mut self.0, &mut ends.0, at, place) })
     }
 
-    /// Removes the first member, and returns it, in O(log n). The call finds it in `ends`, and the next one in constant time on average, so
-    /// it serves timers and schedulers. It returns `None` if `ends` says that the tree is empty.
+    /// Removes the first member, and returns it, in O(log n). The call finds this member in `ends`, and the next member in constant time on
+    /// average, so it serves timers and schedulers. It returns `None` if `ends` says that the tree is empty.
     ///
     /// # Errors
     ///
-    /// [`Error::Broken`] if the root or the first member does not belong to this table, or the links lead from it to a place that is not
-    /// linked, or to it itself.
+    /// [`Error::Broken`] if the root or the first member does not belong to this table, or the links lead from the first member to a place
+    /// that is not linked, or back to the first member.
     #[inline]
     pub fn ends_pop_first(&mut self, table: &mut [Link3], ends: &mut TreeEnds) -> Result<Option<u32>, Error> {
         let (links, places) = Link3::parts(table);

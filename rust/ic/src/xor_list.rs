@@ -9,9 +9,9 @@ use ic_sys::*;
 
 /// An XOR list over a table of [`Link1`].
 ///
-/// It is good for lists that you use at both ends and walk both ways, if memory is scarce. A member alone does not tell its neighbors, so you
-/// name a gap by both members beside it: `before` is the member before the gap, or `None` at the front, and `after` is the member after the
-/// gap, or `None` at the back. A [cursor](CursorMut) knows them:
+/// It is good for lists that you use at both ends and walk both ways, if memory is scarce. The link of a member does not name its neighbors one by
+/// one, so you name a gap by both members beside it: `before` is the member before the gap, or `None` at the front, and `after` is the member after
+/// the gap, or `None` at the back. A [cursor](CursorMut) knows them:
 ///
 /// ```
 /// use ic::{Error, Link1, XorList};
@@ -164,13 +164,13 @@ impl XorList {
         done(unsafe { ic_xor_insert_between(links, places, &mut self.0, number(before), place, number(after)) })
     }
 
-    /// Removes the member `at`, in O(1). You name the member before it, too: `before`, which is `None` if `at` is the first member.
+    /// Removes the member `at`, in O(1). You also name the member before `at` as `before`, which is `None` if `at` is the first member.
     ///
     /// # Errors
     ///
     /// [`Error::Null`] if the place `at` is `u32::MAX`. [`Error::OutOfRange`] if `before` or `at` is not below the table's length.
     /// [`Error::NotLinked`] if `before` or `at` is not linked. [`Error::Broken`] if `at` is no member of the list, or `before` is not the
-    /// member before it.
+    /// member before `at`.
     #[inline]
     pub fn remove(&mut self, table: &mut [Link1], before: Option<u32>, at: u32) -> Result<(), Error> {
         let (links, places) = Link1::parts(table);
@@ -178,14 +178,14 @@ impl XorList {
         done(unsafe { ic_xor_remove(links, places, &mut self.0, number(before), at) })
     }
 
-    /// Removes the member `at`, and inserts `place` where it was, in O(1). You name the member before `at`, too: `before`, which is `None`
-    /// if `at` is the first member.
+    /// Removes the member `at`, and inserts `place` where it was, in O(1). You also name the member before `at` as `before`, which is
+    /// `None` if `at` is the first member.
     ///
     /// # Errors
     ///
     /// [`Error::Null`] if the place `at` is `u32::MAX`. [`Error::OutOfRange`] if `before`, `at` or `place` is not below the table's length.
-    /// [`Error::Linked`] if `place` is linked already, also where `at` and `place` are the same. [`Error::NotLinked`] if `before` or `at`
-    /// is not linked. [`Error::Broken`] if `at` is no member of the list, or `before` is not the member before it.
+    /// [`Error::Linked`] if `place` is linked already, also if `at` and `place` are the same. [`Error::NotLinked`] if `before` or `at` is
+    /// not linked. [`Error::Broken`] if `at` is no member of the list, or `before` is not the member before `at`.
     #[inline]
     pub fn replace(&mut self, table: &mut [Link1], before: Option<u32>, at: u32, place: u32) -> Result<(), Error> {
         let (links, places) = Link1::parts(table);
@@ -254,8 +254,8 @@ impl XorList {
         done(unsafe { ic_xor_clear(links, places, &mut self.0) })
     }
 
-    /// Moves the members from `after` on to a new list, which it returns, so that `before` becomes the last member, in O(1). All members
-    /// move if `before` is `None`, and none if `after` is `None`.
+    /// Moves the member `after` and all members that follow it to a new list, which it returns, so that `before` becomes the last member,
+    /// in O(1). All members move if `before` is `None`, and no member moves if `after` is `None`.
     ///
     /// # Errors
     ///

@@ -16,7 +16,7 @@ use ic_test_support::notes::{Answer, Text};
 use ic_test_support::objects::{place_at, reference};
 use ic_unsafe_ref::{UnsafeRef, Values};
 
-// Puts the object in where its key belongs, and notes the first member.
+// Inserts the object where its key belongs, and notes the first member.
 fn write_inserted<L: RBTreeOps + LinkValues<u64>>(
     notes: &mut Text,
     tree: &mut RBTree<OwnKey>,
@@ -32,7 +32,7 @@ fn write_inserted<L: RBTreeOps + LinkValues<u64>>(
     write_places(notes, &[tree.front(&*links).get_ptr()]);
 }
 
-// Puts the object in where a probe for the key wants it, and notes at how many members the probe looked.
+// Inserts the object where a probe for the key finds its position, and notes how many members the probe compared.
 fn write_looks<L: RBTreeOps + LinkValues<u64>>(
     notes: &mut Text,
     tree: &mut RBTree<OwnKey>,
@@ -48,7 +48,7 @@ fn write_looks<L: RBTreeOps + LinkValues<u64>>(
     notes.add(Answer::Number(probe.looks()), " ");
 }
 
-// Puts the object in where its key belongs in a tree that keeps its ends, and notes both.
+// Inserts the object where its key belongs in a tree that keeps its ends, and notes both.
 fn write_inserted_cached<K: KeyAdapter, L: RBTreeOps + LinkValues<K::Value>>(
     notes: &mut Text,
     tree: &mut RBTreeCached<K>,

@@ -15,7 +15,7 @@ use ic_test_support::notes::{Answer, Text};
 use ic_test_support::objects::{TENS, eight_objects, reference};
 use ic_unsafe_ref::{Objects, UnsafeRef};
 
-// Puts the object in where its key belongs, and notes the first member and the last one.
+// Inserts the object where its key belongs, and notes the first member and the last one.
 fn write_inserted<L: RBTreeOps>(
     notes: &mut Text,
     tree: &mut RBTree<OwnKey, WithEnds>,
@@ -33,7 +33,7 @@ fn write_inserted<L: RBTreeOps>(
     write_places(notes, &[tree.first(links), tree.last(links)]);
 }
 
-// Takes the first object off and the last one, and notes them and the ends that are left, and whether the tree is empty.
+// Removes the first object and the last one, and notes them and the ends that are left, and whether the tree is empty.
 fn write_taken<L: RBTreeOps>(notes: &mut Text, tree: &mut RBTree<OwnKey, WithEnds>, links: &mut L)
     requires shown { RepresentsKeptSome ended L.node (L.table links.old) (ends_of tree.old) }
 {

@@ -1,4 +1,4 @@
-//! Where cursors of a tree begin, and inserts by one that borrows the tree and by one that keeps it.
+//! The positions at which cursors of a tree begin, and inserts by a cursor that borrows the tree and by one that owns it.
 
 ghost use Rattle.std.specs.Prelude.{◌≡◌, ◌<◌, true};
 ghost use Rattle.ic_link_ops.specs.Prelude.{Place, index_of, is_placed, RepresentsPlaced};
@@ -16,7 +16,8 @@ use ic_test_support::objects::reference;
 use ic_test_support::tables::write_linked;
 use std::process::Abort;
 
-// Notes where cursors begin: at null and at the back, and, where they keep the tree, at null, at the front and at the back. Empties the tree.
+// Notes where cursors begin: at null and at the back, and for those that own the tree at null, at the front and at the back. Then it empties the
+// tree.
 fn write_ends<L: RBTreeOps>(notes: &mut Text, tree: RBTree<OwnKey>, links: &L)
     requires shown { RepresentsSome L.node (L.table links.now) (root_of tree) }
 {
@@ -34,7 +35,7 @@ fn write_ends<L: RBTreeOps>(notes: &mut Text, tree: RBTree<OwnKey>, links: &L)
     notes.add(Answer::Truth(tree.is_empty()), " ");
 }
 
-// Inserts the object at 3 by a cursor on the last of the members 0, 1 and 2, and notes what is after it then.
+// Inserts the object at 3 by a cursor on the last of the members 0, 1 and 2, and notes what is then after it.
 fn write_inserted(notes: &mut Text, fixture: &mut TreeFixture)
     requires covers { (plain_table fixture.old.links).extent.places ≡ 8 }
     requires placed { (q : Place) → index_of q < 8 → is_placed fixture.old.objects q ≡ true }
@@ -46,7 +47,7 @@ fn write_inserted(notes: &mut Text, fixture: &mut TreeFixture)
     write_places(notes, &[cursor.get_ptr()]);
 }
 
-// Does the same by a cursor that keeps the tree, and is made on that member by its reference.
+// Does the same with a cursor that owns the tree and is made on that member by its reference.
 fn write_kept(rt: &impl Abort, notes: &mut Text, fixture: &mut TreeFixture)
     requires covers { (plain_table fixture.old.links).extent.places ≡ 8 }
     requires placed { (q : Place) → index_of q < 8 → is_placed fixture.old.objects q ≡ true }

@@ -50,7 +50,7 @@ impl Values<u64> for Counted<'_> {
     }
 }
 
-// Puts the object in where its key belongs, and notes how often a value was read.
+// Inserts the object where its key belongs, and notes how often a value was read.
 fn write_insert<E: TreeHead, L: RBTreeOps>(
     notes: &mut Text,
     tree: &mut RBTree<OwnKey, E>,

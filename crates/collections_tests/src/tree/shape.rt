@@ -13,8 +13,8 @@ use ic_test_support::notes::{Answer, Text};
 use ic_test_support::objects::reference;
 use ic_unsafe_ref::Place;
 
-// Notes what the table says of each place: `3b 1 none 19` for a black 3 with 1 on the left, nothing on the right, and 19 as its third word.
-// Of a place that is not linked it notes the word alone.
+// Notes what the table has at each place: `3b 1 none 19` for a black 3 with 1 on the left, nothing on the right, and 19 as its third word. For a
+// place that is not linked it notes only the word.
 fn write_links(notes: &mut Text, links: &LinkOps) {
     for index in 0..links.covers() {
         let Some(place) = Place::new(index) else {
@@ -32,7 +32,7 @@ fn write_links(notes: &mut Text, links: &LinkOps) {
     }
 }
 
-// Takes the member out, if it is one, and notes where the cursor goes on, and the shape.
+// Removes the member, if it is one, and notes where the cursor goes, and the shape.
 fn write_without(notes: &mut Text, fixture: &mut TreeFixture, leaving: usize)
     requires few { leaving < 8 }
     requires covers { (plain_table fixture.old.links).extent.places ≡ 8 }

@@ -1,18 +1,18 @@
-//! Summaries over the edits of a tree: after each edit and a `refresh` they tell what the members represent, in a tree of any head and over any sums.
+//! Summaries over the edits of a tree: after each edit and a `refresh` they are right for the members, in a tree with any head and over any sums.
 
 ghost use Rattle.std.specs.Prelude.{◌≡◌, ◌<◌, true, List};
 ghost use Rattle.ic_link_ops.specs.Prelude.{Place, index_of, is_placed, HasMember};
 ghost use Rattle.ic_rbtree.specs.Kept.{IsEmptied, RepresentsKept, RepresentsKeptSome};
 ghost use Rattle.ic_rbtree.specs.Tree.{head_of, root_in};
 ghost use Rattle.ic_augmented.specs.Consistent.{RepresentsSummed};
-ghost use Rattle.ic_augmented.specs.Summed.{links_of, sums_of};
+ghost use Rattle.ic_augmented.specs.Summed.{links_of, summaries_of};
 ghost use Rattle.collections_tests.specs.Ready.{IsReady};
 
 use crate::notes::assert_words;
 use crate::tree::trees::OwnKey;
 use ic_augmented::{
-    Counts, Greatest, RenewSums, Summed, Sums, first_greater, first_overlap, index_of, len, nth,
-    refresh, set_value,
+    Counts, Greatest, RecomputeSummaries, Summaries, Summed, first_greater, first_overlap,
+    index_of, len, nth, refresh, set_value,
 };
 use ic_link_ops::rbtree::{self, RBTreeOps};
 use ic_rbtree::{Entry, RBTree, RefusedInsert, TreeHead};
@@ -23,18 +23,18 @@ use ic_unsafe_ref::{Objects, UnsafeRef};
 use std::alloc::Global;
 use std::process::Abort;
 
-// What a test reads of a tree that is summed.
-trait Readings: RenewSums {
+// What a test reads of a tree with summaries.
+trait Readings: RecomputeSummaries {
     // Notes it.
     fn note<E: TreeHead, L: RBTreeOps>(
         notes: &mut Text,
         tree: &RBTree<OwnKey, E>,
         summed: &Summed<L, Self>,
     )
-        requires shown { (s : List Place) × RepresentsSummed L.node (Self.sums (sums_of summed.now)) (L.table (links_of summed.now)) (root_in E.kept tree.now) s };
+        requires shown { (s : List Place) × RepresentsSummed L.node (Self.summaries (summaries_of summed.now)) (L.table (links_of summed.now)) (root_in E.kept tree.now) s };
 }
 
-// How many members there are, and each by its position, which it has to tell itself.
+// Notes how many members there are, and each of them by its position, which a search from the member must find, too.
 impl Readings for Counts {
     fn note<E: TreeHead, L: RBTreeOps>(
         notes: &mut Text,
@@ -73,20 +73,20 @@ impl Readings for Greatest {
     }
 }
 
-// Renews the summaries, and notes what they tell.
-fn write_sums<E: TreeHead, L: RBTreeOps, M: Readings>(
+// Updates the summaries, and notes what they are.
+fn write_summaries<E: TreeHead, L: RBTreeOps, M: Readings>(
     notes: &mut Text,
     tree: &RBTree<OwnKey, E>,
     summed: &mut Summed<L, M>,
 )
-    requires ready { IsReady E.kept L.node L.table M.sums M.Covers tree.now summed.old }
-    ensures ready { IsReady E.kept L.node L.table M.sums M.Covers tree.now summed.new }
+    requires ready { IsReady E.kept L.node L.table M.summaries M.Covers tree.now summed.old }
+    ensures ready { IsReady E.kept L.node L.table M.summaries M.Covers tree.now summed.new }
 {
     refresh(tree, summed);
     M::note(notes, tree, summed);
 }
 
-/// The member at that position. The test ends where there is none.
+/// Returns the member at this position. The test fails if there is none.
 pub(crate) fn member_at<E: TreeHead, L: RBTreeOps>(
     rt: &impl Abort,
     tree: &RBTree<OwnKey, E>,
@@ -103,8 +103,8 @@ pub(crate) fn member_at<E: TreeHead, L: RBTreeOps>(
     UnsafeRef::new(cursor.get_ptr().expect(rt, "a member"))
 }
 
-// Puts the object in where its key belongs.
-fn put_by_key<E: TreeHead, L: RBTreeOps, M: RenewSums>(
+// Inserts the object where its key belongs.
+fn put_by_key<E: TreeHead, L: RBTreeOps, M: RecomputeSummaries>(
     rt: &impl Abort,
     tree: &mut RBTree<OwnKey, E>,
     summed: &mut Summed<L, M>,
@@ -113,15 +113,15 @@ fn put_by_key<E: TreeHead, L: RBTreeOps, M: RenewSums>(
 )
     requires few { index_of object < 8 }
     requires placed { (q : Place) → index_of q < 8 → is_placed objects.now q ≡ true }
-    requires ready { IsReady E.kept L.node L.table M.sums M.Covers tree.old summed.old }
-    ensures ready { IsReady E.kept L.node L.table M.sums M.Covers tree.new summed.new }
+    requires ready { IsReady E.kept L.node L.table M.summaries M.Covers tree.old summed.old }
+    ensures ready { IsReady E.kept L.node L.table M.summaries M.Covers tree.new summed.new }
 {
     let inserted = tree.insert(summed, objects, object);
     assert!(rt; inserted.is_ok());
 }
 
 // Puts the object in at the entry of the key, if no member has that.
-fn put_at_entry<E: TreeHead, L: RBTreeOps, M: RenewSums>(
+fn put_at_entry<E: TreeHead, L: RBTreeOps, M: RecomputeSummaries>(
     rt: &impl Abort,
     tree: &mut RBTree<OwnKey, E>,
     summed: &mut Summed<L, M>,
@@ -131,8 +131,8 @@ fn put_at_entry<E: TreeHead, L: RBTreeOps, M: RenewSums>(
 )
     requires few { index_of object < 8 }
     requires placed { (q : Place) → index_of q < 8 → is_placed objects.now q ≡ true }
-    requires ready { IsReady E.kept L.node L.table M.sums M.Covers tree.old summed.old }
-    ensures ready { IsReady E.kept L.node L.table M.sums M.Covers tree.new summed.new }
+    requires ready { IsReady E.kept L.node L.table M.summaries M.Covers tree.old summed.old }
+    ensures ready { IsReady E.kept L.node L.table M.summaries M.Covers tree.new summed.new }
 {
     match tree.entry(summed, objects, &key) {
         Entry::Occupied(_found) => {}
@@ -148,8 +148,8 @@ fn put_at_entry<E: TreeHead, L: RBTreeOps, M: RenewSums>(
     }
 }
 
-// Puts the object in where its key belongs, with the member at the position as the hint.
-fn put_with_hint<E: TreeHead, L: RBTreeOps, M: RenewSums>(
+// Inserts the object where its key belongs, with the member at the position as the hint.
+fn put_with_hint<E: TreeHead, L: RBTreeOps, M: RecomputeSummaries>(
     rt: &impl Abort,
     tree: &mut RBTree<OwnKey, E>,
     summed: &mut Summed<L, M>,
@@ -159,16 +159,16 @@ fn put_with_hint<E: TreeHead, L: RBTreeOps, M: RenewSums>(
 )
     requires few { index_of object < 8 }
     requires placed { (q : Place) → index_of q < 8 → is_placed objects.now q ≡ true }
-    requires ready { IsReady E.kept L.node L.table M.sums M.Covers tree.old summed.old }
-    ensures ready { IsReady E.kept L.node L.table M.sums M.Covers tree.new summed.new }
+    requires ready { IsReady E.kept L.node L.table M.summaries M.Covers tree.old summed.old }
+    ensures ready { IsReady E.kept L.node L.table M.summaries M.Covers tree.new summed.new }
 {
     let hint = member_at(rt, &*tree, &*summed, position);
     let inserted = tree.insert_with_hint(summed, objects, &hint, object);
     assert!(rt; inserted.is_ok());
 }
 
-// Puts the object before the member at the position, by a cursor.
-fn put_before<E: TreeHead, L: RBTreeOps, M: RenewSums>(
+// Inserts the object before the member at the position, by a cursor.
+fn put_before<E: TreeHead, L: RBTreeOps, M: RecomputeSummaries>(
     rt: &impl Abort,
     tree: &mut RBTree<OwnKey, E>,
     summed: &mut Summed<L, M>,
@@ -176,8 +176,8 @@ fn put_before<E: TreeHead, L: RBTreeOps, M: RenewSums>(
     object: UnsafeRef<u64>,
 )
     requires few { index_of object < 8 }
-    requires ready { IsReady E.kept L.node L.table M.sums M.Covers tree.old summed.old }
-    ensures ready { IsReady E.kept L.node L.table M.sums M.Covers tree.new summed.new }
+    requires ready { IsReady E.kept L.node L.table M.summaries M.Covers tree.old summed.old }
+    ensures ready { IsReady E.kept L.node L.table M.summaries M.Covers tree.new summed.new }
 {
     let member = member_at(rt, &*tree, &*summed, position);
     let mut cursor = tree.cursor_mut_from_ptr(summed, member);
@@ -185,8 +185,8 @@ fn put_before<E: TreeHead, L: RBTreeOps, M: RenewSums>(
     assert!(rt; inserted.is_ok());
 }
 
-// Puts the object in the place of the member at the position, by a cursor.
-fn replace_at<E: TreeHead, L: RBTreeOps, M: RenewSums>(
+// Replaces the member at the position by the object, with a cursor.
+fn replace_at<E: TreeHead, L: RBTreeOps, M: RecomputeSummaries>(
     rt: &impl Abort,
     tree: &mut RBTree<OwnKey, E>,
     summed: &mut Summed<L, M>,
@@ -194,8 +194,8 @@ fn replace_at<E: TreeHead, L: RBTreeOps, M: RenewSums>(
     object: UnsafeRef<u64>,
 )
     requires few { index_of object < 8 }
-    requires ready { IsReady E.kept L.node L.table M.sums M.Covers tree.old summed.old }
-    ensures ready { IsReady E.kept L.node L.table M.sums M.Covers tree.new summed.new }
+    requires ready { IsReady E.kept L.node L.table M.summaries M.Covers tree.old summed.old }
+    ensures ready { IsReady E.kept L.node L.table M.summaries M.Covers tree.new summed.new }
 {
     let member = member_at(rt, &*tree, &*summed, position);
     let mut cursor = tree.cursor_mut_from_ptr(summed, member);
@@ -203,58 +203,58 @@ fn replace_at<E: TreeHead, L: RBTreeOps, M: RenewSums>(
     assert!(rt; replaced.is_ok());
 }
 
-// Takes the member at the position off, by a cursor.
-fn remove_at<E: TreeHead, L: RBTreeOps, M: RenewSums>(
+// Removes the member at the position, by a cursor.
+fn remove_at<E: TreeHead, L: RBTreeOps, M: RecomputeSummaries>(
     rt: &impl Abort,
     tree: &mut RBTree<OwnKey, E>,
     summed: &mut Summed<L, M>,
     position: usize,
 )
-    requires ready { IsReady E.kept L.node L.table M.sums M.Covers tree.old summed.old }
-    ensures ready { IsReady E.kept L.node L.table M.sums M.Covers tree.new summed.new }
+    requires ready { IsReady E.kept L.node L.table M.summaries M.Covers tree.old summed.old }
+    ensures ready { IsReady E.kept L.node L.table M.summaries M.Covers tree.new summed.new }
 {
     let member = member_at(rt, &*tree, &*summed, position);
     let mut cursor = tree.cursor_mut_from_ptr(summed, member);
     let _ = cursor.remove();
 }
 
-// Takes the member at the position off, by its reference.
-fn remove<E: TreeHead, L: RBTreeOps, M: RenewSums>(
+// Removes the member at the position, by its reference.
+fn remove<E: TreeHead, L: RBTreeOps, M: RecomputeSummaries>(
     rt: &impl Abort,
     tree: &mut RBTree<OwnKey, E>,
     summed: &mut Summed<L, M>,
     position: usize,
 )
-    requires ready { IsReady E.kept L.node L.table M.sums M.Covers tree.old summed.old }
-    ensures ready { IsReady E.kept L.node L.table M.sums M.Covers tree.new summed.new }
+    requires ready { IsReady E.kept L.node L.table M.summaries M.Covers tree.old summed.old }
+    ensures ready { IsReady E.kept L.node L.table M.summaries M.Covers tree.new summed.new }
 {
     let member = member_at(rt, &*tree, &*summed, position);
     tree.remove(summed, &member);
 }
 
-// Takes the first member off, if there is one.
-fn pop_front<E: TreeHead, L: RBTreeOps, M: RenewSums>(
+// Removes the first member, if there is one.
+fn pop_front<E: TreeHead, L: RBTreeOps, M: RecomputeSummaries>(
     tree: &mut RBTree<OwnKey, E>,
     summed: &mut Summed<L, M>,
 )
-    requires ready { IsReady E.kept L.node L.table M.sums M.Covers tree.old summed.old }
-    ensures ready { IsReady E.kept L.node L.table M.sums M.Covers tree.new summed.new }
+    requires ready { IsReady E.kept L.node L.table M.summaries M.Covers tree.old summed.old }
+    ensures ready { IsReady E.kept L.node L.table M.summaries M.Covers tree.new summed.new }
 {
     let _ = tree.pop_front(summed);
 }
 
-// Takes the last member off, if there is one.
-fn pop_back<E: TreeHead, L: RBTreeOps, M: RenewSums>(
+// Removes the last member, if there is one.
+fn pop_back<E: TreeHead, L: RBTreeOps, M: RecomputeSummaries>(
     tree: &mut RBTree<OwnKey, E>,
     summed: &mut Summed<L, M>,
 )
-    requires ready { IsReady E.kept L.node L.table M.sums M.Covers tree.old summed.old }
-    ensures ready { IsReady E.kept L.node L.table M.sums M.Covers tree.new summed.new }
+    requires ready { IsReady E.kept L.node L.table M.summaries M.Covers tree.old summed.old }
+    ensures ready { IsReady E.kept L.node L.table M.summaries M.Covers tree.new summed.new }
 {
     let _ = tree.pop_back(summed);
 }
 
-// Splits the tree before the member at the position, notes what the summaries tell of both parts, and puts the second after the first again.
+// Splits the tree before the member at the position, notes the summaries of both parts, and joins the second to the end of the first again.
 fn write_parts<E: TreeHead, L: RBTreeOps, M: Readings>(
     rt: &impl Abort,
     notes: &mut Text,
@@ -262,8 +262,8 @@ fn write_parts<E: TreeHead, L: RBTreeOps, M: Readings>(
     summed: &mut Summed<L, M>,
     position: usize,
 )
-    requires ready { IsReady E.kept L.node L.table M.sums M.Covers tree.old summed.old }
-    ensures ready { IsReady E.kept L.node L.table M.sums M.Covers tree.new summed.new }
+    requires ready { IsReady E.kept L.node L.table M.summaries M.Covers tree.old summed.old }
+    ensures ready { IsReady E.kept L.node L.table M.summaries M.Covers tree.new summed.new }
 {
     let member = member_at(rt, &*tree, &*summed, position);
     let mut rest = tree.split_off(summed, &member);
@@ -274,8 +274,8 @@ fn write_parts<E: TreeHead, L: RBTreeOps, M: Readings>(
     tree.append(summed, &mut rest);
 }
 
-// Splits the tree before the member at the position, and puts the second part after the first again, with the object between both.
-fn join_with<E: TreeHead, L: RBTreeOps, M: RenewSums>(
+// Splits the tree before the member at the position, and joins the second part to the end of the first again, with the object between both.
+fn join_with<E: TreeHead, L: RBTreeOps, M: RecomputeSummaries>(
     rt: &impl Abort,
     tree: &mut RBTree<OwnKey, E>,
     summed: &mut Summed<L, M>,
@@ -283,8 +283,8 @@ fn join_with<E: TreeHead, L: RBTreeOps, M: RenewSums>(
     object: UnsafeRef<u64>,
 )
     requires few { index_of object < 8 }
-    requires ready { IsReady E.kept L.node L.table M.sums M.Covers tree.old summed.old }
-    ensures ready { IsReady E.kept L.node L.table M.sums M.Covers tree.new summed.new }
+    requires ready { IsReady E.kept L.node L.table M.summaries M.Covers tree.old summed.old }
+    ensures ready { IsReady E.kept L.node L.table M.summaries M.Covers tree.new summed.new }
 {
     let member = member_at(rt, &*tree, &*summed, position);
     let mut rest = tree.split_off(summed, &member);
@@ -292,13 +292,13 @@ fn join_with<E: TreeHead, L: RBTreeOps, M: RenewSums>(
     assert!(rt; joined.is_ok());
 }
 
-// Takes all members off.
-fn clear<E: TreeHead, L: RBTreeOps, M: RenewSums>(
+// Removes all members.
+fn clear<E: TreeHead, L: RBTreeOps, M: RecomputeSummaries>(
     tree: &mut RBTree<OwnKey, E>,
     summed: &mut Summed<L, M>,
 )
-    requires ready { IsReady E.kept L.node L.table M.sums M.Covers tree.old summed.old }
-    ensures ready { IsReady E.kept L.node L.table M.sums M.Covers tree.new summed.new }
+    requires ready { IsReady E.kept L.node L.table M.summaries M.Covers tree.old summed.old }
+    ensures ready { IsReady E.kept L.node L.table M.summaries M.Covers tree.new summed.new }
 {
     tree.clear(summed);
 }
@@ -336,8 +336,8 @@ fn make<E: TreeHead, L: RBTreeOps, M: Readings>(
     edit: &Edit,
 )
     requires placed { (q : Place) → index_of q < 8 → is_placed objects.now q ≡ true }
-    requires ready { IsReady E.kept L.node L.table M.sums M.Covers tree.old summed.old }
-    ensures ready { IsReady E.kept L.node L.table M.sums M.Covers tree.new summed.new }
+    requires ready { IsReady E.kept L.node L.table M.summaries M.Covers tree.old summed.old }
+    ensures ready { IsReady E.kept L.node L.table M.summaries M.Covers tree.new summed.new }
 {
     match edit {
         Edit::ByKey(object) => put_by_key(rt, tree, summed, objects, eighth(*object)),
@@ -359,7 +359,7 @@ fn make<E: TreeHead, L: RBTreeOps, M: Readings>(
     }
 }
 
-// The edits of a test. Beside each stand the members that the tree has then.
+// The edits of a test. With each edit are the members that the tree has afterwards.
 const EDITS: &[Edit] = &[
     Edit::ByKey(3), // 3
     Edit::WithHint(0, 1), // 1 3: before the hint
@@ -384,7 +384,7 @@ const EDITS: &[Edit] = &[
     Edit::AtEntry(30, 5), // 0 2 3: the member at 2 has that key
 ];
 
-// Makes all edits, and notes after each what the summaries tell.
+// Makes all edits, and notes the summaries after each.
 fn play<E: TreeHead, L: RBTreeOps, M: Readings>(
     rt: &impl Abort,
     notes: &mut Text,
@@ -393,12 +393,12 @@ fn play<E: TreeHead, L: RBTreeOps, M: Readings>(
     objects: &Objects<u64>,
 )
     requires placed { (q : Place) → index_of q < 8 → is_placed objects.now q ≡ true }
-    requires ready { IsReady E.kept L.node L.table M.sums M.Covers tree.old summed.old }
-    ensures ready { IsReady E.kept L.node L.table M.sums M.Covers tree.new summed.new }
+    requires ready { IsReady E.kept L.node L.table M.summaries M.Covers tree.old summed.old }
+    ensures ready { IsReady E.kept L.node L.table M.summaries M.Covers tree.new summed.new }
 {
     for edit in EDITS {
         make(rt, notes, tree, summed, objects, edit);
-        write_sums(notes, &*tree, summed);
+        write_summaries(notes, &*tree, summed);
     }
 }
 
@@ -410,24 +410,24 @@ fn write_overlaps<E: TreeHead, L: RBTreeOps>(
     objects: &Objects<u64>,
 )
     requires placed { (q : Place) → index_of q < 8 → is_placed objects.now q ≡ true }
-    requires ready { IsReady E.kept L.node L.table ⟦<Greatest as Sums>⟧.sums ⟦<Greatest as Sums>⟧.Covers tree.now summed.now }
+    requires ready { IsReady E.kept L.node L.table ⟦<Greatest as Summaries>⟧.summaries ⟦<Greatest as Summaries>⟧.Covers tree.now summed.now }
 {
     for (from, to) in [(15, 35), (45, 50), (20, 30)] {
         write_places(notes, &[first_overlap(tree, summed, objects, from, to)]);
     }
 }
 
-// Counts of the tree that has no members: how many it has after each edit, and which stand at each position.
+// Counts of the tree that has no members: how many it has after each edit, and which are at each position.
 fn play_counts<E: TreeHead>(rt: &impl Abort, alloc: Global, tree: RBTree<OwnKey, E>)
     requires empty { IsEmptied (E.kept (head_of tree)) }
 {
     let mut notes = Text::new(alloc);
     let mut tree = tree;
     let (objects, links): (_, rbtree::LinkOps) = eight_objects(alloc, TENS).expect(rt, "memory");
-    let mut sums = Counts::new(alloc);
-    let covered = sums.cover(8);
+    let mut summaries = Counts::new(alloc);
+    let covered = summaries.cover(8);
     assert!(rt; covered.is_ok());
-    let mut summed = Summed { links, sums };
+    let mut summed = Summed { links, summaries };
     play(rt, &mut notes, &mut tree, &mut summed, &objects);
     assert_words(
         rt,
@@ -467,10 +467,10 @@ fn play_greatest<E: TreeHead>(rt: &impl Abort, alloc: Global, tree: RBTree<OwnKe
     let mut notes = Text::new(alloc);
     let mut tree = tree;
     let (objects, links): (_, rbtree::LinkOps) = eight_objects(alloc, TENS).expect(rt, "memory");
-    let mut sums = Greatest::new(alloc);
-    let covered = sums.cover(8);
+    let mut summaries = Greatest::new(alloc);
+    let covered = summaries.cover(8);
     assert!(rt; covered.is_ok());
-    let mut summed = Summed { links, sums };
+    let mut summed = Summed { links, summaries };
     for index in 0..8 {
         set_value(&mut summed, place_at(index), NUMBERS[index]);
     }

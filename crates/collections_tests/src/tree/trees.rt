@@ -29,7 +29,7 @@ impl KeyAdapter for OwnKey {
     }
 }
 
-/// A tree, the table of its links, which covers the places 0 to 7, and its objects, which stand at these.
+/// A tree, the table of its links, which covers the places 0 to 7, and its objects, which are at these places.
 pub(crate) struct TreeFixture {
     pub(crate) objects: Objects<u64>,
     pub(crate) links: LinkOps,
@@ -47,7 +47,7 @@ impl Drop for TreeFixture {
     }
 }
 
-// Puts the object at the place of that index before all members of the tree, or after them.
+// Inserts the object at the place of that index before all members of the tree, or after them.
 fn put(tree: &mut RBTree<OwnKey>, links: &mut LinkOps, index: usize, in_front: bool)
     requires few { index < 8 }
     requires covered { index < (plain_table links.old).extent.places }
@@ -62,7 +62,7 @@ fn put(tree: &mut RBTree<OwnKey>, links: &mut LinkOps, index: usize, in_front: b
     }
 }
 
-/// Puts the objects at the first places into a new tree, as many as that, each after all members, or before them.
+/// Inserts the objects at the first places into a new tree, each at the back, or each at the front.
 pub(crate) fn filled(links: &mut LinkOps, members: usize, in_front: bool) -> RBTree<OwnKey>
     requires { members ≤ 8 }
     ensures shown { PlainRepresentsSome links.new (root_of result) }

@@ -4,7 +4,7 @@ ghost use Rattle.std.specs.Prelude.{◌≡◌, ◌<◌, ◌≤◌, None};
 ghost use Rattle.ic_link_ops.specs.Prelude.{Place, index_of, IsCovered};
 ghost use Rattle.ic_rbtree.specs.Tree.{root_of};
 ghost use Rattle.ic_augmented.specs.Counts.{counts};
-ghost use Rattle.ic_augmented.specs.Summed.{links_of, sums_of};
+ghost use Rattle.ic_augmented.specs.Summed.{links_of, summaries_of};
 ghost use Rattle.ic_augmented.specs.SumTables.{room_of};
 
 use crate::notes::assert_words;
@@ -19,7 +19,7 @@ use ic_test_support::objects::reference;
 use std::alloc::Global;
 use std::process::Abort;
 
-// Puts a member into each of two trees, and notes the first tree's member at position 0. No call renews the first tree's counts after its insert.
+// Inserts a member into each of two trees, and notes the first tree's member at position 0. No call renews the first tree's counts after its insert.
 fn play<L: RBTreeOps + LinkValues<u64>>(
     rt: &impl Abort,
     notes: &mut Text,
@@ -29,8 +29,8 @@ fn play<L: RBTreeOps + LinkValues<u64>>(
 )
     requires covers { (L.table (links_of summed.old)).extent.places ≡ 4 }
     requires empty { (root_of first.old ≡ None) × (root_of second.old ≡ None) }
-    requires room { (q : Place) → IsCovered (L.table (links_of summed.old)) q → index_of q < room_of (sums_of summed.old) }
-    requires stale { (q : Place) → (counts (sums_of summed.old)).fresh q ≡ None }
+    requires room { (q : Place) → IsCovered (L.table (links_of summed.old)) q → index_of q < room_of (summaries_of summed.old) }
+    requires stale { (q : Place) → (counts (summaries_of summed.old)).fresh q ≡ None }
 {
     let put = insert_fresh(first, summed, reference(0));
     assert!(rt; put.is_ok());
@@ -39,7 +39,7 @@ fn play<L: RBTreeOps + LinkValues<u64>>(
     write_places(notes, &[nth(&*first, &*summed, 0)]);
 }
 
-// Does the same, and takes the second tree's member off again before it looks.
+// Does the same, and removes the second tree's member again before it looks.
 fn play_and_leave<L: RBTreeOps + LinkValues<u64>>(
     rt: &impl Abort,
     notes: &mut Text,
@@ -49,8 +49,8 @@ fn play_and_leave<L: RBTreeOps + LinkValues<u64>>(
 )
     requires covers { (L.table (links_of summed.old)).extent.places ≡ 4 }
     requires empty { (root_of first.old ≡ None) × (root_of second.old ≡ None) }
-    requires room { (q : Place) → IsCovered (L.table (links_of summed.old)) q → index_of q < room_of (sums_of summed.old) }
-    requires stale { (q : Place) → (counts (sums_of summed.old)).fresh q ≡ None }
+    requires room { (q : Place) → IsCovered (L.table (links_of summed.old)) q → index_of q < room_of (summaries_of summed.old) }
+    requires stale { (q : Place) → (counts (summaries_of summed.old)).fresh q ≡ None }
 {
     let put = insert_fresh(first, summed, reference(0));
     assert!(rt; put.is_ok());
@@ -65,10 +65,10 @@ fn four_counts(rt: &impl Abort, alloc: Global) -> Counts
     ensures room { 4 ≤ room_of result }
     ensures stale { (q : Place) → (counts result).fresh q ≡ None }
 {
-    let mut sums = Counts::new(alloc);
-    let covered = sums.cover(4);
+    let mut summaries = Counts::new(alloc);
+    let covered = summaries.cover(4);
     assert!(rt; covered.is_ok());
-    sums
+    summaries
 }
 
 // Promise: a tree stays summed while another one of its table gets a member.
@@ -78,8 +78,8 @@ fn a_tree_beside_another(rt: HostRuntime) {
     let mut links: LinkOpsWith<u64> = LinkOpsWith::new(rt.alloc());
     let _ = links.cover(4);
     assert!(rt; links.covers() == 4);
-    let sums = four_counts(&rt, rt.alloc());
-    let mut summed = Summed { links, sums };
+    let summaries = four_counts(&rt, rt.alloc());
+    let mut summed = Summed { links, summaries };
     let mut first = RBTree::new(OwnKey);
     let mut second = RBTree::new(OwnKey);
     play(&rt, &mut notes, &mut first, &mut second, &mut summed);
@@ -93,8 +93,8 @@ fn a_removal_beside_another(rt: HostRuntime) {
     let mut links: LinkOpsWith<u64> = LinkOpsWith::new(rt.alloc());
     let _ = links.cover(4);
     assert!(rt; links.covers() == 4);
-    let sums = four_counts(&rt, rt.alloc());
-    let mut summed = Summed { links, sums };
+    let summaries = four_counts(&rt, rt.alloc());
+    let mut summed = Summed { links, summaries };
     let mut first = RBTree::new(OwnKey);
     let mut second = RBTree::new(OwnKey);
     play_and_leave(&rt, &mut notes, &mut first, &mut second, &mut summed);

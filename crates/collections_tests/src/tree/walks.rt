@@ -1,4 +1,4 @@
-//! A walk over the objects of a tree whose keys are in a range, and one that takes members off.
+//! A walk over the objects of a tree whose keys are in a range, and a walk that removes members.
 
 ghost use Rattle.ic_link_ops.specs.PlacedObjects.{RepresentsPlaced};
 ghost use Rattle.ic_link_ops.specs.RedBlackTree.{Represents};
@@ -31,7 +31,7 @@ fn write_range<'a, L: RBTreeOps>(
     notes.add(value(walk.next_back()), " ");
 }
 
-// How many members a walk is over that takes them off, whether it takes the last one off after the first, and whether it is finished then, or
+// Rows for a walk that removes members: how many there are, whether it removes the last one after the first, and whether it is then finished or
 // dropped.
 // Promise: the tree iterator, a walk of seven from both ends, a dropped walk of a tree, a finished walk of a tree.
 const TAKEN: &[(usize, bool, bool)] = &[
@@ -42,7 +42,7 @@ const TAKEN: &[(usize, bool, bool)] = &[
     (4, false, false),
 ];
 
-// Takes the first member off, and the last one too if that is said, notes them and what is linked then, and finishes the walk or drops it.
+// Removes the first member, and the last one too if the row says so, notes them and what is then linked, and finishes the walk or drops it.
 fn write_taken(notes: &mut Text, fixture: &mut TreeFixture, from_back: bool, finishes: bool)
     requires shown { PlainRepresentsSome fixture.old.links (root_of fixture.old.tree) }
 {

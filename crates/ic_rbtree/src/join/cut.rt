@@ -1,9 +1,10 @@
-//! A tree that is cut at a hole: both parts grow as the way up is cut off below them.
+//! Splits a tree at a hole. On the way up from the hole, each member and its other subtree are joined to one of the two
+//! parts.
 //!
-//! The black heights are handed on from turn to turn, and a join takes the time of the difference between the heights of a part and of
-//! the subtree which comes to it. Before it the part is at most one higher than the subtree, and after it at least as high. So all joins
-//! of a part take the time of its last height, and a constant for each turn: O(log n), as in Tarjan, Data Structures and Network
-//! Algorithms, chapter 4.
+//! Each turn of the loop passes the black heights on to the next. A join takes time proportional to the difference between the heights
+//! of a part and of the subtree that is joined to it. Before the join the part is at most one higher than the subtree, and after it at
+//! least as high. So all joins of a part together take time proportional to its final height, and a constant for each turn: O(log n), as
+//! in Tarjan, Data Structures and Network Algorithms, chapter 4.
 //!
 //! ```text
 //! let (front, back) = cut_at(nodes, parent, side); // the roots of both parts
@@ -25,7 +26,8 @@ use crate::repair::writers::set_parent_and_color;
 use ic_link_ops::{Color, Side};
 use ic_unsafe_ref::Place;
 
-// A subtree of this black height becomes a tree of its own, with a black root. A red root made it one higher.
+// Makes a subtree of this black height a tree of its own, with a black root. If its root was red, its black height
+// grows by one.
 fn detach<N: NodeStore>(links: &mut N, child: Option<Place>, height: u32) -> Measured
     requires named { IsNamed N.node (N.table links.old) child }
     requires low { height < 4294967295 }
@@ -46,8 +48,8 @@ fn detach<N: NodeStore>(links: &mut N, child: Option<Place>, height: u32) -> Mea
     }
 }
 
-// The member above the hole is cut off with its other subtree, which has this black height, and both come to the part on their side.
-// The hole is where the member was.
+// Cuts off the member above the hole with its other subtree, which has this black height, and joins both to the part on their side.
+// The hole is then at the member's old position.
 fn cut_off<N: NodeStore>(
     links: &mut N,
     place: Place,
@@ -68,7 +70,7 @@ fn cut_off<N: NodeStore>(
     }
 }
 
-// Cuts a tree at a hole, and returns the roots of what is before it and of what is after it.
+// Splits a tree at a hole, and returns the roots of the part before it and of the part after it.
 pub(crate) fn cut_at<N: NodeStore>(
     links: &mut N,
     parent: Option<Place>,

@@ -1,4 +1,4 @@
-//! Trees by their roots: two of them and a linked place between them become one.
+//! Trees given by their roots, and the join of two trees with a linked place between them.
 //!
 //! ```text
 //! let root = join(nodes, left, place, right); // O(log n), and no look at a key
@@ -24,15 +24,15 @@ use crate::repair::writers::{adopt, set_child, set_color, set_parent};
 use ic_link_ops::{Color, PlaceWord, Side};
 use ic_unsafe_ref::Place;
 
-// A tree by its root, and how many black members stand on a way down.
+// A tree given by its root, with the number of black members on each path down.
 #[derive(Clone, Copy)]
 pub(crate) struct Measured {
     pub(crate) root: Option<Place>,
     pub(crate) height: u32,
 }
 
-// The linked place comes in where `near` stands on this side of `parent`, with `near` below it and `far`, a tree of its own, on this side
-// of it. The colors are repaired. It answers whether a way down has one black member more.
+// Inserts the linked place at the position of `near`, on this side of `parent`, with `near` below it, and with `far`, a tree of its own,
+// as its child on this side. Repairs the colors, and returns whether each path down has one black member more.
 pub(crate) fn graft<N: NodeStore>(
     links: &mut N,
     root: &mut PlaceWord,
@@ -76,7 +76,7 @@ pub(crate) fn weight_of<N: NodeStore>(links: &N, place: Place) -> u32
     }
 }
 
-// How many black members stand on a way down.
+// The number of black members on each path down.
 pub(crate) fn black_height<N: NodeStore>(links: &N, root: Option<Place>) -> u32
     requires { (t : Tree) × IsRootOf N.node (N.table links.now) root t × (height t < turns) }
     ensures { (t : Tree) → IsRootOf N.node (N.table links.now) root t → height t < turns → result ≡ blacks t }
@@ -93,8 +93,8 @@ pub(crate) fn black_height<N: NodeStore>(links: &N, root: Option<Place>) -> u32
     count
 }
 
-// Goes down on this side to the first black subtree, or missing child, with `want` black members on a way down, of `count` from the root,
-// and says what stands there, and below which member.
+// Goes down along this side to the first black subtree, or missing child, that has `want` black members on each path down; from the root
+// there are `count`. Returns that subtree's root and the member above it.
 pub(crate) fn descend_spine<N: NodeStore>(
     links: &N,
     root: Option<Place>,
@@ -125,7 +125,7 @@ pub(crate) fn descend_spine<N: NodeStore>(
     (at, above)
 }
 
-// Joins two trees, of which the first is at least as high, with a linked place between them: the first stands on the other side of it.
+// Joins two trees with a linked place between them. The first tree is at least as high, and is on the other side of the place.
 pub(crate) fn join_higher<N: NodeStore>(
     links: &mut N,
     tall: Measured,
@@ -147,7 +147,8 @@ pub(crate) fn join_higher<N: NodeStore>(
     }
 }
 
-// Joins two trees of known heights with a linked place between them, in the time of the difference of the heights.
+// Joins two trees of known heights with a linked place between them, in time proportional to the difference of the
+// heights.
 pub(crate) fn join_measured<N: NodeStore>(
     links: &mut N,
     left: Measured,

@@ -13,7 +13,7 @@ ghost use Rattle.ic_rbtree.specs.Kept.{RepresentsKept};
 ghost use Rattle.ic_rbtree.specs.Tree.{head_of, adapter_of};
 
 use crate::head::TreeHead;
-use crate::keys::probe::probe_within;
+use crate::keys::probe::probe_in_bound;
 use crate::{Bound, Cursor, CursorMut, CursorOwning, KeyAdapter, Probe, RBTree};
 use ic_link_ops::LinkOps;
 use ic_link_ops::rbtree::RBTreeOps;
@@ -26,9 +26,9 @@ impl<A: KeyAdapter, E: TreeHead> RBTree<A, E> {
 
     /// A cursor on the first member that meets the bound, null if there is none.
     ///
-    /// It requires that all members are placed, and that the count of the bound's probe is at most `u64::MAX - 66`. In a tree that
-    /// isn't sorted for the probe it is on a border: a member that meets the bound and whose predecessor, if any, doesn't.
-    /// O(log n): v looks in a tree of n members, where `2^v <= (n + 1)^2`, and none for `Unbounded`.
+    /// It requires that all members are placed, and that the count of the bound's probe is at most `u64::MAX - 66`. If the tree
+    /// isn't sorted for the probe, the cursor is on a border: on a member that meets the bound and whose predecessor, if any,
+    /// doesn't. O(log n): v comparisons in a tree of n members, with `2^v <= (n + 1)^2`, and none for `Unbounded`.
     #[inline]
     pub fn lower_bound_by<'a, L: RBTreeOps, P: Probe<A::Value>, O: Values<A::Value>>(
         &'a self,
@@ -49,7 +49,7 @@ impl<A: KeyAdapter, E: TreeHead> RBTree<A, E> {
         Cursor::new(self, links, self.lower(links, objects, bound))
     }
 
-    /// A cursor on the first member whose key meets the bound, null if there is none: `lower_bound_by` with a `KeyProbe`.
+    /// A cursor on the first member whose key meets the bound, null if there is none: `lower_bound_by` with a `KeyProbe`. O(log n).
     #[inline]
     pub fn lower_bound<'a, L: RBTreeOps, O: Values<A::Value>>(
         &'a self,
@@ -65,10 +65,10 @@ impl<A: KeyAdapter, E: TreeHead> RBTree<A, E> {
             (order_there A.Key.cmp (A.key_of (adapter_of self.now))) (O.values objects.now) bound.entry) s (position result) }
         ensures stands { IsValidCursor (RepresentsKept E.kept L.node) L.table (site_of result) }
     {
-        self.lower_bound_by(links, objects, &mut probe_within(self.adapter, bound))
+        self.lower_bound_by(links, objects, &mut probe_in_bound(self.adapter, bound))
     }
 
-    /// A cursor that edits, on the first member whose key meets the bound, null if there is none. As `lower_bound`.
+    /// A cursor that edits, on the first member whose key meets the bound, null if there is none. As `lower_bound`. O(log n).
     #[inline]
     pub fn lower_bound_mut<'a, L: RBTreeOps, O: Values<A::Value>>(
         &'a mut self,
@@ -83,11 +83,11 @@ impl<A: KeyAdapter, E: TreeHead> RBTree<A, E> {
             (order_there A.Key.cmp (A.key_of (adapter_of self.old))) (O.values objects.now) bound.entry) s (editing.position result) }
         ensures stands { IsValidCursor (RepresentsKept E.kept L.node) L.table (editing.site_of result) }
     {
-        let current = self.lower(&*links, objects, &mut probe_within(self.adapter, bound));
+        let current = self.lower(&*links, objects, &mut probe_in_bound(self.adapter, bound));
         CursorMut::new(self, links, current)
     }
 
-    /// A cursor that keeps the tree, on the first member whose key meets the bound, null if there is none. As `lower_bound`.
+    /// A cursor that owns the tree, on the first member whose key meets the bound, null if there is none. As `lower_bound`. O(log n).
     #[inline]
     pub fn lower_bound_owning<L: RBTreeOps, O: Values<A::Value>>(
         self,
@@ -102,15 +102,15 @@ impl<A: KeyAdapter, E: TreeHead> RBTree<A, E> {
             (order_there A.Key.cmp (A.key_of (adapter_of self))) (O.values objects.now) bound.entry) s (owning.position result) }
         ensures stands { IsValidCursor (RepresentsKept E.kept L.node) L.table (owning.site_of links.now result) }
     {
-        let current = self.lower(links, objects, &mut probe_within(self.adapter, bound));
+        let current = self.lower(links, objects, &mut probe_in_bound(self.adapter, bound));
         CursorOwning::new(self, current)
     }
 
     /// A cursor on the last member that meets the bound, null if there is none.
     ///
-    /// It requires that all members are placed, and that the count of the bound's probe is at most `u64::MAX - 66`. In a tree that
-    /// isn't sorted for the probe it is on a border: a member that meets the bound and whose successor, if any, doesn't.
-    /// O(log n): v looks in a tree of n members, where `2^v <= (n + 1)^2`, and none for `Unbounded`.
+    /// It requires that all members are placed, and that the count of the bound's probe is at most `u64::MAX - 66`. If the tree
+    /// isn't sorted for the probe, the cursor is on a border: on a member that meets the bound and whose successor, if any,
+    /// doesn't. O(log n): v comparisons in a tree of n members, with `2^v <= (n + 1)^2`, and none for `Unbounded`.
     #[inline]
     pub fn upper_bound_by<'a, L: RBTreeOps, P: Probe<A::Value>, O: Values<A::Value>>(
         &'a self,
@@ -131,7 +131,7 @@ impl<A: KeyAdapter, E: TreeHead> RBTree<A, E> {
         Cursor::new(self, links, self.upper(links, objects, bound))
     }
 
-    /// A cursor on the last member whose key meets the bound, null if there is none: `upper_bound_by` with a `KeyProbe`.
+    /// A cursor on the last member whose key meets the bound, null if there is none: `upper_bound_by` with a `KeyProbe`. O(log n).
     #[inline]
     pub fn upper_bound<'a, L: RBTreeOps, O: Values<A::Value>>(
         &'a self,
@@ -147,10 +147,10 @@ impl<A: KeyAdapter, E: TreeHead> RBTree<A, E> {
             (order_there A.Key.cmp (A.key_of (adapter_of self.now))) (O.values objects.now) bound.entry) s (position result) }
         ensures stands { IsValidCursor (RepresentsKept E.kept L.node) L.table (site_of result) }
     {
-        self.upper_bound_by(links, objects, &mut probe_within(self.adapter, bound))
+        self.upper_bound_by(links, objects, &mut probe_in_bound(self.adapter, bound))
     }
 
-    /// A cursor that edits, on the last member whose key meets the bound, null if there is none. As `upper_bound`.
+    /// A cursor that edits, on the last member whose key meets the bound, null if there is none. As `upper_bound`. O(log n).
     #[inline]
     pub fn upper_bound_mut<'a, L: RBTreeOps, O: Values<A::Value>>(
         &'a mut self,
@@ -165,11 +165,11 @@ impl<A: KeyAdapter, E: TreeHead> RBTree<A, E> {
             (order_there A.Key.cmp (A.key_of (adapter_of self.old))) (O.values objects.now) bound.entry) s (editing.position result) }
         ensures stands { IsValidCursor (RepresentsKept E.kept L.node) L.table (editing.site_of result) }
     {
-        let current = self.upper(&*links, objects, &mut probe_within(self.adapter, bound));
+        let current = self.upper(&*links, objects, &mut probe_in_bound(self.adapter, bound));
         CursorMut::new(self, links, current)
     }
 
-    /// A cursor that keeps the tree, on the last member whose key meets the bound, null if there is none. As `upper_bound`.
+    /// A cursor that owns the tree, on the last member whose key meets the bound, null if there is none. As `upper_bound`. O(log n).
     #[inline]
     pub fn upper_bound_owning<L: RBTreeOps, O: Values<A::Value>>(
         self,
@@ -184,7 +184,7 @@ impl<A: KeyAdapter, E: TreeHead> RBTree<A, E> {
             (order_there A.Key.cmp (A.key_of (adapter_of self))) (O.values objects.now) bound.entry) s (owning.position result) }
         ensures stands { IsValidCursor (RepresentsKept E.kept L.node) L.table (owning.site_of links.now result) }
     {
-        let current = self.upper(links, objects, &mut probe_within(self.adapter, bound));
+        let current = self.upper(links, objects, &mut probe_in_bound(self.adapter, bound));
         CursorOwning::new(self, current)
     }
 }

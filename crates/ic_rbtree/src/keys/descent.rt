@@ -1,4 +1,4 @@
-//! The way from the root to where a key belongs, by one look a member.
+//! The path from the root to where a key belongs, with one comparison for each member on it.
 
 ghost use Rattle.std.specs.Prelude.{◌≡◌, ◌+◌, ◌<◌, true, IsSome, cond, List};
 ghost use Rattle.std.specs.Bool.{OnTrue};
@@ -16,10 +16,10 @@ use ic_link_ops::{PlaceWord, Side};
 use ic_unsafe_ref::{Place, Values};
 use std::cmp::Ordering;
 
-/// Where a search from the root has come to: a gap between two members.
+/// The state of a search from the root: the gap between two members that it has reached.
 #[derive(Drop)]
 pub struct Descent {
-    /// The member below which the gap is, none in an empty tree.
+    /// The member below which the gap is, `None` in an empty tree.
     pub parent: PlaceWord,
     /// The side of that member.
     pub side: Side,
@@ -31,7 +31,7 @@ pub struct Descent {
     pub(crate) equal: PlaceWord,
 }
 
-// Whether a descent goes left at a member that answers so, where it turns to the side `equals` at an equal one.
+// Whether a descent goes left at a member that compares so. At an equal member it goes to the side `equals`.
 #[inline]
 fn goes_left(order: Ordering, equals: Side) -> bool
     ensures { result ≡ goes_left equals order }
@@ -42,7 +42,7 @@ fn goes_left(order: Ordering, equals: Side) -> bool
     }
 }
 
-// How what is searched stands to the object of a member.
+// How the searched key compares with the object of a member.
 #[inline]
 fn compare_at<V, P: Probe<V>, O: Values<V>>(objects: &O, probe: &mut P, place: Place) -> Ordering
     requires placed { is_placed (O.values objects.now) place ≡ true }
@@ -55,7 +55,7 @@ fn compare_at<V, P: Probe<V>, O: Values<V>>(objects: &O, probe: &mut P, place: P
 }
 
 impl Descent {
-    /// Whether the member after the gap compared equal. One comparison of places.
+    /// Whether the member after the gap compared equal. One comparison of places. O(1).
     #[inline]
     pub fn is_equal(&self) -> bool
         ensures { result ≡ is_equal self.now }
@@ -66,7 +66,7 @@ impl Descent {
         }
     }
 
-    // At the root.
+    // The state at the root.
     #[inline]
     pub(crate) fn new() -> Descent
         ensures { result ≡ at_root }
@@ -80,7 +80,7 @@ impl Descent {
         }
     }
 
-    // Compares what is searched with a member, and goes past it. Says whether it went left.
+    // Compares the searched key with a member, and goes past it. Returns whether it went left.
     #[inline]
     pub(crate) fn look<V, P: Probe<V>, O: Values<V>>(
         &mut self,
@@ -121,7 +121,7 @@ impl Descent {
     }
 }
 
-// One of two places or none, picked as a word, which takes no branch.
+// Returns one of two places or none. It selects among the words, which takes no branch.
 #[inline]
 fn pick(takes_left: bool, left: Option<Place>, right: Option<Place>) -> Option<Place>
     ensures { result ≡ cond takes_left left right }
@@ -142,11 +142,12 @@ fn are_some(left: Option<Place>, right: Option<Place>) -> bool
     left.is_some() && right.is_some()
 }
 
-// Goes down from the root to a gap: left of the members that are greater than what is searched, right of those that are
-// less, and past equal ones to the side `equals`.
+// Goes down from the root to a gap: to the left of members that are greater than the searched key, to the right of
+// those that are less, and past equal ones to the side `equals`.
 //
-// Of both children one is picked, so that no guess of a processor is wrong, as every second one is for keys at random. A test of both
-// after the loop, which never holds, keeps both loads: the compiler would else make them one, from a picked address.
+// The loop loads both children and selects one, so the processor has no branch to predict; for random keys it would mispredict half
+// of them. The test of both after the loop never holds. It makes the compiler keep both loads, which it would otherwise merge into
+// one load from a selected address.
 #[inline]
 pub(crate) fn descend<L: RBTreeOps, V, P: Probe<V>, O: Values<V>>(
     links: &L,

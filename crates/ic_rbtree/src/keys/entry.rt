@@ -1,4 +1,4 @@
-//! The member with a key, or the gap where it would stand.
+//! The member with a key, or the gap where it would be inserted.
 //!
 //! ```text
 //! let cursor = tree.entry(&mut links, &objects, &5).or_insert_with(|| object)?;
@@ -23,7 +23,7 @@ use ic_unsafe_ref::{UnsafeRef, Values};
 use std::error::Error;
 use std::fmt;
 
-/// The gap of a tree where a key would stand that no member has, with the tree and the table of its links.
+/// The gap of a tree where a key that no member has would be inserted, with the tree and the table of its links.
 pub struct InsertCursor<'a, A, L, E = Root> {
     tree: &'a mut RBTree<A, E>,
     links: &'a mut L,
@@ -45,12 +45,12 @@ impl<A, L, E> Drop for InsertCursor<'_, A, L, E> {
     }
 }
 
-/// An insert that was refused, since the object is linked: the gap, as it was, and the object.
+/// The error of an insert that was refused since the object is linked. It has the gap, as it was, and the object.
 #[derive(Drop)]
 pub struct RefusedInsert<'a, A: KeyAdapter, L, E = Root> {
-    /// The gap, in a tree and a table as they were.
+    /// The gap. The tree and the table are as they were.
     pub gap: InsertCursor<'a, A, L, E>,
-    /// The object that came back.
+    /// The object that was refused.
     pub object: UnsafeRef<A::Value>,
 }
 
@@ -71,20 +71,20 @@ impl<A: KeyAdapter, L, E> fmt::Display for RefusedInsert<'_, A, L, E> {
 
 impl<A: KeyAdapter, L, E> Error for RefusedInsert<'_, A, L, E> {}
 
-/// What `entry` finds: a cursor on the first member with the key, or the gap where it would stand.
+/// The result of `entry`: a cursor on the first member with the key, or the gap where it would be inserted.
 #[derive(Drop)]
 pub enum Entry<'a, A: KeyAdapter, L, E: TreeHead = Root> {
     /// A member has the key.
     Occupied(CursorMut<'a, A, L, E>),
-    /// No member that was looked at has it.
+    /// No member that was compared has it.
     Vacant(InsertCursor<'a, A, L, E>),
 }
 
 impl<A: KeyAdapter, E: TreeHead> RBTree<A, E> {
     /// The first member that compares equal, or the gap where the search ended.
     ///
-    /// It requires that all members are placed, and that the probe's count is at most `u64::MAX - 66`. It descends as `find_by`.
-    /// O(log n): v looks in a tree of n members, where `2^v <= (n + 1)^2`.
+    /// It requires that all members are placed, and that the probe's count is at most `u64::MAX - 66`. It descends as `find_by`
+    /// does. O(log n): v comparisons in a tree of n members, with `2^v <= (n + 1)^2`.
     pub fn entry_by<'a, L: RBTreeOps, P: Probe<A::Value>, O: Values<A::Value>>(
         &'a mut self,
         links: &'a mut L,
@@ -118,7 +118,7 @@ impl<A: KeyAdapter, E: TreeHead> RBTree<A, E> {
         })
     }
 
-    /// The first member with this key, or the gap where it would stand: `entry_by` with a `KeyProbe`. O(log n).
+    /// The first member with this key, or the gap where it would be inserted: `entry_by` with a `KeyProbe`. O(log n).
     pub fn entry<'a, L: RBTreeOps, O: Values<A::Value>>(
         &'a mut self,
         links: &'a mut L,
@@ -142,10 +142,10 @@ impl<A: KeyAdapter, E: TreeHead> RBTree<A, E> {
 }
 
 impl<'a, A: KeyAdapter, L: RBTreeOps, E: TreeHead> InsertCursor<'a, A, L, E> {
-    /// Inserts the object at the gap, whatever its key is, unless its link is refused. The cursor that it answers is on the object.
+    /// Inserts the object at the gap, whatever its key is, unless its link is refused. Returns a cursor on the object.
     ///
-    /// It requires that the object's place is covered. A refused object comes back with the gap, and tree and table are as they were.
-    /// O(log n): no look, and the repair.
+    /// It requires that the object's place is covered. If the link is refused, the object and the gap are returned, and the tree and
+    /// the table are as they were. O(log n) for the repair. It compares no keys.
     pub fn insert(
         self,
         object: UnsafeRef<A::Value>,
@@ -175,10 +175,10 @@ impl<'a, A: KeyAdapter, L: RBTreeOps, E: TreeHead> InsertCursor<'a, A, L, E> {
 }
 
 impl<'a, A: KeyAdapter, L: RBTreeOps, E: TreeHead> Entry<'a, A, L, E> {
-    /// The cursor on the member that has the key, or on the object, which is inserted where the key would stand.
+    /// Returns the cursor on the member that has the key, or inserts the object at the gap and returns a cursor on it.
     ///
-    /// Where the entry is vacant, it requires that the object's place is covered; a refused object comes back with the gap, and tree
-    /// and table are as they were. Where it is occupied, nothing is linked.
+    /// If the entry is vacant, it requires that the object's place is covered; if the link is refused, the object and the gap are
+    /// returned, and the tree and the table are as they were. If the entry is occupied, nothing is linked. O(log n).
     pub fn or_insert(
         self,
         object: UnsafeRef<A::Value>,
@@ -194,7 +194,7 @@ impl<'a, A: KeyAdapter, L: RBTreeOps, E: TreeHead> Entry<'a, A, L, E> {
         }
     }
 
-    /// The cursor that `or_insert` returns, with the object that `make` gives, which is called only where the entry is vacant.
+    /// Does what `or_insert` does with the object that `make` returns. It calls `make` only if the entry is vacant. O(log n).
     pub fn or_insert_with<F: FnOnce() -> UnsafeRef<A::Value>>(
         self,
         make: F,

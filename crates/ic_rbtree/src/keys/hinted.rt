@@ -20,12 +20,12 @@ use ic_link_ops::{AlreadyLinked, LinkOps};
 use ic_unsafe_ref::{UnsafeRef, Values};
 
 impl<A: KeyAdapter, E: TreeHead> RBTree<A, E> {
-    /// Inserts the object where the probe's order wants it, with a hint: the member before which it probably goes. It looks at that
-    /// member, and at the one before it. If the object goes between both, it makes no descent, and else it descends.
+    /// Inserts the object where it belongs by the probe's order, with a hint: the member before which it probably goes. It first
+    /// compares that member and the one before it. If the object does not belong between them, it descends from the root.
     ///
     /// It requires that the object's place is covered, that all members are placed, that the hint is a member, and that the probe's count is
-    /// at most `u64::MAX - 68`. A refused object comes back, nothing is looked at, and the tree and its links are as they were. O(log n):
-    /// two looks at most where the hint is right, and else v in a tree of n members, where `2^v <= 2 * (n + 1)^2`.
+    /// at most `u64::MAX - 68`. If the link is refused, no key is compared, the object is returned, and the tree and its links are as they
+    /// were. O(log n): at most two comparisons if the hint is right, otherwise v in a tree of n members, with `2^v <= 2 * (n + 1)^2`.
     #[inline]
     pub fn insert_with_hint_by<L: RBTreeOps, P: Probe<A::Value>, O: Values<A::Value>>(
         &mut self,
@@ -61,7 +61,7 @@ impl<A: KeyAdapter, E: TreeHead> RBTree<A, E> {
     }
 
     /// Inserts the object where its own key belongs, after members with the same key, with a hint: `insert_with_hint_by` with a
-    /// `KeyProbe`. It requires that the object is placed, too. O(log n), and two looks at most where the hint is right.
+    /// `KeyProbe`. It requires that the object is placed, too. O(log n), and at most two comparisons if the hint is right.
     #[inline]
     pub fn insert_with_hint<L: RBTreeOps, O: Values<A::Value>>(
         &mut self,

@@ -1,4 +1,5 @@
-//! Where an object comes in by its key: the member below which it goes, none in an empty tree, and the side of that member.
+//! The hole where an object belongs by its key: the member below which it goes, `None` in an empty tree, and the side of
+//! that member.
 //!
 //! ```text
 //! let (parent, side) = hole_for(&links, &head, &objects, &mut probe); // a descent, or first a look at the last member if it is kept
@@ -15,14 +16,15 @@ ghost use Rattle.ic_rbtree.specs.Insertion.{IsInsertPos};
 ghost use Rattle.ic_rbtree.specs.Kept.{RepresentsKept, HasRoomFor, InsertLooks};
 
 use crate::Probe;
+use crate::bounded::step_bounded;
 use crate::head::TreeHead;
 use crate::keys::descent::descend;
-use crate::within::step_within;
 use ic_link_ops::Side;
 use ic_link_ops::rbtree::RBTreeOps;
 use ic_unsafe_ref::{Place, Values};
 
-// Whether what is searched is less than the object at a position. It is not at null, which takes no look.
+// Whether the searched key is less than that of the object at a position. At null the result is false, without a
+// comparison.
 #[inline]
 fn is_less<V, P: Probe<V>, O: Values<V>>(objects: &O, probe: &mut P, at: Option<Place>) -> bool
     requires placed { IfSome at (λ p. is_placed (O.values objects.now) p ≡ true) }
@@ -37,12 +39,13 @@ fn is_less<V, P: Probe<V>, O: Values<V>>(objects: &O, probe: &mut P, at: Option<
     }
 }
 
-// Whether what is searched is not less than the object at a position. At null it takes no look, and the answer is no.
+// Whether the searched key is at least that of the object at a position. At null the result is false, without a
+// comparison.
 #[inline]
 fn is_after<V, P: Probe<V>, O: Values<V>>(objects: &O, probe: &mut P, at: Option<Place>) -> bool
     requires placed { IfSome at (λ p. is_placed (O.values objects.now) p ≡ true) }
     requires room { P.count probe.old < 18446744073709551615 }
-    ensures behind { result ≡ after_there (compared (P.order probe.old) (O.values objects.now)) at }
+    ensures after { result ≡ after_there (compared (P.order probe.old) (O.values objects.now)) at }
     ensures counted { P.count probe.new ≡ P.count probe.old + looks_there at }
     ensures same { P.order probe.new ≡ P.order probe.old }
 {
@@ -52,7 +55,8 @@ fn is_after<V, P: Probe<V>, O: Values<V>>(objects: &O, probe: &mut P, at: Option
     }
 }
 
-// Where what is searched belongs: after the last member, which is looked at first if the tree keeps it, or else where a descent ends.
+// The hole where the searched key belongs. If the tree stores its last member, that one is compared first, and the key may belong
+// after it. Otherwise a descent finds the hole.
 #[inline]
 pub(crate) fn hole_for<E: TreeHead, L: RBTreeOps, V, P: Probe<V>, O: Values<V>>(
     links: &L,
@@ -75,8 +79,8 @@ pub(crate) fn hole_for<E: TreeHead, L: RBTreeOps, V, P: Probe<V>, O: Values<V>>(
     (hole.parent.get(), hole.side)
 }
 
-// The gap between two members that stand side by side, or before the first: below `back`, or where that has a subtree there,
-// below the last member of it, which is `front`.
+// The hole of the gap between two neighbors, or before the first member. It is below `back`, or if `back` has a subtree on
+// that side, below that subtree's last member, which is `front`.
 #[inline]
 fn hole_between<L: RBTreeOps>(links: &L, front: Option<Place>, back: Place) -> (Option<Place>, Side)
     requires { IsLinked L.linked (L.table links.now) back }
@@ -89,8 +93,8 @@ fn hole_between<L: RBTreeOps>(links: &L, front: Option<Place>, back: Place) -> (
     }
 }
 
-// The gap before the member at `place`, if what is searched belongs there. It looks at that member, and where it is less, at the
-// one before.
+// The gap before the member at `place`, if the searched key belongs there. It compares that member, and if the key is less, also
+// the one before.
 #[inline]
 fn hole_before<L: RBTreeOps, V, P: Probe<V>, O: Values<V>>(
     links: &L,
@@ -112,14 +116,14 @@ fn hole_before<L: RBTreeOps, V, P: Probe<V>, O: Values<V>>(
     if !is_less(objects, probe, Some(place)) {
         return None;
     }
-    let front = step_within(links, root, Some(place), Side::Left);
+    let front = step_bounded(links, root, Some(place), Side::Left);
     if is_less(objects, probe, front) {
         return None;
     }
     Some(hole_between(links, front, place))
 }
 
-// Where what is searched belongs: before the member at `hint`, or else where a descent ends.
+// The hole where the searched key belongs: before the member at `hint`, or otherwise where a descent ends.
 #[inline]
 pub(crate) fn hole_near<L: RBTreeOps, V, P: Probe<V>, O: Values<V>>(
     links: &L,

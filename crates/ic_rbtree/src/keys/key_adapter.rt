@@ -1,10 +1,10 @@
-//! Where the key of an object stands, and what bounds a search by keys.
+//! Which part of an object is its key, and the bounds of searches by keys.
 
 ghost use Rattle.std.specs.Prelude.{◌≡◌};
 
 /// Says which part of an object is its key.
 ///
-/// The key is a function of adapter and value: while a value is not changed, its key is the same.
+/// The key is a function of the adapter and the value: while a value is not changed, its key stays the same.
 ///
 /// ```text
 /// impl KeyAdapter for ByDeadline {
@@ -17,10 +17,10 @@ ghost use Rattle.std.specs.Prelude.{◌≡◌};
 /// }
 /// ```
 pub trait KeyAdapter: Copy {
-    /// What is placed in the tree: the objects whose keys the adapter finds.
+    /// The type of the objects whose keys the adapter finds.
     type Value;
 
-    /// What the tree compares by its `Ord`.
+    /// The type of the keys, which the tree compares by its `Ord`.
     type Key: Ord;
 
     // The key of a value.
@@ -38,10 +38,10 @@ pub trait KeyAdapter: Copy {
 /// ```
 #[derive(Copy, Clone, PartialEq, Eq, Hash, Debug)]
 pub enum Bound<T> {
-    /// This key is the end, and within.
+    /// The end is this key, which is within the range.
     Included(T),
-    /// This key is the end, and not within.
+    /// The end is this key, which is not within the range.
     Excluded(T),
-    /// There is no end on this side.
+    /// The range has no end on this side.
     Unbounded,
 }

@@ -1,4 +1,4 @@
-//! Inserts in a table that keeps the keys.
+//! Inserts into trees whose table stores the keys.
 //!
 //! ```text
 //! links.set_value(object.place(), 5);
@@ -21,12 +21,12 @@ use ic_link_ops::{AlreadyLinked, LinkOps, LinkValues};
 use ic_unsafe_ref::{UnsafeRef, Values};
 
 impl<A: KeyAdapter, E: TreeHead> RBTree<A, E> {
-    /// Inserts the object where the probe's order wants it, after members that compare equal, unless its link is refused:
-    /// [`insert_by`](RBTree::insert_by) where the table keeps the values.
+    /// Inserts the object where it belongs by the probe's order, after members that compare equal, unless its link is
+    /// refused: [`insert_by`](RBTree::insert_by) for a table that stores the values.
     ///
-    /// It requires that the object's place is covered, that the tree is represented, and that the probe's count is at most `u64::MAX - 66`, or one
-    /// less where the ends are kept. A refused object comes back, nothing is looked at, and the tree and its links are as they were.
-    /// O(log n): v looks in a tree of n members, where `2^v <= (n + 1)^2`.
+    /// It requires that the object's place is covered, that the table represents the tree, and that the probe's count is at most `u64::MAX - 66`,
+    /// or one less if the tree stores its ends. If the link is refused, no key is compared, the object is returned, and the tree and its links are
+    /// as they were. O(log n): v comparisons in a tree of n members, with `2^v <= (n + 1)^2`.
     #[inline]
     pub fn insert_keyed_by<L: RBTreeOps + LinkValues<A::Value>, P: Probe<A::Value>>(
         &mut self,
@@ -59,11 +59,11 @@ impl<A: KeyAdapter, E: TreeHead> RBTree<A, E> {
         Ok(())
     }
 
-    /// Inserts the object where the key that the table keeps beside its link belongs: [`insert`](RBTree::insert) where the table keeps
-    /// the values. A look reads one entry, which has the key and the children.
+    /// Inserts the object by the key that the table stores beside its link: [`insert`](RBTree::insert) for a table that stores the
+    /// values. A comparison reads one entry, which has the key and the children.
     ///
-    /// It requires that the object's place is covered, and that the tree is represented. A refused object comes back, nothing is looked at, and the
-    /// tree and its links are as they were. O(log n).
+    /// It requires that the object's place is covered, and that the table represents the tree. If the link is refused, no key is compared, the
+    /// object is returned, and the tree and its links are as they were. O(log n).
     #[inline(always)]
     pub fn insert_keyed<L: RBTreeOps + LinkValues<A::Value>>(
         &mut self,

@@ -23,7 +23,7 @@ use ic_unsafe_ref::{Place, UnsafeRef, Values};
 impl<A: KeyAdapter, E: TreeHead, L: RBTreeOps> Ordered<L> for RBTree<A, E> {
     ghost order_of = { λ tree objects object. compared (own_order A.Key.cmp (A.key_of (adapter_of tree)) objects object) objects };
 
-    // O(log n): at most 66 looks, none where the link is refused.
+    // O(log n): at most 66 comparisons, none if the link is refused.
     #[inline]
     fn insert_in_order<O: Values<A::Value>>(
         &mut self,
@@ -40,13 +40,13 @@ impl<A: KeyAdapter, E: TreeHead, L: RBTreeOps> Ordered<L> for RBTree<A, E> {
 }
 
 impl<A: KeyAdapter, E: TreeHead> RBTree<A, E> {
-    /// Inserts the object where the probe's order wants it: after members that compare equal, unless its link is refused. A tree that keeps
-    /// its ends looks at the last member first, and makes no descent where the object goes after that.
+    /// Inserts the object where it belongs by the probe's order, after members that compare equal, unless its link is refused. A tree that
+    /// stores its ends compares the last member first, and makes no descent if the object goes after it.
     ///
-    /// It requires that the object's place is covered, that all members are placed, and that the probe's count is at most
-    /// `u64::MAX - 66`, or one less where the ends are kept. A refused object comes back, nothing is looked at, and the tree and its links are as
-    /// they were. The crate returns a cursor on the object; here that is one more call, `cursor_mut_from_ptr`. O(log n): v looks in a tree of n
-    /// members, where `2^v <= (n + 1)^2`.
+    /// It requires that the object's place is covered, that all members are placed, and that the probe's count is at most `u64::MAX - 66`, or one
+    /// less if the tree stores its ends. If the link is refused, no key is compared, the object is returned, and the tree and its links are as
+    /// they were. The Rust crate returns a cursor on the object; here you get it by one more call, `cursor_mut_from_ptr`. O(log n): v comparisons
+    /// in a tree of n members, with `2^v <= (n + 1)^2`.
     #[inline]
     pub fn insert_by<L: RBTreeOps, P: Probe<A::Value>, O: Values<A::Value>>(
         &mut self,

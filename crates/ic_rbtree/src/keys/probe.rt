@@ -1,4 +1,4 @@
-//! What a search asks the objects of a tree.
+//! How a search compares its key with the objects of a tree.
 //!
 //! ```text
 //! let mut probe = KeyProbe::new(ByDeadline, &5);
@@ -15,19 +15,19 @@ ghost use Rattle.ic_rbtree.specs.KeyProbe.{adapter_of, key_of_probe, key_order, 
 use crate::{Bound, KeyAdapter};
 use std::cmp::Ordering;
 
-/// What is searched, and how it compares with a value: for searches by more than a key.
+/// A search key of any form, and how it compares with a value.
 ///
-/// A descent in a tree calls `compare` once a member that it passes. Such a call is a look.
+/// A descent in a tree calls `compare` once for each member that it passes. Such a call is a look.
 pub trait Probe<V> {
-    // How what is searched stands to a value: `Less` where it is less.
+    // How the searched key compares with a value: `Less` if the searched key is less than that of the value.
     ghost order: { Self → V → Ordering };
 
-    // How many looks it has made.
+    // The number of looks that the probe has made.
     ghost count: { Self → ℕ };
 
-    /// Compares what is searched with `value`: `Less` where it is less.
+    /// Compares the searched key with `value`: `Less` if the key is less.
     ///
-    /// It requires that the count of looks is below `u64::MAX`. It counts one more, and compares as before.
+    /// It requires that the count of looks is below `u64::MAX`. The probe counts one look more, and compares as before.
     fn compare(&mut self, value: &V) -> Ordering
         requires room { count self.old < 18446744073709551615 }
         ensures answer { result ≡ order self.old value.now }
@@ -47,7 +47,7 @@ where
 }
 
 impl<'k, A: KeyAdapter> KeyProbe<'k, A> {
-    /// A search for `key` that has made no look.
+    /// A search for `key` that has made no look. O(1).
     #[inline]
     pub fn new(adapter: A, key: &'k A::Key) -> KeyProbe<'k, A>
         ensures adapter { adapter_of result ≡ adapter }
@@ -61,7 +61,7 @@ impl<'k, A: KeyAdapter> KeyProbe<'k, A> {
         }
     }
 
-    /// How many looks it has made: how many objects it was compared with.
+    /// The number of looks that it has made: how many objects it was compared with. O(1).
     #[inline]
     pub fn looks(&self) -> u64
         ensures { result ≡ looks_of self.now }
@@ -78,12 +78,14 @@ impl<A: KeyAdapter> Probe<A::Value> for KeyProbe<'_, A> {
     #[inline]
     fn compare(&mut self, value: &A::Value) -> Ordering {
         self.looks += 1;
-        // The value's key stands first, so that a search picks its way by one flag of the processor: `v < k`, and not `k > v`.
+        // The value's key is the first operand, so a search chooses its way by one flag of the processor: `v < k`, and not `k
+        // > v`.
         self.adapter.get_key(value).cmp(self.key).reverse()
     }
 }
 
-/// The same search, for an insert: it goes left where its key is less, so the key stands first, and one flag tells: `k < v`.
+/// The same search, for an insert. An insert goes left if its key is less, so its key is the first operand, and one flag
+/// decides: `k < v`.
 #[derive(Drop)]
 pub(crate) struct KeyFirst<'k, A: KeyAdapter>
 where
@@ -117,9 +119,9 @@ impl<A: KeyAdapter> Probe<A::Value> for KeyFirst<'_, A> {
     }
 }
 
-// The same bound, of searches for its key that have made no look.
+// The same bound, with a search for its key that has made no look.
 #[inline]
-pub(crate) fn probe_within<'k, A: KeyAdapter>(
+pub(crate) fn probe_in_bound<'k, A: KeyAdapter>(
     adapter: A,
     bound: Bound<&'k A::Key>,
 ) -> Bound<KeyProbe<'k, A>>

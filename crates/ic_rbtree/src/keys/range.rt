@@ -16,7 +16,7 @@ ghost use Rattle.ic_rbtree.specs.Ranges.{runs_up, IsRange};
 ghost use Rattle.ic_rbtree.specs.Tree.{head_of, adapter_of};
 
 use crate::head::TreeHead;
-use crate::keys::probe::probe_within;
+use crate::keys::probe::probe_in_bound;
 use crate::{Bound, Iter, KeyAdapter, KeyProbe, RBTree};
 use ic_link_ops::LinkOps;
 use ic_link_ops::rbtree::RBTreeOps;
@@ -24,7 +24,7 @@ use ic_unsafe_ref::{Place, Values};
 use std::marker::PhantomData;
 
 impl<A: KeyAdapter, E: TreeHead> RBTree<A, E> {
-    // Whether both positions are on members, and the key at the second is not less than that at the first. No look is counted.
+    // Whether both positions are on members, and the key at the second is at least that at the first. No look is counted.
     fn runs_up<O: Values<A::Value>>(
         &self,
         objects: &O,
@@ -46,11 +46,11 @@ impl<A: KeyAdapter, E: TreeHead> RBTree<A, E> {
         last.cmp(first).is_ge()
     }
 
-    /// A walk over the objects between two bounds, from the lower border of `min` to the upper border of `max`. Nothing where the
-    /// key at the second is less than that at the first.
+    /// A walk over the objects between two bounds, from the lower border of `min` to the upper border of `max`. It is empty if
+    /// the key at the upper border is less than that at the lower one.
     ///
     /// It requires that all members are placed, that both probes have the tree's adapter, and that their counts are at most
-    /// `u64::MAX - 66`. O(log n): two descents, each of v looks in a tree of n members, where `2^v <= (n + 1)^2`.
+    /// `u64::MAX - 66`. O(log n): two descents, each with v comparisons in a tree of n members, with `2^v <= (n + 1)^2`.
     pub fn range_by<'a, L: RBTreeOps, O: Values<A::Value>>(
         &'a self,
         links: &'a L,
@@ -113,8 +113,8 @@ impl<A: KeyAdapter, E: TreeHead> RBTree<A, E> {
         ensures walks { objects_left L.node L.table O.values result ≡ values_at (O.values objects.now) (rest_of L.node L.table result) }
         ensures can_walk { CanWalk L.node L.table O.values result }
     {
-        let mut from = probe_within(self.adapter, min);
-        let mut to = probe_within(self.adapter, max);
+        let mut from = probe_in_bound(self.adapter, min);
+        let mut to = probe_in_bound(self.adapter, max);
         self.range_by(links, objects, &mut from, &mut to)
     }
 }

@@ -1,4 +1,4 @@
-//! Members that stand at a border of a search, for all cursors.
+//! The members at a border of a search, for all cursors.
 
 ghost use Rattle.std.specs.Prelude.{◌≡◌, List};
 ghost use Rattle.ic_link_ops.specs.Prelude.{Place, first, last, RepresentsPlaced};
@@ -40,7 +40,7 @@ impl<A: KeyAdapter, E: TreeHead> RBTree<A, E> {
         descent.back
     }
 
-    // The member after the gap to which the bound sends from below: one that meets it.
+    // The member after the gap that a descent for the lower bound reaches. It meets the bound.
     #[inline]
     pub(crate) fn lower<L: RBTreeOps, P: Probe<A::Value>, O: Values<A::Value>>(
         &self,
@@ -65,7 +65,7 @@ impl<A: KeyAdapter, E: TreeHead> RBTree<A, E> {
         }
     }
 
-    // The member before the gap to which the bound sends from above: one that meets it.
+    // The member before the gap that a descent for the upper bound reaches. It meets the bound.
     #[inline]
     pub(crate) fn upper<L: RBTreeOps, P: Probe<A::Value>, O: Values<A::Value>>(
         &self,

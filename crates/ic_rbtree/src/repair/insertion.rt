@@ -1,4 +1,4 @@
-//! How a place is put into a tree, and the colors are repaired: the cases are numbered as in RB-INSERT-FIXUP of Cormen,
+//! Inserts a place into a tree, and repairs the colors. The cases are numbered as in RB-INSERT-FIXUP of Cormen,
 //! Leiserson, Rivest and Stein.
 
 ghost use Rattle.std.specs.Prelude.{Option, Some, [], ◌∷◌};
@@ -13,7 +13,7 @@ use crate::repair::writers::{rotate, set_child, set_color, set_node};
 use ic_link_ops::{Color, PlaceWord, Side};
 use ic_unsafe_ref::Place;
 
-// Case 1, the uncle is red: the children of `grand` turn black, and it turns red unless it is the root.
+// Case 1, the uncle is red: the children of `grand` turn black, and `grand` turns red unless it is the root.
 pub(crate) fn recolor<N: NodeStore>(links: &mut N, parent: Place, uncle: Place, grand: Place)
     requires parent { IsNode N.node (N.table links.old) parent }
     requires uncle { IsNode N.node (N.table links.old) uncle }
@@ -28,8 +28,8 @@ pub(crate) fn recolor<N: NodeStore>(links: &mut N, parent: Place, uncle: Place, 
     set_color(links, grand, color);
 }
 
-// Case 2, the place is an inner grandchild: it comes up above its parent, so that its parent is an outer one. Which of the two
-// is the upper one then is the answer.
+// Case 2, the place is an inner grandchild: it is rotated above its parent, so its parent is an outer grandchild. Returns the
+// upper one of the two.
 #[inline(always)]
 pub(crate) fn rotate_inner_grandchild<N: NodeStore>(
     links: &mut N,
@@ -51,8 +51,8 @@ pub(crate) fn rotate_inner_grandchild<N: NodeStore>(
     place
 }
 
-// One step where `parent` stands on this side of `grand`: where the next one stands, if it was not the last. Case 3, the red
-// child of `upper` is an outer grandchild: `upper` comes up above `grand`.
+// One step of the repair if `parent` is on this side of `grand`. Returns the place of the next step, `None` if this was the
+// last. Case 3, the red child of `upper` is an outer grandchild: `upper` is rotated above `grand`.
 #[inline(always)]
 pub(crate) fn fix_red_pair_on<N: NodeStore>(
     links: &mut N,
@@ -79,7 +79,9 @@ pub(crate) fn fix_red_pair_on<N: NodeStore>(
     None
 }
 
-// The same on the side on which `parent` stands. Each side has code of its own, in which no side is asked for again.
+// The same step on the side on which `parent` is. Each side has compiled code of its own, which does not test the side
+// again.
+#[inline(always)]
 pub(crate) fn fix_red_pair<N: NodeStore>(
     links: &mut N,
     root: &mut PlaceWord,
@@ -98,7 +100,9 @@ pub(crate) fn fix_red_pair<N: NodeStore>(
     }
 }
 
-// One step of the repair at a red place below this parent, which may be black: where the next one stands, if it was not the last.
+// One step of the repair at a red place below this parent, which may be black. Returns the place of the next step, `None` if this
+// was the last.
+#[inline(always)]
 pub(crate) fn fix_red_parent<N: NodeStore>(
     links: &mut N,
     root: &mut PlaceWord,
@@ -118,8 +122,8 @@ pub(crate) fn fix_red_parent<N: NodeStore>(
     fix_red_pair(links, root, place, parent, grand)
 }
 
-/// Repairs the colors above a member that was put in red below this parent, in O(log n): RB-INSERT-FIXUP. It answers whether the tree
-/// has grown: the repair came up to the root, and a way down has one black member more.
+/// Repairs the colors above a member that was inserted red below this parent, in O(log n): RB-INSERT-FIXUP. It returns whether the
+/// tree has grown, which means that the repair reached the root, and each path down has one black member more.
 #[inline(always)]
 pub(crate) fn insert_fixup<N: NodeStore>(
     links: &mut N,
@@ -144,7 +148,8 @@ pub(crate) fn insert_fixup<N: NodeStore>(
     false
 }
 
-// Puts a linked place, which is on its own, into a hole of the tree.
+// Inserts a linked place, which is in no collection, into a hole of the tree.
+#[inline(always)]
 pub(crate) fn attach<N: NodeStore>(
     links: &mut N,
     root: &mut PlaceWord,

@@ -1,23 +1,24 @@
-//! How a member is taken out of a tree, and the colors are repaired: the cases are numbered as in RB-DELETE-FIXUP of Cormen,
-//! Leiserson, Rivest and Stein. The short subtree's sibling has two children, its nephews: the near one stands on the short side.
+//! Removes a member from a tree, and repairs the colors. The cases are numbered as in RB-DELETE-FIXUP of Cormen, Leiserson,
+//! Rivest and Stein. The children of the short subtree's sibling are its nephews; the near one is on the short side.
 
 ghost use Rattle.std.specs.Prelude.{Option, Some, [], ◌∷◌};
 ghost use Rattle.ic_unsafe_ref.specs.declared.place.Place.{Place};
-ghost use Rattle.ic_rbtree.specs.Closed.{IsNode, IsSafe, StaysClosed, StaysClosedBut};
+ghost use Rattle.ic_rbtree.specs.Closed.{IsNode, IsNamed, IsSafe, StaysClosed, StaysClosedBut};
 ghost use Rattle.ic_rbtree.specs.Removal.{FixesDeletion, BlackensSibling, RotatesNearNephew, RotatesFarNephew, ReddensSibling, FixesDeletionStep};
-ghost use Rattle.ic_rbtree.specs.Transplants.{Closes, SplicesOut, TakesAway};
+ghost use Rattle.ic_rbtree.specs.Transplants.{FillsGap, SplicesOut, TakesOut, TakesAway};
 
+use crate::bounded::outermost_bounded;
 use crate::nodes::NodeStore;
 use crate::readings::{
     child, has_red_child, is_at, is_red, only_child, other, second_child, side_below,
 };
 use crate::repair::TURNS;
 use crate::repair::writers::{change_child, rotate, set_color, set_parent_and_color, take_place};
-use crate::within::outermost_within;
 use ic_link_ops::{Color, PlaceWord, Side};
 use ic_unsafe_ref::Place;
 
-// Case 1, the sibling is red: it comes up, and one of its children is the sibling then. Answers the sibling, which is black.
+// Case 1, the sibling is red: it is rotated up, and one of its children is the sibling then. Returns the sibling, which is
+// black.
 #[inline(always)]
 pub(crate) fn blacken_sibling<N: NodeStore>(
     links: &mut N,
@@ -39,8 +40,8 @@ pub(crate) fn blacken_sibling<N: NodeStore>(
     child(&*links, place, far)
 }
 
-// Case 3, the far nephew is black and the near one red: the near one comes up above the sibling. Answers the sibling, whose far
-// child is red.
+// Case 3, the far nephew is black and the near one red: the near one is rotated above the sibling. Returns the sibling then,
+// whose far child is red.
 #[inline(always)]
 pub(crate) fn rotate_near_nephew<N: NodeStore>(
     links: &mut N,
@@ -63,7 +64,8 @@ pub(crate) fn rotate_near_nephew<N: NodeStore>(
     Some(near)
 }
 
-// Case 4, the far nephew is red, after case 3 where it is not: the sibling comes up with the parent's color, and all is right.
+// Case 4, the far nephew is red, if need be after case 3: the sibling is rotated up with the parent's color, and the tree is
+// right.
 #[inline(always)]
 pub(crate) fn rotate_far_nephew<N: NodeStore>(
     links: &mut N,
@@ -89,8 +91,8 @@ pub(crate) fn rotate_far_nephew<N: NodeStore>(
     rotate(links, root, place, upper, side, Color::Black, color);
 }
 
-// Case 2, both nephews are black: the sibling turns red. A red parent turns black, and then all is right. Answers whether it was
-// red.
+// Case 2, both nephews are black: the sibling turns red. If the parent is red, it turns black, and the tree is right. Returns
+// whether the parent was red.
 pub(crate) fn redden_sibling<N: NodeStore>(links: &mut N, place: Place, sibling: Place) -> bool
     requires place { IsNode N.node (N.table links.old) place }
     requires sibling { IsNode N.node (N.table links.old) sibling }
@@ -106,7 +108,7 @@ pub(crate) fn redden_sibling<N: NodeStore>(links: &mut N, place: Place, sibling:
     false
 }
 
-// One step of the repair on this side of the place, which says whether it was the last.
+// One step of the repair on this side of the place. Returns whether it was the last.
 #[inline(always)]
 pub(crate) fn delete_fixup_on<N: NodeStore>(
     links: &mut N,
@@ -129,7 +131,7 @@ pub(crate) fn delete_fixup_on<N: NodeStore>(
     redden_sibling(links, place, sibling)
 }
 
-// The same, where each side has code of its own.
+// The same step. Each side has compiled code of its own.
 pub(crate) fn delete_fixup_step<N: NodeStore>(
     links: &mut N,
     root: &mut PlaceWord,
@@ -147,8 +149,8 @@ pub(crate) fn delete_fixup_step<N: NodeStore>(
     }
 }
 
-/// Repairs a tree that is one black short on this side of `parent`, in O(log n): RB-DELETE-FIXUP.
-#[inline(never)]
+/// Repairs a tree whose paths on this side of `parent` have one black member too few, in O(log n): RB-DELETE-FIXUP.
+#[inline(always)]
 pub(crate) fn delete_fixup<N: NodeStore>(
     links: &mut N,
     root: &mut PlaceWord,
@@ -174,37 +176,41 @@ pub(crate) fn delete_fixup<N: NodeStore>(
     }
 }
 
-// Repairs the colors where a member of this color was taken out, and its child hangs in its place, which gets its parent here.
-pub(crate) fn close_gap<N: NodeStore>(
+// Gives the child of a removed member of this color its new parent. A child without a sibling is red, so that the member was black, and the
+// child turns black. Returns whether the paths through this position have one black member too few now.
+pub(crate) fn fill_gap<N: NodeStore>(
     links: &mut N,
-    root: &mut PlaceWord,
     color: Color,
     child: Option<Place>,
     parent: Option<Place>,
-    side: Side,
-)
-    requires { IsSafe N.node (N.table links.old) root.old (child ∷ parent ∷ []) }
-    ensures closed { Closes N.node (N.table links.old) (N.table links.new) root.old root.new color child parent side }
-    ensures safe { StaysClosed N.node (N.table links.old) (N.table links.new) root.old root.new (child ∷ parent ∷ []) [] }
+) -> bool
+    requires child { IsNamed N.node (N.table links.old) child }
+    requires parent { IsNamed N.node (N.table links.old) parent }
+    ensures filled { FillsGap N.node (N.table links.old) (N.table links.new) color child parent result }
+    ensures safe { (root : Option Place) → StaysClosedBut N.node (N.table links.old) (N.table links.new) root root (parent ∷ []) }
     ensures keeps_links { N.KeepsLinks links.old links.new }
 {
     if let Some(child) = child {
-        // A lone child is red, and so the member was black.
         set_parent_and_color(links, child, parent, Color::Black);
-        return;
+        return false;
     }
     match color {
-        Color::Red => {}
-        Color::Black => delete_fixup(links, root, parent, side),
+        Color::Red => false,
+        Color::Black => true,
     }
 }
 
-// Takes out a member that has one child at most, which comes up in its place.
+// Removes a member that has at most one child, which takes its position. Returns whether the paths through this position have one black
+// member too few now, and below which parent and on which side the position is.
 #[inline(always)]
-pub(crate) fn splice_out<N: NodeStore>(links: &mut N, root: &mut PlaceWord, place: Place)
+pub(crate) fn splice_out<N: NodeStore>(
+    links: &mut N,
+    root: &mut PlaceWord,
+    place: Place,
+) -> (bool, Option<Place>, Side)
     requires { IsSafe N.node (N.table links.old) root.old (Some place ∷ []) }
-    ensures taken { SplicesOut N.node (N.table links.old) (N.table links.new) root.old root.new place }
-    ensures safe { StaysClosed N.node (N.table links.old) (N.table links.new) root.old root.new (Some place ∷ []) [] }
+    ensures taken { SplicesOut N.node (N.table links.old) (N.table links.new) root.old root.new place result.0 result.1 result.2 }
+    ensures safe { StaysClosed N.node (N.table links.old) (N.table links.new) root.old root.new (Some place ∷ []) (result.1 ∷ []) }
     ensures keeps_links { N.KeepsLinks links.old links.new }
 {
     let child = only_child(&*links, place);
@@ -212,23 +218,46 @@ pub(crate) fn splice_out<N: NodeStore>(links: &mut N, root: &mut PlaceWord, plac
     let color = links.color(place);
     let side = side_below(&*links, place, parent);
     change_child(links, root, parent, place, child);
-    close_gap(links, root, color, child, parent, side);
+    let short = fill_gap(links, color, child, parent);
+    (short, parent, side)
 }
 
-// Takes a member out of the tree, and leaves it linked. One with two children changes places with the next.
+// Removes a member without a repair of colors. If it has two children, the next member takes its position. Returns what `splice_out` returns.
+#[inline(always)]
+pub(crate) fn take_out<N: NodeStore>(
+    links: &mut N,
+    root: &mut PlaceWord,
+    place: Place,
+) -> (bool, Option<Place>, Side)
+    requires { IsSafe N.node (N.table links.old) root.old (Some place ∷ []) }
+    ensures taken { TakesOut N.node (N.table links.old) (N.table links.new) root.old root.new place result.0 result.1 result.2 }
+    ensures safe { StaysClosed N.node (N.table links.old) (N.table links.new) root.old root.new (Some place ∷ []) (result.1 ∷ []) }
+    ensures keeps_links { N.KeepsLinks links.old links.new }
+{
+    let Some(right) = second_child(&*links, place) else {
+        return splice_out(links, root, place);
+    };
+    let next = outermost_bounded(&*links, right, Side::Left);
+    let (short, parent, side) = splice_out(links, root, next);
+    if is_at(Some(next), place) {
+        return (short, parent, side);
+    }
+    take_place(links, root, place, next);
+    if is_at(parent, place) {
+        return (short, Some(next), side);
+    }
+    (short, parent, side)
+}
+
+// Removes a member from the tree, and leaves it linked. If it has two children, the next member takes its position.
 pub(crate) fn unlink<N: NodeStore>(links: &mut N, root: &mut PlaceWord, place: Place)
     requires { IsSafe N.node (N.table links.old) root.old (Some place ∷ []) }
     ensures taken { TakesAway N.node (N.table links.old) (N.table links.new) root.old root.new place }
     ensures safe { StaysClosed N.node (N.table links.old) (N.table links.new) root.old root.new (Some place ∷ []) [] }
     ensures keeps_links { N.KeepsLinks links.old links.new }
 {
-    let Some(right) = second_child(&*links, place) else {
-        splice_out(links, root, place);
-        return;
-    };
-    let next = outermost_within(&*links, right, Side::Left);
-    splice_out(links, root, next);
-    if !is_at(Some(next), place) {
-        take_place(links, root, place, next);
+    let (short, parent, side) = take_out(links, root, place);
+    if short {
+        delete_fixup(links, root, parent, side);
     }
 }

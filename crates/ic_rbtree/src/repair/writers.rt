@@ -1,4 +1,4 @@
-//! What writes children and parents: rotations, and a place in the place of another.
+//! Functions that write children and parents: rotations, and the replacement of a place by another.
 
 ghost use Rattle.std.specs.Prelude.{◌≡◌, ◌≢◌, Option, Some, [], ◌∷◌};
 ghost use Rattle.ic_link_ops.specs.Prelude.{Place, ChangesOnly};
@@ -51,7 +51,7 @@ pub(crate) fn set_color<N: NodeStore>(links: &mut N, place: Place, color: Color)
     links.set_color(place, color);
 }
 
-// The parent and the color, in one write.
+// Sets the parent and the color, in one write.
 pub(crate) fn set_parent_and_color<N: NodeStore>(
     links: &mut N,
     place: Place,
@@ -69,7 +69,7 @@ pub(crate) fn set_parent_and_color<N: NodeStore>(
     links.set_parent_and_color(place, parent, color);
 }
 
-// Both children, the parent and the color of a place that comes into a tree.
+// Sets both children, the parent and the color of a place that is inserted.
 #[inline]
 pub(crate) fn set_node<N: NodeStore>(
     links: &mut N,
@@ -94,7 +94,7 @@ pub(crate) fn set_node<N: NodeStore>(
     set_parent_and_color(links, place, parent, color);
 }
 
-// A subtree gets another parent.
+// Sets the parent of a subtree's root.
 pub(crate) fn adopt<N: NodeStore>(links: &mut N, child: Option<Place>, parent: Option<Place>)
     requires child { IsNamed N.node (N.table links.old) child }
     requires parent { IsNamed N.node (N.table links.old) parent }
@@ -107,7 +107,7 @@ pub(crate) fn adopt<N: NodeStore>(links: &mut N, child: Option<Place>, parent: O
     }
 }
 
-// Another subtree hangs below the parent, or as the root, where `was` hung.
+// Makes another subtree the child of the parent, or the root, instead of `was`.
 pub(crate) fn change_child<N: NodeStore>(
     links: &mut N,
     root: &mut PlaceWord,
@@ -129,7 +129,8 @@ pub(crate) fn change_child<N: NodeStore>(
     }
 }
 
-/// The place goes down on this side, and its child on the other side, `upper`, comes up. They get the colors `low` and `high`.
+/// Rotates the place down on this side, and its child on the other side, `upper`, above it. They get the colors `low` and
+/// `high`.
 #[inline(always)]
 pub(crate) fn rotate<N: NodeStore>(
     links: &mut N,
@@ -155,7 +156,7 @@ pub(crate) fn rotate<N: NodeStore>(
     set_parent_and_color(links, place, Some(upper), low);
 }
 
-/// In place of a member stands another place, which is on its own before.
+/// Replaces a member by another place, which was in no collection before.
 pub(crate) fn take_place<N: NodeStore>(
     links: &mut N,
     root: &mut PlaceWord,

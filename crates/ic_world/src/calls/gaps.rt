@@ -1,4 +1,4 @@
-//! Calls that are meant for a gap: an object goes in, or the member after it goes out.
+//! Calls that edit at a gap: they insert an object there, or remove or replace the member after it.
 //!
 //! ```text
 //! Put(Gap::Back, place).run(&mut members, &mut links, &objects, adapter)?; // after all members
@@ -15,15 +15,16 @@ use ic_rbtree::KeyAdapter;
 use ic_unsafe_ref::{Objects, Place};
 use std::alloc::Allocator;
 
-/// An object goes into the gap. The cursor goes to null, if that is at an end.
+/// Inserts an object into the gap. If the gap is at an end, the cursor goes to null.
 #[derive(Clone, Copy)]
 pub struct Put(pub Gap, pub Place);
 
-/// The member after the gap goes out, at the back the last one. A cursor that is on it goes on to the next member, and at an end to null.
+/// Removes the member after the gap, or the last member if the gap is at the back. A cursor that is on it goes on to the next member. If the gap is
+/// at an end, the cursor goes to null.
 #[derive(Clone, Copy)]
 pub struct Take(pub Gap);
 
-/// An object takes the place of the member after the gap. A cursor that is on that goes to the object.
+/// Replaces the member after the gap by an object. A cursor that is on the member goes to the object.
 #[derive(Clone, Copy)]
 pub struct Swap(pub Gap, pub Place);
 

@@ -1,4 +1,4 @@
-//! Calls of one tree that put an object where a key belongs.
+//! Calls of one tree that insert an object where a key belongs.
 //!
 //! ```text
 //! Insertion::Insert(place).run(&mut members, &mut links, &objects, adapter)? // how many objects were looked at
@@ -18,7 +18,7 @@ use ic_rbtree::{KeyAdapter, KeyProbe};
 use ic_unsafe_ref::{Objects, Place};
 use std::alloc::Allocator;
 
-// What an insert gave, as the world tells it: done, with how often its probe was asked, or refused.
+// Returns the result of an insert: how many keys its probe compared, or the refusal.
 #[inline]
 fn looked<A: KeyAdapter>(acquired: bool, probe: &KeyProbe<'_, A>) -> Result<u64, Refusal>
     ensures { result ≡ looked_if (looks_of probe.now) acquired }
@@ -29,12 +29,12 @@ fn looked<A: KeyAdapter>(acquired: bool, probe: &KeyProbe<'_, A>) -> Result<u64,
     Ok(probe.looks())
 }
 
-/// An object goes where its own key belongs, after members with the same key.
+/// Inserts an object where its own key belongs, after members with the same key.
 #[derive(Clone, Copy)]
 pub enum Insertion {
-    /// The cursor goes to the object.
+    /// Inserts the object, and puts the cursor on it.
     Insert(Place),
-    /// The cursor stays.
+    /// Inserts the object, and leaves the cursor where it is.
     CursorInsert(Place),
 }
 
@@ -81,7 +81,7 @@ impl<A: KeyAdapter> OneCall<A> for Insertion {
     }
 }
 
-/// The entry of a key, and the object that goes in where no member has it.
+/// Finds the entry of a key, and inserts the object there if no member has the key.
 #[derive(Clone, Copy)]
 pub struct EntryAt<K> {
     pub key: K,
@@ -92,7 +92,7 @@ impl<A: KeyAdapter> OneCall<A> for EntryAt<A::Key> {
     ghost use Rattle.ic_world.specs.declared.calls.one_call.Call.TheVariants.{Enter as enter};
     ghost use Rattle.ic_world.specs.Replies.{entry_or_linked};
 
-    // `None`: no member has the key, and the object is linked.
+    // `None` means that no member has the key and the object is already linked.
     type Answer = Option<(bool, Place, u64)>;
 
     ghost call = { λ e. enter e.key e.object };

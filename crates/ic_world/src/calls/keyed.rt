@@ -1,4 +1,4 @@
-//! Keyed calls of one tree. Each answers how many objects it looked at: v of them in a tree of n members, where `2^v <= (n + 1)^2`.
+//! Keyed calls of one tree. Each returns the number of its looks, which are the keys that it compared: at most 2 log2(n + 1) in a tree of n members.
 //!
 //! ```text
 //! world.insert(tree, first)?;              // 0 looks
@@ -11,7 +11,7 @@ use crate::call::{Command, Refusal};
 use crate::calls::insertion::{EntryAt, Insertion};
 use crate::calls::kinds::is_tree;
 use crate::calls::one_call::Call;
-use crate::calls::probes::{looks_in, probe_within};
+use crate::calls::probes::{looks_in, probe_in_bound};
 use crate::calls::search::Search;
 use ic_rbtree::{Bound, KeyAdapter};
 use ic_unsafe_ref::Place;
@@ -25,7 +25,7 @@ where
     ghost use Rattle.ic_world.specs.Replies.{reply_of};
     ghost use Rattle.ic_world.specs.Calls.{found, looked, entry, range};
 
-    /// Puts the cursor on the first member of this key, to null if there is none, and returns it with the looks. O(log n).
+    /// Puts the cursor on the first member of this key, or to null if there is none. It returns the member and the number of looks. O(log n).
     ///
     /// Refused: `NoSuchCollection`, `WrongKind` of a list.
     pub fn find(&mut self, collection: usize, key: A::Key) -> Result<(Option<Place>, u64), Refusal>
@@ -34,7 +34,8 @@ where
         self.call(collection, &Search::Find(key))
     }
 
-    /// Puts the cursor on the first member that meets the bound, to null if there is none, and returns it with the looks. O(log n).
+    /// Puts the cursor on the first member that meets the bound, or to null if there is none. It returns the member and the number of looks. O(log
+    /// n).
     ///
     /// Refused: `NoSuchCollection`, `WrongKind` of a list.
     pub fn lower_bound(
@@ -47,7 +48,7 @@ where
         self.call(collection, &Search::LowerBound(bound))
     }
 
-    /// Puts the cursor on the last member that meets the bound, to null if there is none, and returns it with the looks. O(log n).
+    /// Puts the cursor on the last member that meets the bound, or to null if there is none. It returns the member and the number of looks. O(log n).
     ///
     /// Refused: `NoSuchCollection`, `WrongKind` of a list.
     pub fn upper_bound(
@@ -60,28 +61,29 @@ where
         self.call(collection, &Search::UpperBound(bound))
     }
 
-    /// Puts an object where its key belongs, after members with the same key, and the cursor on it. O(log n).
+    /// Inserts an object where its key belongs, after members with the same key, and puts the cursor on it. O(log n).
     ///
-    /// Refused: `NoSuchCollection`, `NoSuchObject`, `WrongKind` of a list, `AlreadyLinked`, all without a look.
+    /// Refused: `NoSuchCollection`, `NoSuchObject`, `WrongKind` of a list, `AlreadyLinked`, each before any key is compared.
     pub fn insert(&mut self, collection: usize, object: Place) -> Result<u64, Refusal>
         ensures { Step A.Key.cmp A.key_of self.old (Command.On collection (Call.Insertion (Insertion.Insert object))) (reply_of (λ looks. looked looks) result) self.new }
     {
         self.call(collection, &Insertion::Insert(object))
     }
 
-    /// Puts an object where its key belongs, after members with the same key. The cursor stays. O(log n).
+    /// Inserts an object where its key belongs, after members with the same key. The cursor stays. O(log n).
     ///
-    /// Refused: `NoSuchCollection`, `NoSuchObject`, `WrongKind` of a list, `AlreadyLinked`, all without a look.
+    /// Refused: `NoSuchCollection`, `NoSuchObject`, `WrongKind` of a list, `AlreadyLinked`, each before any key is compared.
     pub fn cursor_insert(&mut self, collection: usize, object: Place) -> Result<u64, Refusal>
         ensures { Step A.Key.cmp A.key_of self.old (Command.On collection (Call.Insertion (Insertion.CursorInsert object))) (reply_of (λ looks. looked looks) result) self.new }
     {
         self.call(collection, &Insertion::CursorInsert(object))
     }
 
-    /// Puts the cursor on the first member of this key, or where none has it, on the object, which is put where the key would stand.
+    /// Puts the cursor on the first member with this key. If no member has it, inserts the object where the key belongs, and puts the cursor on the
+    /// object.
     ///
-    /// It returns whether a member had the key, which one the cursor is on, and the looks. Which key the object has is not asked.
-    /// O(log n). Refused: `NoSuchCollection`, `NoSuchObject`, `WrongKind` of a list; and `AlreadyLinked` where no member has the key.
+    /// It returns whether a member had the key, which member the cursor is on, and the number of looks. It does not read the key of the object. O(log
+    /// n). Refused: `NoSuchCollection`, `NoSuchObject`, `WrongKind` of a list; and `AlreadyLinked` if no member has the key.
     pub fn entry(
         &mut self,
         collection: usize,
@@ -97,7 +99,7 @@ where
         }
     }
 
-    /// The members between two bounds, and the looks of the two searches. The cursor stays. O(log n + answer).
+    /// Returns the members between two bounds, and the number of looks of each of the two searches. The cursor stays. O(log n + answer).
     ///
     /// Refused: `NoSuchCollection`, `WrongKind` of a list, `OutOfMemory`.
     pub fn range(
@@ -115,8 +117,8 @@ where
         if !is_tree(members.kind()) {
             return Err(Refusal::WrongKind);
         }
-        let mut from = probe_within(self.adapter, &min);
-        let mut to = probe_within(self.adapter, &max);
+        let mut from = probe_in_bound(self.adapter, &min);
+        let mut to = probe_in_bound(self.adapter, &max);
         match members.range_by(
             self.alloc,
             links,

@@ -11,7 +11,7 @@ ghost use Rattle.ic_world.specs.Family as family;
 use ic_any_collection::Kind;
 use ic_unsafe_ref::Place;
 
-// Whether the position before the cursor can be used.
+// Returns whether calls can use the position before the cursor.
 #[inline]
 pub(crate) fn has_before(kind: Kind) -> bool
     ensures { result ≡ kinds.has_before kind }
@@ -19,7 +19,7 @@ pub(crate) fn has_before(kind: Kind) -> bool
     !matches!(kind, Kind::Singly)
 }
 
-// Whether it is a list: all but trees.
+// Returns whether the kind is a list, which every kind except the tree is.
 #[inline]
 pub(crate) fn is_list(kind: Kind) -> bool
     ensures { result ≡ kinds.is_list kind }
@@ -27,7 +27,7 @@ pub(crate) fn is_list(kind: Kind) -> bool
     !matches!(kind, Kind::Tree)
 }
 
-// Whether it is a list with calls at its back.
+// Returns whether the kind is a list with calls at its back.
 #[inline]
 pub(crate) fn is_two_way_list(kind: Kind) -> bool
     ensures { result ≡ kinds.is_two_way_list kind }
@@ -49,7 +49,7 @@ pub(crate) fn is_tree(kind: Kind) -> bool
     matches!(kind, Kind::Tree)
 }
 
-// Whether a cursor is made on a member from its place alone.
+// Returns whether a cursor can be made on a member from its place alone.
 #[inline]
 pub(crate) fn has_pointer(kind: Kind) -> bool
     ensures { result ≡ kinds.has_pointer kind }
@@ -57,7 +57,7 @@ pub(crate) fn has_pointer(kind: Kind) -> bool
     !matches!(kind, Kind::Xor)
 }
 
-// Whether two kinds are one.
+// Returns whether two kinds are equal.
 #[inline]
 pub(crate) fn same_kind(kind: Kind, other: Kind) -> bool
     ensures { result ≡ family.same_kind kind other }
@@ -65,7 +65,7 @@ pub(crate) fn same_kind(kind: Kind, other: Kind) -> bool
     kind as u8 == other as u8
 }
 
-// Whether two positions are one.
+// Returns whether two positions are equal.
 #[inline]
 pub(crate) fn same_position(position: Option<Place>, other: Option<Place>) -> bool
     ensures { result ≡ family.same_position position other }

@@ -22,7 +22,7 @@ use ic_rbtree::KeyAdapter;
 use ic_unsafe_ref::{Objects, Place};
 use std::alloc::Allocator;
 
-/// A way through a collection.
+/// A direction in which a cursor moves.
 #[derive(Clone, Copy)]
 pub enum Direction {
     /// To the next member.
@@ -31,48 +31,49 @@ pub enum Direction {
     Prev,
 }
 
-/// A call of one collection. Of the others `current` and `show` read one collection, and lend the world alone, and `fast_clear` writes in the
-/// field besides.
+/// A call of one collection. Three other calls also have one collection: `current` and `show` only read it, and `fast_clear` also changes the mark of
+/// the field.
 #[derive(Clone, Copy)]
 pub enum Call<K> {
-    /// `push_front`, `push_back`, `insert_before`, `insert_after`: an object goes into a gap.
+    /// `push_front`, `push_back`, `insert_before`, `insert_after`: inserts an object into a gap.
     Put(Gap, Place),
-    /// `pop_front`, `pop_back`, `remove`, `remove_next`: a member goes out, `remove` the one that the cursor is on.
+    /// `pop_front`, `pop_back`, `remove`, `remove_next`: removes a member: `remove` removes the one that the cursor is on.
     Take(Gap),
-    /// `replace_with`, `replace_next_with`: an object takes the place of a member.
+    /// `replace_with`, `replace_next_with`: replaces a member by an object.
     Swap(Gap, Place),
-    /// `move_next`, `move_prev`: the cursor moves to a neighbor.
+    /// `move_next`, `move_prev`: moves the cursor to a neighbor.
     Move(Direction),
-    /// `go_null`, `seek`, `seek_with_prev`, `seek_with_next`: the cursor goes to null or to a member that is named.
+    /// `go_null`, `seek`, `seek_with_prev`, `seek_with_next`: moves the cursor to null or to a named member.
     Seek(Seek),
-    /// `clear`, `reverse`: all members go out, or are turned round.
+    /// `clear`, `reverse`: removes all members, or reverses their order.
     Whole(Whole),
-    /// `find`, `lower_bound`, `upper_bound`: a key is searched for.
+    /// `find`, `lower_bound`, `upper_bound`: searches for a key.
     Search(Search<K>),
-    /// `insert`, `cursor_insert`: an object goes where its key belongs.
+    /// `insert`, `cursor_insert`: inserts an object where its key belongs.
     Insertion(Insertion),
-    /// `entry`: a member with the key, or the object that goes in there.
+    /// `entry`: finds a member with the key, or inserts the object there.
     Enter(K, Place),
 }
 
-/// A call of one collection, with the type of what it answers.
+/// A call of one collection, with the type of what it returns.
 pub trait OneCall<A: KeyAdapter> {
-    /// What it answers.
+    /// The type of what the call returns.
     type Answer;
 
     ghost use Rattle.ic_world.specs.declared.calls.one_call.Call.{Call};
 
-    // The call, and the reply that an answer stands for.
+    // The call, and the reply that a result stands for.
     ghost call: { Self → Call A.Key };
 
     ghost reply: { Self.Answer → Reply };
 
-    /// Whether an object stands at each place that the call names.
+    /// Returns whether there is an object at each place that the call names.
     fn is_placed<M: Allocator>(&self, objects: &Objects<A::Value, M>) -> bool
         ensures { result ≡ list_all (place_is_placed objects.now) (names (call self.now)) };
 
-    /// Does the call. It requires that the table keeps the collection, that an object stands at each member and at each place that the call
-    /// names, and that these are covered. A refusal changes nothing: `WrongKind` of a kind that lacks the call, and then the call's own.
+    /// Makes the call. It requires that the table keeps the collection, that there is an object at each member and at each place that the call names,
+    /// and that the table covers these places. A refused call changes nothing. It is refused with `WrongKind` if the kind lacks the call, or else
+    /// with the call's own refusals.
     fn run<M: Allocator>(
         &self,
         members: &mut AnyCollection<A::Value>,

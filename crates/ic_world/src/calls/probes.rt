@@ -1,7 +1,7 @@
-//! What keyed calls ask the objects of a tree, and how often they have asked.
+//! The probes with which keyed calls compare keys, and how often they have compared.
 //!
 //! ```text
-//! let mut probe = probe_within(adapter, &Bound::Included(5));
+//! let mut probe = probe_in_bound(adapter, &Bound::Included(5));
 //! members.lower_bound_by(links, objects, &mut probe);
 //! looks_in(&probe) // how often the probe was asked
 //! ```
@@ -16,9 +16,9 @@ use ic_rbtree::{Bound, KeyAdapter, KeyProbe};
 use ic_unsafe_ref::{Objects, Place};
 use std::alloc::Allocator;
 
-/// The bound, of a search for its key that was never asked. Where there is no key, there is no search.
+/// Returns the bound with a new probe for its key, which has compared nothing yet. A bound without a key has no probe.
 #[inline]
-pub(crate) fn probe_within<'k, A: KeyAdapter>(
+pub(crate) fn probe_in_bound<'k, A: KeyAdapter>(
     adapter: A,
     bound: &'k Bound<A::Key>,
 ) -> Bound<KeyProbe<'k, A>>
@@ -34,7 +34,7 @@ pub(crate) fn probe_within<'k, A: KeyAdapter>(
     }
 }
 
-/// How often the search within a bound was asked.
+/// Returns how many keys the probe of a bound has compared.
 #[inline]
 pub(crate) fn looks_in<A: KeyAdapter>(bound: &Bound<KeyProbe<'_, A>>) -> u64
     ensures { result ≡ looks_within bound.now }
@@ -46,7 +46,7 @@ pub(crate) fn looks_in<A: KeyAdapter>(bound: &Bound<KeyProbe<'_, A>>) -> u64
     }
 }
 
-/// A search for an object's own key that was never asked. It requires that the object is placed.
+/// Returns a new probe for an object's own key, which has compared nothing yet. It requires that the object exists.
 #[inline]
 pub(crate) fn own_probe<'k, A: KeyAdapter, M: Allocator>(
     adapter: A,

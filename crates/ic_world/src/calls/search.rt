@@ -1,4 +1,4 @@
-//! Searches of one tree by keys, which put its cursor on what they find.
+//! Searches of one tree by keys. They put its cursor on the member that they find.
 //!
 //! ```text
 //! Search::Find(5).run(&mut members, &mut links, &objects, adapter)? // the first member of key 5, with the looks
@@ -7,13 +7,13 @@
 use crate::call::Refusal;
 use crate::calls::kinds::is_tree;
 use crate::calls::one_call::OneCall;
-use crate::calls::probes::{looks_in, probe_within};
+use crate::calls::probes::{looks_in, probe_in_bound};
 use ic_any_collection::{AnyCollection, AnyTable};
 use ic_rbtree::{Bound, KeyAdapter, KeyProbe};
 use ic_unsafe_ref::{Objects, Place};
 use std::alloc::Allocator;
 
-/// What is searched.
+/// What a search looks for.
 #[derive(Clone, Copy)]
 pub enum Search<K> {
     /// The first member with a key.
@@ -57,12 +57,12 @@ impl<A: KeyAdapter> OneCall<A> for Search<A::Key> {
                 Ok((found, probe.looks()))
             }
             Search::LowerBound(bound) => {
-                let mut probe = probe_within(adapter, bound);
+                let mut probe = probe_in_bound(adapter, bound);
                 let found = members.lower_bound_by(links, objects, &mut probe);
                 Ok((found, looks_in(&probe)))
             }
             Search::UpperBound(bound) => {
-                let mut probe = probe_within(adapter, bound);
+                let mut probe = probe_in_bound(adapter, bound);
                 let found = members.upper_bound_by(links, objects, &mut probe);
                 Ok((found, looks_in(&probe)))
             }

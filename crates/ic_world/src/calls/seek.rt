@@ -1,4 +1,4 @@
-//! Calls that move the cursor of one collection: to a neighbor, to null, or to a member that is named.
+//! Calls that move the cursor of one collection: to a neighbor, to null, or to a named member.
 //!
 //! ```text
 //! Move(Direction::Next).run(&mut members, &mut links, &objects, adapter)?; // from null to the first member
@@ -23,18 +23,18 @@ use ic_rbtree::KeyAdapter;
 use ic_unsafe_ref::{Objects, Place};
 use std::alloc::Allocator;
 
-/// The cursor moves to a neighbor, from null to the first member or to the last.
+/// Moves the cursor to a neighbor, or from null to the first or the last member.
 #[derive(Clone, Copy)]
 pub struct Move(pub Direction);
 
-/// Where the cursor goes.
+/// The position to which the cursor goes.
 #[derive(Clone, Copy)]
 pub enum Seek {
     /// To null.
     Null,
     /// To a member, named by its place.
     On(Place),
-    /// To a member of an XOR list, which is named with a neighbor, none beyond an end.
+    /// To a member of an XOR list, named with one of its neighbors, which is none beyond an end.
     With(Direction, Place, Option<Place>),
 }
 
@@ -76,7 +76,7 @@ impl<A: KeyAdapter> OneCall<A> for Move {
     }
 }
 
-// Whether an object stands there, if a place is given.
+// Returns whether there is an object at the place, if a place is given.
 #[inline]
 fn is_placed_if_any<T, M: Allocator>(objects: &Objects<T, M>, place: Option<Place>) -> bool
     ensures { result ≡ list_all (place_is_placed objects.now) (named_if place) }
@@ -149,7 +149,7 @@ fn seek_on<T, M: Allocator>(
     requires covered { IsCovered (table_in links.now) object }
     ensures { Sought (Seek.On object) object (table_in links.now) members.old result members.new }
 {
-    // An unlinked object is no member, and nothing is walked.
+    // An unlinked object is not a member, so that no walk is needed.
     if !links.is_linked(object) {
         return Err(Refusal::NotAMember);
     }
@@ -160,7 +160,7 @@ fn seek_on<T, M: Allocator>(
     Ok(())
 }
 
-// The neighbor of a member that stands after `prev`, none beyond an end.
+// Returns the neighbor of the member after `prev`, or none beyond an end.
 #[inline]
 fn neighbor<T, M: Allocator>(
     members: &AnyCollection<T>,
@@ -175,11 +175,11 @@ fn neighbor<T, M: Allocator>(
 {
     match way {
         Direction::Prev => prev,
-        Direction::Next => members.behind(links, prev, object),
+        Direction::Next => members.after(links, prev, object),
     }
 }
 
-// Puts the cursor of an XOR list on the object, if that member stands beside it.
+// Puts the cursor of an XOR list on the object, if the named member is its neighbor.
 fn seek_with<T, M: Allocator>(
     members: &mut AnyCollection<T>,
     links: &AnyTable<M>,
@@ -191,7 +191,7 @@ fn seek_with<T, M: Allocator>(
     requires covered { IsCovered (table_in links.now) object }
     ensures { Sought (Seek.With way object beside) object (table_in links.now) members.old result members.new }
 {
-    // An unlinked object is no member, and nothing is walked.
+    // An unlinked object is not a member, so that no walk is needed.
     if !links.is_linked(object) {
         return Err(Refusal::NotAMember);
     }

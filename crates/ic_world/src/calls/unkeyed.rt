@@ -1,4 +1,4 @@
-//! Calls of one collection without keys. Each tests its conditions in the order of the refusals that it names, and takes no memory.
+//! Calls of one collection without keys. Each tests its conditions in the order of the refusals that its comment names, and takes no memory.
 //!
 //! ```text
 //! world.push_back(queue, first)?;
@@ -23,7 +23,7 @@ impl<A: KeyAdapter, M: Allocator + Copy> World<A, M> {
     ghost use Rattle.ic_world.specs.Calls.{done, object_or_nothing};
     ghost use Rattle.ic_world.specs.Replies.{reply_of};
 
-    /// Puts an object before all members of a list, and the cursor to null. O(1).
+    /// Inserts an object at the front of a list, and puts the cursor to null. O(1).
     ///
     /// Refused: `NoSuchCollection`, `NoSuchObject`, `WrongKind` of a tree, `AlreadyLinked`.
     pub fn push_front(&mut self, collection: usize, object: Place) -> Result<(), Refusal>
@@ -32,7 +32,7 @@ impl<A: KeyAdapter, M: Allocator + Copy> World<A, M> {
         self.call(collection, &Put(Gap::Front, object))
     }
 
-    /// Puts an object after all members of a doubly linked or an XOR list, and the cursor to null. O(1).
+    /// Inserts an object at the back of a doubly linked or an XOR list, and puts the cursor to null. O(1).
     ///
     /// Refused: `NoSuchCollection`, `NoSuchObject`, `WrongKind` of the other kinds, `AlreadyLinked`.
     pub fn push_back(&mut self, collection: usize, object: Place) -> Result<(), Refusal>
@@ -41,7 +41,7 @@ impl<A: KeyAdapter, M: Allocator + Copy> World<A, M> {
         self.call(collection, &Put(Gap::Back, object))
     }
 
-    /// Takes the first member out of a list and returns it, `None` where there is none, and puts the cursor to null. O(1).
+    /// Removes the first member of a list and returns it, or returns `None` if there is none. It puts the cursor to null. O(1).
     ///
     /// Refused: `NoSuchCollection`, `WrongKind` of a tree.
     pub fn pop_front(&mut self, collection: usize) -> Result<Option<Place>, Refusal>
@@ -50,8 +50,8 @@ impl<A: KeyAdapter, M: Allocator + Copy> World<A, M> {
         self.call(collection, &Take(Gap::Front))
     }
 
-    /// Takes the last member out of a doubly linked or an XOR list and returns it, `None` where there is none, and puts the cursor to
-    /// null. O(1).
+    /// Removes the last member of a doubly linked or an XOR list and returns it, or returns `None` if there is none. It puts the cursor to null.
+    /// O(1).
     ///
     /// Refused: `NoSuchCollection`, `WrongKind` of the other kinds.
     pub fn pop_back(&mut self, collection: usize) -> Result<Option<Place>, Refusal>
@@ -60,8 +60,8 @@ impl<A: KeyAdapter, M: Allocator + Copy> World<A, M> {
         self.call(collection, &Take(Gap::Back))
     }
 
-    /// Moves the cursor to the next member, from null to the first one and from the last one to null, and returns where it is. O(1), in
-    /// a tree O(log n).
+    /// Moves the cursor to the next member, from null to the first one and from the last one to null, and returns the member that it is then on.
+    /// O(1), in a tree O(log n).
     ///
     /// Refused: `NoSuchCollection`.
     pub fn move_next(&mut self, collection: usize) -> Result<Option<Place>, Refusal>
@@ -70,8 +70,8 @@ impl<A: KeyAdapter, M: Allocator + Copy> World<A, M> {
         self.call(collection, &Move(Direction::Next))
     }
 
-    /// Moves the cursor to the previous member, from null to the last one and from the first one to null, and returns where it is. O(1),
-    /// in a tree O(log n).
+    /// Moves the cursor to the previous member, from null to the last one and from the first one to null, and returns the member that it is then on.
+    /// O(1), in a tree O(log n).
     ///
     /// Refused: `NoSuchCollection`, `WrongKind` of a singly linked list.
     pub fn move_prev(&mut self, collection: usize) -> Result<Option<Place>, Refusal>
@@ -89,7 +89,7 @@ impl<A: KeyAdapter, M: Allocator + Copy> World<A, M> {
         self.call(collection, &Seek::Null)
     }
 
-    /// The member that the cursor is on, `None` at null. O(1).
+    /// Returns the member that the cursor is on, or `None` if the cursor is at null. O(1).
     ///
     /// Refused: `NoSuchCollection`.
     pub fn current(&self, collection: usize) -> Result<Option<Place>, Refusal>
@@ -101,7 +101,7 @@ impl<A: KeyAdapter, M: Allocator + Copy> World<A, M> {
         }
     }
 
-    /// Puts the cursor on a member. Of lists O(members), in a tree O(log n); for an object that is linked nowhere O(1).
+    /// Puts the cursor on a member. It costs O(members) in a list, O(log n) in a tree, and O(1) if the object is not linked in the field.
     ///
     /// Refused: `NoSuchCollection`, `NoSuchObject`, `WrongKind` of an XOR list, `NotAMember`.
     pub fn seek(&mut self, collection: usize, object: Place) -> Result<(), Refusal>
@@ -110,8 +110,8 @@ impl<A: KeyAdapter, M: Allocator + Copy> World<A, M> {
         self.call(collection, &Seek::On(object))
     }
 
-    /// Puts the cursor of an XOR list on a member, with the one before it, `None` at the front. O(members), for an object that is
-    /// linked nowhere O(1).
+    /// Puts the cursor of an XOR list on a member. `prev` names the member before it, or is `None` for the first member. O(members), or O(1) if the
+    /// object is not linked in the field.
     ///
     /// Refused: `NoSuchCollection`, `NoSuchObject` of either object, `WrongKind` of the other kinds, `NotAMember`, `NotANeighbour`.
     pub fn seek_with_prev(
@@ -125,8 +125,8 @@ impl<A: KeyAdapter, M: Allocator + Copy> World<A, M> {
         self.call(collection, &Seek::With(Direction::Prev, object, prev))
     }
 
-    /// Puts the cursor of an XOR list on a member, with the one after it, `None` at the back. O(members), for an object that is
-    /// linked nowhere O(1).
+    /// Puts the cursor of an XOR list on a member. `next` names the member after it, or is `None` for the last member. O(members), or O(1) if the
+    /// object is not linked in the field.
     ///
     /// Refused: `NoSuchCollection`, `NoSuchObject` of either object, `WrongKind` of the other kinds, `NotAMember`, `NotANeighbour`.
     pub fn seek_with_next(
@@ -140,7 +140,7 @@ impl<A: KeyAdapter, M: Allocator + Copy> World<A, M> {
         self.call(collection, &Seek::With(Direction::Next, object, next))
     }
 
-    /// Puts an object after the cursor, at null before all. The cursor stays. O(1), in a tree O(log n).
+    /// Inserts an object after the cursor, or at the front if the cursor is at null. The cursor stays. O(1), in a tree O(log n).
     ///
     /// Refused: `NoSuchCollection`, `NoSuchObject`, `AlreadyLinked`.
     pub fn insert_after(&mut self, collection: usize, object: Place) -> Result<(), Refusal>
@@ -149,7 +149,7 @@ impl<A: KeyAdapter, M: Allocator + Copy> World<A, M> {
         self.call(collection, &Put(Gap::After, object))
     }
 
-    /// Puts an object before the cursor, at null after all. The cursor stays. O(1), in a tree O(log n).
+    /// Inserts an object before the cursor, or at the back if the cursor is at null. The cursor stays. O(1), in a tree O(log n).
     ///
     /// Refused: `NoSuchCollection`, `NoSuchObject`, `WrongKind` of a singly linked list, `AlreadyLinked`.
     pub fn insert_before(&mut self, collection: usize, object: Place) -> Result<(), Refusal>
@@ -158,8 +158,8 @@ impl<A: KeyAdapter, M: Allocator + Copy> World<A, M> {
         self.call(collection, &Put(Gap::Before, object))
     }
 
-    /// Takes the member out that the cursor is on and returns it, `None` at null. The cursor goes on to the next member. O(1), in a tree
-    /// O(log n).
+    /// Removes the member that the cursor is on and returns it, or returns `None` if the cursor is at null. The cursor goes on to the next member.
+    /// O(1), in a tree O(log n).
     ///
     /// Refused: `NoSuchCollection`, `WrongKind` of a singly linked list.
     pub fn remove(&mut self, collection: usize) -> Result<Option<Place>, Refusal>
@@ -168,8 +168,8 @@ impl<A: KeyAdapter, M: Allocator + Copy> World<A, M> {
         self.call(collection, &Take(Gap::Before))
     }
 
-    /// Takes the member after the cursor of a singly linked list out and returns it, at null the first one; `None` where there is none.
-    /// The cursor stays. O(1).
+    /// Removes the member after the cursor of a singly linked list, or the first one if the cursor is at null. It returns the member, or `None` if
+    /// there is none. The cursor stays. O(1).
     ///
     /// Refused: `NoSuchCollection`, `WrongKind` of the other kinds.
     pub fn remove_next(&mut self, collection: usize) -> Result<Option<Place>, Refusal>
@@ -178,7 +178,7 @@ impl<A: KeyAdapter, M: Allocator + Copy> World<A, M> {
         self.call(collection, &Take(Gap::After))
     }
 
-    /// Puts an object in the place of the member that the cursor is on, which it answers. The cursor is on the object then. O(1).
+    /// Replaces the member that the cursor is on by an object, and returns the member. The cursor is then on the object. O(1).
     ///
     /// Refused: `NoSuchCollection`, `NoSuchObject`, `WrongKind` of a singly linked list, `NothingThere` at null, `AlreadyLinked`.
     pub fn replace_with(&mut self, collection: usize, object: Place) -> Result<Place, Refusal>
@@ -187,17 +187,17 @@ impl<A: KeyAdapter, M: Allocator + Copy> World<A, M> {
         self.call(collection, &Swap(Gap::Before, object))
     }
 
-    /// Puts an object in the place of the member after the cursor of a singly linked list, at null of the first one, which it answers.
+    /// Replaces the member after the cursor of a singly linked list, or the first one if the cursor is at null, by an object, and returns the member.
     /// The cursor stays. O(1).
     ///
-    /// Refused: `NoSuchCollection`, `NoSuchObject`, `WrongKind` of the other kinds, `NothingThere` where there is none, `AlreadyLinked`.
+    /// Refused: `NoSuchCollection`, `NoSuchObject`, `WrongKind` of the other kinds, `NothingThere` if there is no such member, `AlreadyLinked`.
     pub fn replace_next_with(&mut self, collection: usize, object: Place) -> Result<Place, Refusal>
         ensures { Step A.Key.cmp A.key_of self.old (Command.On collection (Call.Swap Gap.After object)) (reply_of (λ p. state.object p) result) self.new }
     {
         self.call(collection, &Swap(Gap::After, object))
     }
 
-    /// Turns an XOR list round, and puts the cursor to null. O(1).
+    /// Reverses an XOR list, and puts the cursor to null. O(1).
     ///
     /// Refused: `NoSuchCollection`, `WrongKind` of the other kinds.
     pub fn reverse(&mut self, collection: usize) -> Result<(), Refusal>
@@ -206,7 +206,7 @@ impl<A: KeyAdapter, M: Allocator + Copy> World<A, M> {
         self.call(collection, &Whole::Reverse)
     }
 
-    /// Takes all members out, and puts the cursor to null. O(members).
+    /// Removes and unlinks all members, and puts the cursor to null. O(members).
     ///
     /// Refused: `NoSuchCollection`.
     pub fn clear(&mut self, collection: usize) -> Result<(), Refusal>
@@ -215,8 +215,8 @@ impl<A: KeyAdapter, M: Allocator + Copy> World<A, M> {
         self.call(collection, &Whole::Clear)
     }
 
-    /// Takes all members out and leaves them linked, until [`World::force_unlink`], and puts the cursor to null. The field knows from then
-    /// on that a linked object may be no member. O(1).
+    /// Removes all members but leaves them linked until [`World::force_unlink`], and puts the cursor to null. The field is then marked: a linked
+    /// object in it need not be a member of a collection. O(1).
     ///
     /// Refused: `NoSuchCollection`.
     pub fn fast_clear(&mut self, collection: usize) -> Result<(), Refusal>

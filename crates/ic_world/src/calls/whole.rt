@@ -12,12 +12,12 @@ use ic_rbtree::KeyAdapter;
 use ic_unsafe_ref::Objects;
 use std::alloc::Allocator;
 
-/// What is done with all members. The cursor goes to null.
+/// What a call does with all members. It also puts the cursor to null.
 #[derive(Clone, Copy)]
 pub enum Whole {
-    /// They go out.
+    /// Removes and unlinks them.
     Clear,
-    /// They are turned round.
+    /// Reverses their order.
     Reverse,
 }
 

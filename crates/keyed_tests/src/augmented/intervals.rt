@@ -1,5 +1,5 @@
-//! What Linux's test of interval trees (`lib/interval_tree_test.c`) does: a hundred intervals at random, and at a hundred points how many of them
-//! overlap it, beside a plain count.
+//! The same test as Linux's test of interval trees (`lib/interval_tree_test.c`): for a hundred random intervals it counts, at a hundred points, how
+//! many of them contain the point, by the tree and by a plain loop.
 
 ghost use Rattle.std.specs.Prelude.{◌≡◌, ◌<◌, List, filter, length};
 ghost use Rattle.ic_link_ops.specs.Prelude.{Place, IsCovered};
@@ -7,7 +7,7 @@ ghost use Rattle.ic_rbtree.specs.Tree.{root_of};
 ghost use Rattle.ic_augmented.specs.Consistent.{RepresentsSummed};
 ghost use Rattle.ic_augmented.specs.Greatest.{greatest, number_at};
 ghost use Rattle.ic_augmented.specs.Intervals.{start_in, overlaps};
-ghost use Rattle.ic_augmented.specs.Summed.{links_of, sums_of};
+ghost use Rattle.ic_augmented.specs.Summed.{links_of, summaries_of};
 ghost use Rattle.keyed_tests.specs.Ready.{AreIntervals};
 
 use super::empty_tree;
@@ -51,7 +51,7 @@ impl Random {
     }
 }
 
-// A hundred intervals: where each starts, and where it ends. The kernel has an end in its interval, and we the number before it.
+// A hundred intervals: the start and the end of each. In the kernel an interval contains its end, and here only the numbers before it.
 fn random_intervals(random: &mut Random) -> ([u64; 100], [u64; 100]) {
     let mut starts = [0; 100];
     let mut ends = [0; 100];
@@ -63,7 +63,7 @@ fn random_intervals(random: &mut Random) -> ([u64; 100], [u64; 100]) {
     (starts, ends)
 }
 
-// How many of these intervals a point is in, by a look at each.
+// Returns how many of these intervals contain a point, by a test of each.
 fn plain_count(starts: &[u64; 100], ends: &[u64; 100], point: u64) -> u64 {
     let mut count = 0;
     for index in 0..100 {
@@ -92,7 +92,7 @@ fn put<L: RBTreeOps + LinkValues<u64>>(
     assert!(rt; inserted.is_ok());
 }
 
-// How many intervals overlap `[from, to)`.
+// Returns how many intervals overlap `[from, to)`.
 fn count_overlaps<L: RBTreeOps + LinkValues<u64>>(
     tree: &RBTree<OwnKey>,
     summed: &Summed<L, Greatest>,
@@ -100,8 +100,8 @@ fn count_overlaps<L: RBTreeOps + LinkValues<u64>>(
     to: u64,
 ) -> u64
     requires intervals { AreIntervals L.node L.table L.values tree.now summed.now }
-    ensures counted { (s : List Place) → RepresentsSummed L.node (greatest (sums_of summed.now)) (L.table (links_of summed.now)) (root_of tree.now) s
-        → result ≡ length (filter (overlaps (start_in (L.values (links_of summed.now))) (number_at (sums_of summed.now)) from to) s) }
+    ensures counted { (s : List Place) → RepresentsSummed L.node (greatest (summaries_of summed.now)) (L.table (links_of summed.now)) (root_of tree.now) s
+        → result ≡ length (filter (overlaps (start_in (L.values (links_of summed.now))) (number_at (summaries_of summed.now)) from to) s) }
 {
     let mut count = 0;
     let mut at = first_overlap(tree, summed, &summed.links, from, to);
@@ -112,7 +112,7 @@ fn count_overlaps<L: RBTreeOps + LinkValues<u64>>(
     count
 }
 
-// Takes the first interval that overlaps `[from, to)` off, if there is one.
+// Removes the first interval that overlaps `[from, to)`, if there is one.
 fn take_first<L: RBTreeOps + LinkValues<u64>>(
     tree: &mut RBTree<OwnKey>,
     summed: &mut Summed<L, Greatest>,

@@ -36,14 +36,14 @@ fn read_links(links: &mut LinkOps, pairs: &[(usize, usize)])
     requires covers { (table wide no_word links.old).extent.places ≡ 8 }
 {
     for index in 0..pairs.len() {
-        let (first, behind) = pairs[index];
+        let (first, after) = pairs[index];
         if first < NONE {
-            let _ = links.link_before(place_at(first), named(behind));
+            let _ = links.link_before(place_at(first), named(after));
         }
     }
 }
 
-// The first member with this key of the hash table of so many members over these buckets, if the words are those of one.
+// Returns the first member with this key of the hash table over these buckets, if the words represent one with this many members.
 fn find_in_file(
     words: &mut [u64],
     links: &LinkOps,

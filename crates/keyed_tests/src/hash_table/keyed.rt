@@ -1,4 +1,4 @@
-//! A hash table whose keys stand beside the links.
+//! A hash table whose keys are beside the links.
 
 ghost use Rattle.std.specs.Prelude.{◌≡◌, ◌<◌};
 ghost use Rattle.ic_link_ops.specs.Tables.{IsCovered};
@@ -10,7 +10,7 @@ use ic_link_ops::{LinkOps as _, LinkValues};
 use ic_test_support::objects::reference;
 use ic_unsafe_ref::UnsafeRef;
 
-/// Puts the object in by the key that stands beside its link.
+/// Inserts the object by the key beside its link.
 pub(super) fn put_keyed<
     A: HashAdapter<Value = u64>,
     L: SinglyLinkedListOps + LinkValues<u64>,
@@ -25,7 +25,7 @@ pub(super) fn put_keyed<
     let _ = table.insert_keyed(links, reference(index));
 }
 
-/// Takes the object out, and says whether it was a member.
+/// Removes the object, and returns whether it was a member.
 pub(super) fn take_keyed<
     A: HashAdapter<Value = u64>,
     L: SinglyLinkedListOps + LinkValues<u64>,
@@ -40,7 +40,7 @@ pub(super) fn take_keyed<
     table.remove_keyed(links, &reference(index))
 }
 
-/// Takes the first member with this key out.
+/// Removes the first member with this key.
 pub(super) fn take_by_keyed<
     A: HashAdapter<Value = u64>,
     L: SinglyLinkedListOps + LinkValues<u64>,

@@ -1,4 +1,4 @@
-//! A hash table over links of 4-byte words, with buckets of 4 bytes: the edits leave what they leave over words of 8 bytes.
+//! A hash table over links of 4-byte words, with buckets of 4 bytes: the edits have the same results as over words of 8 bytes.
 
 use crate::asserts::assert_true;
 use crate::hash_table::{EDITS, NUMBERS, OwnKey, write_edits};

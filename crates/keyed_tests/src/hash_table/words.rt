@@ -36,7 +36,7 @@ fn found_again<A: HashAdapter<Value = u64>, L: SinglyLinkedListOps, B: BucketsFo
     again.find(&*links, objects, key)
 }
 
-// Puts an object into a table over lent words of which one chain is in use, takes one chain more into use, which it always can, and empties the
+// Inserts an object into a table over lent words of which one chain is in use, takes one chain more into use, which it always can, and empties the
 // table. The lent words come back, and are 0 again.
 fn grown_and_cleared<'a, L: SinglyLinkedListOps>(
     words: &'a mut [u64],

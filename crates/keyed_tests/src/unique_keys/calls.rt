@@ -1,4 +1,4 @@
-//! Calls of a container of pages and what they answer, as values.
+//! Calls of a container of pages and their results, as values.
 
 use ic_keyed::{HasKey, Index, InsertError, Keyed};
 use std::alloc::Allocator;
@@ -37,7 +37,7 @@ pub(crate) enum Call {
     Clear,
 }
 
-/// What a call answers.
+/// The result of a call.
 #[derive(Clone, Copy, PartialEq)]
 pub(crate) enum Answer {
     Nothing,
@@ -111,7 +111,7 @@ fn shown(page: Option<Page>) -> Answer {
     }
 }
 
-/// Whether the pages have these numbers in this order, from both ends.
+/// Returns whether the pages have these numbers in this order, from both ends.
 pub(crate) fn are<I: Index<Page, A>, A: Allocator>(
     pages: &Keyed<Page, I, A>,
     numbers: &[u64],
@@ -119,10 +119,10 @@ pub(crate) fn are<I: Index<Page, A>, A: Allocator>(
     let mut forward = pages.iter();
     let mut backward = pages.iter();
     for (number, last) in numbers.iter().zip(numbers.iter().rev()) {
-        let (Some(page), Some(behind)) = (forward.next(), backward.next_back()) else {
+        let (Some(page), Some(after)) = (forward.next(), backward.next_back()) else {
             return false;
         };
-        if page.number != *number || behind.number != *last {
+        if page.number != *number || after.number != *last {
             return false;
         }
     }

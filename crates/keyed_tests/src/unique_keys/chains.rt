@@ -1,4 +1,4 @@
-//! Pages by a hash table with two buckets, over links of 4-byte words: how many pages a search looks at.
+//! Pages by a hash table with two buckets, over links of 4-byte words: how many pages a search compares.
 
 use crate::unique_keys::calls::{Answer, Call, Page, make};
 use ic_hash_index::{HashIndex, NarrowHashIndex, empty_buckets};
@@ -7,8 +7,8 @@ use ic_link_ops::PlaceWord;
 
 type Pages = Keyed<Page, NarrowHashIndex<Page, Vec<PlaceWord>>>;
 
-// By the last bit of their hashes 2, 3, 6 and 7 belong in chain 0, and 1, 4 and 5 in chain 1. A new page stands before its chain.
-// After each row: the chains afterwards.
+// By the last bit of their hashes 2, 3, 6 and 7 belong in chain 0, and 1, 4 and 5 in chain 1. A new page is inserted at the front of its chain. After
+// each row: the chains afterwards.
 const ROWS: &[(Call, Answer)] = &[
     (Call::Insert(2, 20), Answer::Nothing), // 2 and none
     (Call::Insert(1, 10), Answer::Nothing), // 2 and 1

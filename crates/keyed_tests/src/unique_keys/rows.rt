@@ -1,4 +1,4 @@
-//! The worked rows: calls, what they answer, and the numbers of the pages afterwards.
+//! The worked rows: calls, their results, and the numbers of the pages afterwards.
 
 use crate::unique_keys::calls::{Answer, Call, Page, are, make};
 use ic_hash_index::{HashIndex, NarrowHashIndex};
@@ -56,7 +56,7 @@ const ROWS: &[Row] = &[
     (Call::Insert(4, 1), Answer::Nothing, &[4]),
 ];
 
-// Whether the call puts in a page with this number and this size.
+// Returns whether the call inserts a page with this number and this size.
 fn puts_in(call: Call, number: u64, size: u64) -> bool {
     match call {
         Call::Insert(put, of) => put == number && of == size,
@@ -65,8 +65,8 @@ fn puts_in(call: Call, number: u64, size: u64) -> bool {
     }
 }
 
-// Plays the rows. An insert with no room gives its page back and changes nothing, so it is made once more. How many were
-// refused; none, where a call answers otherwise.
+// Plays the rows. An insert with no room gives its page back and changes nothing, so it is made once more. It returns how many were refused, or none
+// if a call has another result.
 fn play<I: Index<Page, A>, A: Allocator>(
     pages: &mut Keyed<Page, I, A>,
     rows: &[Row],
@@ -121,8 +121,8 @@ fn play_new(by: By, memory: &Rationed, rows: &[Row]) -> Option<usize> {
     }
 }
 
-// Whether each of the requests for memory refuses one call alone, where it is refused. There are three at least: each table grew, and the
-// objects.
+// Returns whether the refusal of each request for memory refuses exactly one call. There are at least three requests, since each table grew, and the
+// objects did.
 fn is_refused_in_turn(by: By, alloc: Global, rows: &[Row]) -> bool {
     let memory = Rationed::new(alloc, u64::MAX);
     let mut as_wanted = play_new(by, &memory, rows) == Some(0);

@@ -1,4 +1,4 @@
-//! What waits, and its order.
+//! Values that wait for a deadline, and their order.
 //!
 //! ```text
 //! impl HasDeadline for Timer {
@@ -14,23 +14,23 @@ use ic_rbtree::KeyAdapter;
 use std::alloc::AllocError;
 use std::marker::PhantomData;
 
-/// What waits for a deadline.
+/// A value that waits for a deadline.
 pub trait HasDeadline {
-    // The time from which it is due.
+    // The time from which the value is due.
     ghost deadline: { Self → ℕ };
 
-    /// The time from which it is due. O(1).
+    /// Returns the time from which the value is due. O(1).
     fn deadline(&self) -> &u64
         ensures { result.now ≡ deadline self.now };
 }
 
-/// The order of deadlines, in which a tree keeps what waits.
+/// The order of deadlines, by which a tree sorts the waiting values.
 pub struct ByDeadline<T> {
     of: PhantomData<T>,
 }
 
 impl<T> ByDeadline<T> {
-    /// The order of deadlines. O(1).
+    /// Makes the order of deadlines. O(1).
     #[inline]
     pub fn new() -> ByDeadline<T> {
         ByDeadline { of: PhantomData }

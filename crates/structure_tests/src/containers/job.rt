@@ -27,7 +27,7 @@ impl Priority {
     }
 }
 
-/// A job as it is placed.
+/// A job as it is stored at a place.
 #[derive(Drop)]
 pub struct Job<V> {
     pub priority: Priority,

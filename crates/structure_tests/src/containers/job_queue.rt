@@ -26,7 +26,7 @@ use std::marker::Model;
 
 /// Jobs that wait, the urgent ones first.
 ///
-/// A clause sees the references of each lane from its front, and the job that each reference names.
+/// A contract sees the references of each lane from its front, and the job that each reference names.
 #[derive(Drop)]
 pub struct JobQueue<V, A: Allocator = Global> {
     pool: Pool<Job<V>, LinkOps<A>, A>,
@@ -68,8 +68,8 @@ impl<V, A: Allocator> JobQueue<V, A> {
         }
     }
 
-    /// Adds a job after those of its priority. The reference cancels it. Where there is no room for it, the job comes back, and nothing
-    /// has changed. O(1), and at most two requests for memory.
+    /// Adds a job after the other jobs of its priority, and returns the reference by which it can be canceled. If there is no room for it, the caller
+    /// gets the job back, and nothing has changed. O(1), and at most two requests for memory.
     pub fn push(
         &mut self,
         priority: Priority,
@@ -87,8 +87,8 @@ impl<V, A: Allocator> JobQueue<V, A> {
         Ok(job)
     }
 
-    /// Gives a job another priority: it waits after the jobs of that one, wherever it stood. `false`, and nothing has changed, where no job
-    /// has this reference. O(1), and it takes no memory.
+    /// Gives a job another priority, and moves it after the jobs that have that priority. If no job has this reference, it returns `false`, and
+    /// nothing has changed. O(1), and it takes no memory.
     pub fn reprioritize(&mut self, job: &UnsafeRef<Job<V>>, priority: Priority) -> bool
         ensures moved { OnTrue result ((value : V) × (was : Priority) × Renews lane_of_job job.now (job_of was value) (job_of priority value) self.old self.new) }
         ensures none { OnFalse result ((object_at self.old.values job.now ≡ None) × IsUnchanged self.old self.new) }
@@ -103,8 +103,7 @@ impl<V, A: Allocator> JobQueue<V, A> {
         true
     }
 
-    /// Takes a job out that waits, wherever it stands. `None`, and nothing has changed, where no job has this reference. O(1), and it takes
-    /// no memory.
+    /// Removes a waiting job and returns it. If no job has this reference, it returns `None`, and nothing has changed. O(1), and it takes no memory.
     pub fn cancel(&mut self, job: &UnsafeRef<Job<V>>) -> Option<Job<V>>
         ensures cancelled { IfSome result (λ it. TakesOut lane_of_job job.now it self.old self.new) }
         ensures none { IfNone result ((object_at self.old.values job.now ≡ None) × IsUnchanged self.old self.new) }
@@ -115,8 +114,8 @@ impl<V, A: Allocator> JobQueue<V, A> {
         Some(self.pool.remove(UnsafeRef::new(job.place())))
     }
 
-    /// Takes the first job of the most urgent lane that has one. `None`, and nothing has changed, where no job waits. O(1), and it takes no
-    /// memory.
+    /// Removes the first job of the most urgent lane that has one and returns it. If no job waits, it returns `None`, and nothing has changed. O(1),
+    /// and it takes no memory.
     pub fn pop(&mut self) -> Option<Job<V>>
         ensures taken { IfSome result (λ job. TakesFirst lane_of_job job self.old self.new) }
         ensures none { IfNone result (((i : ℕ) → lane self.old i ≡ []) × IsUnchanged self.old self.new) }

@@ -54,7 +54,7 @@ pub(crate) enum Pair {
     MoveFirstToBack,
     /// Moves it to the front of the first ring: `list_move`
     MoveFirstToFront,
-    /// Moves what stands after the first member of the first ring to the front of the second one: `list_cut_position`, the other way round
+    /// Moves the members after the first one of the first ring to the front of the second ring: `list_cut_position`, the other way round
     SplitAfterFirst,
     /// Moves all members of the second ring to the back of the first one: `list_splice_tail_init`
     SpliceBack,
@@ -68,7 +68,7 @@ fn refused(put: Result<(), AlreadyLinked<u64>>) -> Option<UnsafeRef<u64>> {
     }
 }
 
-// The object that comes back: the one that was replaced, or the one that was refused.
+// Returns the object that the call gives back: the one that was replaced, or the one that was refused.
 fn given_back(put: Result<UnsafeRef<u64>, ReplaceError<u64>>) -> Option<UnsafeRef<u64>> {
     match put {
         Ok(out) => Some(out),
@@ -84,7 +84,7 @@ fn object_on(is_null: bool, at: Option<Place>, read: Option<Place>) -> Option<Un
     }
 }
 
-/// Makes a call of the first ring, and returns the object that comes back, if one does.
+/// Makes a call of the first ring, and returns the object that it gives back, if it does.
 pub(crate) fn call_ring<L: LinkedListOps>(
     links: &mut L,
     ring: &Ring<u64>,
@@ -137,7 +137,7 @@ fn call_member<L: LinkedListOps>(
     None
 }
 
-/// Makes a call by a cursor, and returns the object that comes back, or else the one that the cursor is on then.
+/// Makes a call by a cursor, and returns the object that it gives back, or else the one that the cursor is then on.
 pub(crate) fn call_by_cursor<L: LinkedListOps>(
     links: &mut L,
     ring: &Ring<u64>,
@@ -187,7 +187,7 @@ pub(crate) fn call_by_cursor<L: LinkedListOps>(
     )
 }
 
-/// Makes a call of both rings, and returns the object that comes back, if one does.
+/// Makes a call of both rings, and returns the object that it gives back, if it does.
 pub(crate) fn call_both<L: LinkedListOps>(
     links: &mut L,
     ring: &Ring<u64>,

@@ -12,7 +12,7 @@ use ic_test_support::answers::{object, value, write_places};
 use ic_test_support::notes::{Answer, Text};
 use ic_unsafe_ref::{Objects, Place, UnsafeRef};
 
-/// The connection was used: it is the last of those that are idle, from whichever queue it was in.
+/// Marks a connection as used: it moves to the back of the idle queue, from whichever queue it was in.
 pub(crate) fn touch<L: LinkedListOps>(links: &mut L, idle: &Ring<u64>, connection: &UnsafeRef<u64>)
     requires queued { InRing L.neighbors (L.table links.old) connection.now }
     requires idle { InRing L.neighbors (L.table links.old) idle.now }
@@ -49,7 +49,7 @@ pub(crate) fn close_oldest<L: LinkedListOps>(
     idle.pop_front(links)
 }
 
-// Closes the connection that is first in the queue, and says which is first then, and its number.
+// Closes the first connection in the queue, and returns which one is then first, and its number.
 fn close_first<L: LinkedListOps>(
     links: &mut L,
     objects: &Objects<u64>,
@@ -69,7 +69,7 @@ fn close_first<L: LinkedListOps>(
     (closed, cursor.get_ptr(), cursor.get(objects).copied())
 }
 
-// Whether the connection is the last one in the queue: whether the head stands after it.
+// Returns whether the connection is the last one in the queue, which it is if the head comes after it.
 fn is_last<L: LinkedListOps>(links: &L, queue: &Ring<u64>, connection: &UnsafeRef<u64>) -> bool
     requires here { (r : List Place) × Represents L.neighbors (L.table links.now) queue.now r × IsMember connection.now (queue.now ∷ r) }
     ensures last { (s : List Place) → Represents L.neighbors (L.table links.now) queue.now (s ++ connection.now ∷ []) → result ≡ true }
@@ -79,7 +79,7 @@ fn is_last<L: LinkedListOps>(links: &L, queue: &Ring<u64>, connection: &UnsafeRe
     cursor.is_null()
 }
 
-// Closes the connection, and says which stood after it, and whether none did.
+// Closes the connection, and returns which one was after it, and whether there was none.
 fn close_here<L: LinkedListOps>(
     links: &mut L,
     queue: &Ring<u64>,
@@ -105,8 +105,8 @@ fn close_last<L: LinkedListOps>(links: &mut L, queue: &Ring<u64>) -> (bool, Opti
     };
     let connection = UnsafeRef::new(last);
     let was_last = is_last(&*links, queue, &connection);
-    let (behind, is_none) = close_here(links, queue, &connection);
-    (was_last, behind, is_none)
+    let (after, is_none) = close_here(links, queue, &connection);
+    (was_last, after, is_none)
 }
 
 // Moves the first member to the back, as `list_rotate_left` does.
@@ -122,7 +122,7 @@ fn rotate_left<L: LinkedListOps>(links: &mut L, ring: &Ring<u64>)
     touch(links, ring, &UnsafeRef::new(first));
 }
 
-// Takes the first member out, with no ring named, as `list_del` does.
+// Removes the first member without naming a ring, as `list_del` does.
 fn remove_first<L: LinkedListOps>(links: &mut L, ring: &Ring<u64>)
     requires covers { (L.table links.old).extent.places ≡ 8 }
     requires shown { InRing L.neighbors (L.table links.old) ring.now }
@@ -137,8 +137,8 @@ fn remove_first<L: LinkedListOps>(links: &mut L, ring: &Ring<u64>)
 
 /// Serves a queue, and notes what the calls return.
 ///
-/// The first connection is used, and the one that is first then closes itself; the members are noted. A cursor closes the next one, and says
-/// which is first then, and its number. Then the one that has been idle longest is closed, and last the last one.
+/// The first connection is used, the one that is then first closes itself, and the members are noted. A cursor closes the next one, and returns which
+/// one is then first, and its number. Then the one that has been idle for longest is closed, and finally the last one.
 pub(crate) fn write_served<L: LinkedListOps>(
     notes: &mut Text,
     links: &mut L,
@@ -159,8 +159,8 @@ pub(crate) fn write_served<L: LinkedListOps>(
     write_places(notes, &[first]);
     notes.add(value(number.as_ref()), " ");
     notes.add(object(close_oldest(links, queue)), " ");
-    let (was_last, behind, is_none) = close_last(links, queue);
+    let (was_last, after, is_none) = close_last(links, queue);
     notes.add(Answer::Truth(was_last), " ");
-    write_places(notes, &[behind]);
+    write_places(notes, &[after]);
     notes.add(Answer::Truth(is_none), " ");
 }

@@ -1,5 +1,5 @@
-//! The rows: calls on two rings of one table, and what stands there after each. The heads are at the places 6 and 7, and the objects 10 to 60 at
-//! the places 0 to 5.
+//! The rows: calls on two rings of one table, and their members after each call. The heads are at the places 6 and 7, and the objects 10 to 60 at the
+//! places 0 to 5.
 
 use crate::ring::calls::{At, Call, Pair};
 use Row::{Both, Cursor, Ends, Ring, Second};
@@ -13,14 +13,14 @@ pub(crate) enum Row {
     Cursor(At, usize),
     /// A call of both rings.
     Both(Pair, usize),
-    /// Whether the first ring is empty, its first member and its last, and the places before its head and after it.
+    /// Notes whether the first ring is empty, its first and its last member, and the places before and after its head.
     Ends,
-    /// Whether a cursor at the head is on no member, and the second member of the first ring and the last one, and the object of the second one.
+    /// Notes whether a cursor at the head is on no member, the second and the last member of the first ring, and the object of the second member.
     Second,
 }
 
-/// The rows make each call at least once. Beside each call stand the object that comes back and the members of both rings: each ring has its
-/// members from the front, and the one that a walk from the back meets first. What `Ends` and `Second` note comes before these.
+/// The rows make each call at least once. With each call are the object that it returns and the members of both rings: those from the front, and the
+/// one that a walk from the back meets first. The notes of `Ends` and `Second` come before these.
 pub(crate) const ROWS: &[(Row, &str)] = &[
     // Calls of one ring.
     (Ends, "yes none none 6 6 none none, none,"),
@@ -87,8 +87,8 @@ pub(crate) const ROWS: &[(Row, &str)] = &[
     (Ring(Call::PushFront, 4), "none 50 30 40 10 20 20, none,"),
 ];
 
-/// What is noted after the rows: the first ring after its head and that of the second ring, which is empty, were exchanged, and what
-/// [`write_served`] notes of it. Then the ring is printed, and its first member is bypassed and put back: which is first, each time.
+/// The notes after the rows: the first ring after its head and that of the second ring, which is empty, were exchanged, and what [`write_served`]
+/// notes of it. Then the ring is printed, and its first member is bypassed and linked again. Each time it notes which member is first.
 ///
 /// [`write_served`]: crate::ring::connections::write_served
 pub(crate) const LAST: &str =

@@ -1,4 +1,4 @@
-//! Calls of a cache of numbers and what they answer, as values.
+//! Calls of a cache of numbers and their results, as values.
 
 use ic_indexed::Index;
 use lru_cache::{Entry, InsertError, LruCache};
@@ -18,7 +18,7 @@ pub(crate) enum Call {
     IsEmpty,
 }
 
-/// What a call answers.
+/// The result of a call.
 #[derive(Clone, Copy, PartialEq)]
 pub(crate) enum Answer {
     Nothing,

@@ -1,4 +1,4 @@
-//! The worked rows: calls, and what they answer.
+//! The worked rows: calls, and their results.
 
 use crate::cache::calls::{Answer, Call, make};
 use ic_hash_index::{HashIndex, NarrowHashIndex};
@@ -68,8 +68,8 @@ const NONE: &[Row] = &[
     (Call::Len, Answer::Count(0)),
 ];
 
-// Plays the rows. A refused insert gives its value back and changes nothing, so it is made once more. How many were
-// refused; none, where a call answers otherwise.
+// Plays the rows. A refused insert gives its value back and changes nothing, so it is made once more. It returns how many were refused, or none if a
+// call has another result.
 fn play<I: Index<Entry<u64>, A>, A: Allocator>(
     cache: &mut LruCache<u64, I, A>,
     rows: &[Row],
@@ -125,8 +125,8 @@ fn play_new(by: By, memory: &Rationed, capacity: usize, rows: &[Row]) -> Option<
     }
 }
 
-// Whether each of the requests for memory refuses one call alone, where it is refused. There are three at least where
-// an entry is kept: each table grew, and the objects.
+// Returns whether the refusal of each request for memory refuses exactly one call. There are at least three requests if an entry is kept, since each
+// table grew, and the objects did.
 fn is_refused_in_turn(by: By, alloc: Global, capacity: usize, rows: &[Row], least: u64) -> bool {
     let memory = Rationed::new(alloc, u64::MAX);
     let mut as_wanted = play_new(by, &memory, capacity, rows) == Some(0);

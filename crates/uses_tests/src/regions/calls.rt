@@ -1,4 +1,4 @@
-//! Calls of an allocator and what they answer, as values.
+//! Calls of an allocator and their results, as values.
 
 use region_allocator::{FreeError, RegionAllocator};
 use std::alloc::Allocator;
@@ -12,7 +12,7 @@ pub(crate) enum Call {
     IsEmpty,
 }
 
-/// What a call answers.
+/// The result of a call.
 #[derive(Clone, Copy, PartialEq)]
 pub(crate) enum Answer {
     Done,

@@ -1,4 +1,4 @@
-//! The worked rows: calls, and what they answer.
+//! The worked rows: calls, and their results.
 
 use crate::regions::calls::{Answer, Call, make};
 use ic_test_support::rationed::Rationed;
@@ -7,7 +7,7 @@ use std::alloc::{Allocator, Global};
 
 type Row = (Call, Answer);
 
-// What is freed in pieces is one region in the end: the third piece joins one after it, the last one on both sides.
+// Addresses that are freed in pieces become one region: the third piece joins the region after it, and the last one joins those on both sides.
 const JOINED: &[Row] = &[
     (Call::IsEmpty, Answer::Truth(true)),
     (Call::Allocate(1), Answer::Nothing),
@@ -25,7 +25,7 @@ const JOINED: &[Row] = &[
     (Call::IsEmpty, Answer::Truth(true)),
 ];
 
-// The start of the first region is taken that is long enough, also where a later one fits better.
+// The allocator takes the start of the first region that is long enough, even if a later one fits better.
 const FIRST_FIT: &[Row] = &[
     (Call::Allocate(0), Answer::Nothing),
     (Call::Free(300, 20), Answer::Done),
@@ -71,12 +71,12 @@ const REFUSAL: Row = (Call::Free(0, 100), Answer::Refused(FreeError::OutOfMemory
 
 const JOINING: Row = (Call::Free(100, 1), Answer::Done);
 
-// Whether the call answers so.
+// Returns whether the call has this result.
 fn answers<A: Allocator>(space: &mut RegionAllocator<A>, row: Row) -> bool {
     make(space, row.0) == row.1
 }
 
-// Whether each call of the rows answers so.
+// Returns whether each call of the rows has its result.
 fn plays(space: &mut RegionAllocator, rows: &[Row]) -> bool {
     let mut as_wanted = true;
     for row in rows {
@@ -85,7 +85,7 @@ fn plays(space: &mut RegionAllocator, rows: &[Row]) -> bool {
     as_wanted
 }
 
-// Whether the refused request changes nothing, so that the call can be made again, and a join asks for no memory.
+// Returns whether a refused request changes nothing, so that the call can be made again, and a join requests no memory.
 fn is_refused_once(memory: &Rationed, number: u64) -> bool {
     let mut space = RegionAllocator::new(memory);
     memory.refuse(number);
@@ -95,7 +95,7 @@ fn is_refused_once(memory: &Rationed, number: u64) -> bool {
     refused && freed && answers(&mut space, JOINING)
 }
 
-// Whether each of the three requests of the first region is refused so.
+// Returns whether each of the three requests of the first region is refused like this.
 fn is_refused_in_turn(alloc: Global) -> bool {
     let memory = Rationed::new(alloc, u64::MAX);
     let mut as_wanted = true;

@@ -1,4 +1,4 @@
-//! Calls of a scheduler of numbers and what they answer, as values.
+//! Calls of a scheduler of numbers and their results, as values.
 
 ghost use Rattle.std.specs.Prelude.{◌≡◌, ◌≢◌, ◌∷◌, ℕ, List};
 ghost use Rattle.ic_link_ops.specs.Prelude.{Place, IsAbsent};
@@ -15,7 +15,7 @@ pub(crate) enum Call {
     Next(usize),
 }
 
-/// What a call answers.
+/// The result of a call.
 #[derive(Clone, Copy, PartialEq)]
 pub(crate) enum Answer {
     Done,
@@ -44,7 +44,7 @@ pub(crate) fn make<A: Allocator>(tasks: &mut Scheduler<u64, A>, call: Call) -> A
     }
 }
 
-// Ticks, and once more at the same time. By the law there is a list for which the scheduler stands, so the second tick moves none.
+// Ticks, and once more at the same time. By the law there is a list that the scheduler represents, so the second tick moves no task.
 fn tick_twice<V, A: Allocator>(tasks: &mut Scheduler<V, A>, now: u64) -> (usize, usize)
     ensures { result.1 ≡ 0 }
 {
@@ -54,7 +54,7 @@ fn tick_twice<V, A: Allocator>(tasks: &mut Scheduler<V, A>, now: u64) -> (usize,
     (moved, again)
 }
 
-// Takes the next task of a queue out. By the law it stood there alone: it did not wait, and was in no other queue.
+// Removes the next task of a queue. By the law it was in that queue only: it did not wait, and was in no other queue.
 fn take_next<V, A: Allocator>(tasks: &mut Scheduler<V, A>, queue: Queue) -> Option<(u64, V)>
     ensures { (p : Place) (s : List Place) → places_at tasks.old queue ≡ p ∷ s
         → IsAbsent p tasks.old.waiting_at × ((other : ℕ) → queue ≢ other → IsAbsent p (places_at tasks.old other)) }

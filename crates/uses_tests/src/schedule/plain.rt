@@ -12,14 +12,14 @@ struct Task {
     value: u64,
 }
 
-// The tasks that wait, in the order in which they were added, and those that were due, in the order in which they were moved.
+// The waiting tasks, in the order in which they were added, and the due tasks, in the order in which they were moved.
 #[derive(Drop)]
 struct Plain {
     waiting: Vec<Task>,
     moved: Vec<Task>,
 }
 
-// The task with the least deadline, of equal ones the first, if it is due.
+// Returns the task with the least deadline, or the first of several with that deadline, if it is due.
 fn earliest(tasks: &[Task], now: u64) -> Option<usize> {
     let mut found = None;
     let mut least = now;
@@ -43,7 +43,7 @@ fn first_in(tasks: &[Task], queue: usize) -> Option<usize> {
     None
 }
 
-// Takes the task of that number off.
+// Removes the task with this number.
 fn take(tasks: &mut Vec<Task>, number: Option<usize>) -> Option<Task> {
     let index = number?;
     if index < tasks.len() {
@@ -100,7 +100,7 @@ fn any_call(random: &mut Random, value: u64) -> Call {
     }
 }
 
-// Whether both answer a thousand calls alike.
+// Returns whether both give the same results for a thousand calls.
 fn are_alike(tasks: &mut Scheduler<u64>, plain: &mut Plain) -> bool {
     let mut random = Random::new(1);
     let mut as_wanted = true;

@@ -14,7 +14,7 @@ impl Random {
         }
     }
 
-    /// A number below the bound, or 0 where the bound is 0.
+    /// Returns a number below the bound, or 0 if the bound is 0.
     pub(crate) fn below(&mut self, bound: usize) -> usize {
         self.state = self
             .state

@@ -1,4 +1,4 @@
-//! The worked rows: calls, and what they answer.
+//! The worked rows: calls, and their results.
 
 use crate::schedule::calls::{Answer, Call, make};
 use ic_test_support::rationed::Rationed;
@@ -7,10 +7,10 @@ use std::alloc::{Allocator, Global};
 
 type Row = (Call, Answer);
 
-// How many bytes the rows may ask for: 256 for each of the nine tasks that they add.
+// The most bytes that the rows may request: 256 for each of the nine tasks that they add.
 const BYTES: u64 = 2304;
 
-// A tick moves what is due, and what has the same deadline in the order of entry. There are eight queues.
+// A tick moves the due tasks, and those with the same deadline in the order in which they were added. There are eight queues.
 // Promise: ticks by deadline, a second tick, a deadline that has passed, the last deadline, eight queues, add-always-refused.
 const TICKS: &[Row] = &[
     (Call::Add(5, 0, 10), Answer::Done),
@@ -38,7 +38,7 @@ const TICKS: &[Row] = &[
     (Call::Next(8), Answer::NoQueue),
 ];
 
-// What a later tick moves stands after what an earlier one did, whatever the deadlines.
+// Tasks that a later tick moves come after those that an earlier one moved, whatever their deadlines.
 // Promise: ticks after one another.
 const TWO_TICKS: &[Row] = &[
     (Call::Add(7, 2, 16), Answer::Done),
@@ -52,8 +52,8 @@ const TWO_TICKS: &[Row] = &[
     (Call::Next(2), Answer::Nothing),
 ];
 
-// Plays the rows. A refused call gives its value back and changes nothing, so it is made once more. How many were refused; none, where a call
-// answers otherwise.
+// Plays the rows. A refused call gives its value back and changes nothing, so it is made once more. It returns how many were refused, or none if a
+// call has another result.
 fn play<A: Allocator>(tasks: &mut Scheduler<u64, A>, rows: &[Row]) -> Option<usize> {
     let mut refused: usize = 0;
     for (call, wanted) in rows {
@@ -82,8 +82,8 @@ fn play_both(memory: &Rationed, rows: &[Row], others: &[Row]) -> Option<usize> {
     }
 }
 
-// Whether each of the requests for memory refuses one call alone, where it is refused. There are three at least: each table grew, and the
-// objects. They are for no more bytes than the tasks need.
+// Returns whether the refusal of each request for memory refuses exactly one call. There are at least three requests, since each table grew, and the
+// objects did. They are for no more bytes than the tasks need.
 fn is_refused_in_turn(alloc: Global, rows: &[Row], others: &[Row]) -> bool {
     let memory = Rationed::new(alloc, u64::MAX);
     let mut as_wanted = play_both(&memory, rows, others) == Some(0);

@@ -16,8 +16,8 @@ move_to_front-requires g c =
     let rest : List Place = but_last s in
     let lent = rw (← c.lend-lent.ensures.list, ← c.lend-lent.ensures.links) at c.requires.shown.1 in
     let front = c.in-Ok.ensures.inserted rest (c.pop_back.ensures.removed s lent) in
-    let behind = c.move_to_back.ensures.moved [] rest (rw (c.new-object.ensures, c.place-place.ensures) front) in
-    record { member = record { front = rest; back = []; shown = behind } }
+    let after = c.move_to_back.ensures.moved [] rest (rw (c.new-object.ensures, c.place-place.ensures) front) in
+    record { member = record { front = rest; back = []; shown = after } }
 
 pub remove-requires : goal.remove-requires
 remove-requires g c =
@@ -25,5 +25,5 @@ remove-requires g c =
     let rest : List Place = but_last s in
     let lent = rw (← c.lend-lent.ensures.list, ← c.lend-lent.ensures.links) at c.requires.shown.1 in
     let front = c.in-Ok.ensures.inserted rest (c.pop_back.ensures.removed s lent) in
-    let behind = c.move_to_back.ensures.moved [] rest (rw (c.new-object.ensures, c.place-place.ensures) front) in
-    record { member = record { front = []; back = rest ++ []; shown = c.move_to_front.ensures.moved rest [] behind } }
+    let after = c.move_to_back.ensures.moved [] rest (rw (c.new-object.ensures, c.place-place.ensures) front) in
+    record { member = record { front = []; back = rest ++ []; shown = c.move_to_front.ensures.moved rest [] after } }

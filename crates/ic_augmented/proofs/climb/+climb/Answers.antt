@@ -8,17 +8,17 @@ use Rattle.ic_augmented.proofs.climb.+climb.Goals as goal
 
 pub returns-then-is_at-clause-consistent : goal.returns-then-is_at-clause-consistent
 returns-then-is_at-clause-consistent g t c =
-    climbed_there g.N.NodeStore.node (g.N.NodeStore.table c.args.links.now) (g.M.Sums.sums c.args.sums.now) (g.M.Sums.sums c.climb_on.new.sums) c.args.place c.args.edge
+    climbed_there g.N.NodeStore.node (g.N.NodeStore.table c.args.links.now) (g.M.Summaries.summaries c.args.summaries.now) (g.M.Summaries.summaries c.climb_on.new.summaries) c.args.place c.args.edge
     (some_same (is_end_yes (Some c.args.place) c.args.edge (sym c.is_at.ensures ∙ c.if-is_at.true))) c.climb_on.ensures.consistent
 
 pub returns-in_default-clause-others : goal.returns-in_default-clause-others
 returns-in_default-clause-others g t c =
-    others_here g.N.NodeStore.node (g.N.NodeStore.table c.args.links.now) (g.M.Sums.sums c.args.sums.now) (g.M.Sums.sums c.renew.new.sums) c.args.place c.parent-upper.result c.renew.ensures.refreshed
+    others_here g.N.NodeStore.node (g.N.NodeStore.table c.args.links.now) (g.M.Summaries.summaries c.args.summaries.now) (g.M.Summaries.summaries c.recompute.new.summaries) c.args.place c.parent-upper.result c.recompute.ensures.refreshed
     (λ fs u h e. c.parent-upper.ensures ∙ subtree_parent g.N.NodeStore.node (g.N.NodeStore.table c.args.links.now) fs u c.args.place h e)
 
 pub returns-in_default-clause-consistent : goal.returns-in_default-clause-consistent
 returns-in_default-clause-consistent g t c =
-    climbed_ends g.N.NodeStore.node (g.N.NodeStore.table c.args.links.now) (g.M.Sums.sums c.args.sums.now) (g.M.Sums.sums c.renew.new.sums) c.args.place c.args.edge c.renew.result c.parent-upper.result (sym c.parent-upper.ensures) c.renew.ensures.summary c.renew.ensures.refreshed c.in_default.is
+    climbed_ends g.N.NodeStore.node (g.N.NodeStore.table c.args.links.now) (g.M.Summaries.summaries c.args.summaries.now) (g.M.Summaries.summaries c.recompute.new.summaries) c.args.place c.args.edge c.recompute.result c.parent-upper.result (sym c.parent-upper.ensures) c.recompute.ensures.summary c.recompute.ensures.refreshed c.in_default.is
 
 pub climb-requires : goal.climb-requires
 climb-requires g t c κs within =
@@ -31,10 +31,10 @@ climb-requires g t c κs within =
 
 pub returns-clause-others : goal.returns-clause-others
 returns-clause-others g t c =
-    others_on g.N.NodeStore.node (g.N.NodeStore.table c.args.links.now) (g.M.Sums.sums c.args.sums.now) (g.M.Sums.sums c.renew.new.sums) c.args.place c.parent-upper.result c.renew.ensures.refreshed
-    (λ fs u h e. c.parent-upper.ensures ∙ subtree_parent g.N.NodeStore.node (g.N.NodeStore.table c.args.links.now) fs u c.args.place h e) (g.M.Sums.sums c.climb.new.sums) c.in-Some.above c.in-Some.is c.climb.ensures.others
+    others_on g.N.NodeStore.node (g.N.NodeStore.table c.args.links.now) (g.M.Summaries.summaries c.args.summaries.now) (g.M.Summaries.summaries c.recompute.new.summaries) c.args.place c.parent-upper.result c.recompute.ensures.refreshed
+    (λ fs u h e. c.parent-upper.ensures ∙ subtree_parent g.N.NodeStore.node (g.N.NodeStore.table c.args.links.now) fs u c.args.place h e) (g.M.Summaries.summaries c.climb.new.summaries) c.in-Some.above c.in-Some.is c.climb.ensures.others
 
 pub returns-clause-consistent : goal.returns-clause-consistent
 returns-clause-consistent g t c =
-    climbed_on g.N.NodeStore.node (g.N.NodeStore.table c.args.links.now) (g.M.Sums.sums c.args.sums.now) (g.M.Sums.sums c.renew.new.sums) c.args.place c.args.edge c.renew.result c.parent-upper.result (sym c.parent-upper.ensures) c.renew.ensures.summary c.renew.ensures.refreshed
-    (g.M.Sums.sums c.climb.new.sums) c.in-Some.above c.in-Some.is (λ e. is_end_no (Some c.args.place) c.args.edge (sym c.is_at.ensures ∙ c.if-is_at.false) (ap Some e)) c.climb.ensures.consistent
+    climbed_on g.N.NodeStore.node (g.N.NodeStore.table c.args.links.now) (g.M.Summaries.summaries c.args.summaries.now) (g.M.Summaries.summaries c.recompute.new.summaries) c.args.place c.args.edge c.recompute.result c.parent-upper.result (sym c.parent-upper.ensures) c.recompute.ensures.summary c.recompute.ensures.refreshed
+    (g.M.Summaries.summaries c.climb.new.summaries) c.in-Some.above c.in-Some.is (λ e. is_end_no (Some c.args.place) c.args.edge (sym c.is_at.ensures ∙ c.if-is_at.false) (ap Some e)) c.climb.ensures.consistent

@@ -6,23 +6,23 @@ use Rattle.ic_augmented.proofs.climb.+pass_on.Goals as goal
 
 pub returns-in_default-clause-consistent : goal.returns-in_default-clause-consistent
 returns-in_default-clause-consistent g t c =
-    rw c.in_default.ensures.stale.1 (passed_stale g.N.NodeStore.node (g.N.NodeStore.table c.args.links.now) (g.M.Sums.sums c.args.sums.now) c.args.place c.args.from c.args.to c.in_default.ensures.stale.0)
+    rw c.in_default.ensures.stale.1 (passed_stale g.N.NodeStore.node (g.N.NodeStore.table c.args.links.now) (g.M.Summaries.summaries c.args.summaries.now) c.args.place c.args.from c.args.to c.in_default.ensures.stale.0)
 
 pub returns-then-is_same-clause-others : goal.returns-then-is_same-clause-others
-returns-then-is_same-clause-others g t c fs u h e q out = c.renew_at.ensures.frame fs u h e q (omega (arith, out, times_plug q fs u))
+returns-then-is_same-clause-others g t c fs u h e q out = c.recompute_at.ensures.frame fs u h e q (omega (arith, out, times_plug q fs u))
 
 pub returns-then-is_same-clause-consistent : goal.returns-then-is_same-clause-consistent
 returns-then-is_same-clause-consistent g t c =
-    passed_same g.N.NodeStore.node (g.N.NodeStore.table c.args.links.now) (g.M.Sums.sums c.args.sums.now) (g.M.Sums.sums c.renew_at.new.sums) c.args.place c.args.from c.args.to c.in-Some.change.0 c.in-Some.change.1 c.parent-upper.result
-    (sym c.parent-upper.ensures) c.renew_at.ensures.join c.in-Some.ensures.renewed c.in-Some.ensures.was c.in-Some.ensures.is c.renew_at.ensures.frame (c.is_same.ensures c.if-is_same.true)
+    passed_same g.N.NodeStore.node (g.N.NodeStore.table c.args.links.now) (g.M.Summaries.summaries c.args.summaries.now) (g.M.Summaries.summaries c.recompute_at.new.summaries) c.args.place c.args.from c.args.to c.in-Some.change.0 c.in-Some.change.1 c.parent-upper.result
+    (sym c.parent-upper.ensures) c.recompute_at.ensures.join c.in-Some.ensures.recomputed c.in-Some.ensures.was c.in-Some.ensures.is c.recompute_at.ensures.frame (c.is_same.ensures c.if-is_same.true)
 
 pub returns-in_default-upper-clause-others : goal.returns-in_default-upper-clause-others
-returns-in_default-upper-clause-others g t c fs u h e q out = c.renew_at.ensures.frame fs u h e q (omega (arith, out, times_plug q fs u))
+returns-in_default-upper-clause-others g t c fs u h e q out = c.recompute_at.ensures.frame fs u h e q (omega (arith, out, times_plug q fs u))
 
 pub returns-in_default-upper-clause-consistent : goal.returns-in_default-upper-clause-consistent
 returns-in_default-upper-clause-consistent g t c =
-    passed_ends g.N.NodeStore.node (g.N.NodeStore.table c.args.links.now) (g.M.Sums.sums c.args.sums.now) (g.M.Sums.sums c.renew_at.new.sums) c.args.place c.args.from c.args.to c.in-Some.change.0 c.in-Some.change.1 c.parent-upper.result
-    (sym c.parent-upper.ensures) c.renew_at.ensures.join c.in-Some.ensures.renewed c.in-Some.ensures.was c.in-Some.ensures.is c.renew_at.ensures.frame c.in_default-upper.is
+    passed_ends g.N.NodeStore.node (g.N.NodeStore.table c.args.links.now) (g.M.Summaries.summaries c.args.summaries.now) (g.M.Summaries.summaries c.recompute_at.new.summaries) c.args.place c.args.from c.args.to c.in-Some.change.0 c.in-Some.change.1 c.parent-upper.result
+    (sym c.parent-upper.ensures) c.recompute_at.ensures.join c.in-Some.ensures.recomputed c.in-Some.ensures.was c.in-Some.ensures.is c.recompute_at.ensures.frame c.in_default-upper.is
 
 pub pass_on-requires : goal.pass_on-requires
 pass_on-requires g t c κs within =
@@ -35,11 +35,11 @@ pass_on-requires g t c κs within =
 
 pub returns-clause-others : goal.returns-clause-others
 returns-clause-others g t c =
-    others_up g.N.NodeStore.node (g.N.NodeStore.table c.args.links.now) (g.M.Sums.sums c.args.sums.now) (g.M.Sums.sums c.renew_at.new.sums) (g.M.Sums.sums c.pass_on.new.sums) c.args.place c.in-Some-upper.above
-    c.renew_at.ensures.frame (sym c.parent-upper.ensures ∙ c.in-Some-upper.is) c.pass_on.ensures.others
+    others_up g.N.NodeStore.node (g.N.NodeStore.table c.args.links.now) (g.M.Summaries.summaries c.args.summaries.now) (g.M.Summaries.summaries c.recompute_at.new.summaries) (g.M.Summaries.summaries c.pass_on.new.summaries) c.args.place c.in-Some-upper.above
+    c.recompute_at.ensures.frame (sym c.parent-upper.ensures ∙ c.in-Some-upper.is) c.pass_on.ensures.others
 
 pub returns-clause-consistent : goal.returns-clause-consistent
 returns-clause-consistent g t c =
-    passed_on g.N.NodeStore.node (g.N.NodeStore.table c.args.links.now) (g.M.Sums.sums c.args.sums.now) (g.M.Sums.sums c.renew_at.new.sums) c.args.place c.args.from c.args.to c.in-Some.change.0 c.in-Some.change.1 c.parent-upper.result
-    (sym c.parent-upper.ensures) c.renew_at.ensures.join c.in-Some.ensures.renewed c.in-Some.ensures.was c.in-Some.ensures.is c.renew_at.ensures.frame
-    (g.M.Sums.sums c.pass_on.new.sums) c.in-Some-upper.above c.in-Some-upper.is c.pass_on.ensures.consistent
+    passed_on g.N.NodeStore.node (g.N.NodeStore.table c.args.links.now) (g.M.Summaries.summaries c.args.summaries.now) (g.M.Summaries.summaries c.recompute_at.new.summaries) c.args.place c.args.from c.args.to c.in-Some.change.0 c.in-Some.change.1 c.parent-upper.result
+    (sym c.parent-upper.ensures) c.recompute_at.ensures.join c.in-Some.ensures.recomputed c.in-Some.ensures.was c.in-Some.ensures.is c.recompute_at.ensures.frame
+    (g.M.Summaries.summaries c.pass_on.new.summaries) c.in-Some-upper.above c.in-Some-upper.is c.pass_on.ensures.consistent

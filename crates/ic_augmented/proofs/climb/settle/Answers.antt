@@ -27,14 +27,14 @@ pub returns-in_default-clause-consistent : goal.returns-in_default-clause-consis
 returns-in_default-clause-consistent g c root front back h k =
     let n = g.N.NodeStore.node in
     let v = g.N.NodeStore.table c.args.links.now in
-    let z = g.M.Sums.sums c.args.sums.now in
+    let z = g.M.Summaries.summaries c.args.summaries.now in
     consistent_represented n v z root (front ++ c.args.place ∷ back) (h, subst (λ (o : Option Place). IsConsistentBut n v z (front ++ c.args.place ∷ back) o) c.in_default.is k)
 
 pub returns-then-not-is_above-clause-consistent : goal.returns-then-not-is_above-clause-consistent
 returns-then-not-is_above-clause-consistent g c root front back h k =
     let n = g.N.NodeStore.node in
     let v = g.N.NodeStore.table c.args.links.now in
-    let z = g.M.Sums.sums c.args.sums.now in
+    let z = g.M.Summaries.summaries c.args.summaries.now in
     consistent_represented n v _ root (front ++ c.args.place ∷ back)
     (h, c.invalidate_up.ensures.closed (front ++ c.args.place ∷ back) (subst (λ (o : Option Place). IsConsistentBut n v z (front ++ c.args.place ∷ back) o) c.in-Some.is k))
 
@@ -42,26 +42,26 @@ pub returns-clause-consistent : goal.returns-clause-consistent
 returns-clause-consistent g c root front back h k =
     let n = g.N.NodeStore.node in
     let v = g.N.NodeStore.table c.args.links.now in
-    let z = g.M.Sums.sums c.args.sums.now in
+    let z = g.M.Summaries.summaries c.args.summaries.now in
     settled n v z _ root front c.args.place c.in-Some.edge back c.climb.ensures.consistent (c.is_above.ensures c.if-not-is_above.false) h
     (subst (λ (o : Option Place). IsConsistentBut n v z (front ++ c.args.place ∷ back) o) c.in-Some.is k)
 
 pub returns-in_default-clause-others : goal.returns-in_default-clause-others
 returns-in_default-clause-others g c root other front back t h k apart but =
-    invalidated_none g.N.NodeStore.node (g.N.NodeStore.table c.args.links.now) (g.M.Sums.sums c.args.sums.now) t c.args.edge c.in_default.is but
+    invalidated_none g.N.NodeStore.node (g.N.NodeStore.table c.args.links.now) (g.M.Summaries.summaries c.args.summaries.now) t c.args.edge c.in_default.is but
 
 pub returns-then-not-is_above-clause-others : goal.returns-then-not-is_above-clause-others
 returns-then-not-is_above-clause-others g c root other front back t h k apart but =
     let n = g.N.NodeStore.node in
     let v = g.N.NodeStore.table c.args.links.now in
-    let z = g.M.Sums.sums c.args.sums.now in
+    let z = g.M.Summaries.summaries c.args.summaries.now in
     c.invalidate_up.ensures.closed t (subst (λ (o : Option Place). IsConsistentBut n v z t o) c.in-Some.is but)
 
 pub returns-clause-others : goal.returns-clause-others
 returns-clause-others g c root other front back t h k apart but =
     let n = g.N.NodeStore.node in
     let v = g.N.NodeStore.table c.args.links.now in
-    let z = g.M.Sums.sums c.args.sums.now in
+    let z = g.M.Summaries.summaries c.args.summaries.now in
     others_settled n v z _ root other front c.args.place c.in-Some.edge back t c.climb.ensures.join c.climb.ensures.others (c.is_above.ensures c.if-not-is_above.false) h k apart
     (subst (λ (o : Option Place). IsConsistentBut n v z t o) c.in-Some.is but)
 

@@ -18,35 +18,35 @@ climb_on-requires-clause-subtree g c =
 
 pub returns-in_default-clause-consistent : goal.returns-in_default-clause-consistent
 returns-in_default-clause-consistent g c root s h of absent k =
-    invalidated_none g.N.NodeStore.node (g.N.NodeStore.table c.args.links.now) (g.M.Sums.sums c.args.sums.now) s c.args.edge c.in_default.is k
+    invalidated_none g.N.NodeStore.node (g.N.NodeStore.table c.args.links.now) (g.M.Summaries.summaries c.args.summaries.now) s c.args.edge c.in_default.is k
 
 pub returns-then-is_at-clause-consistent : goal.returns-then-is_at-clause-consistent
 returns-then-is_at-clause-consistent g c root s h of absent k =
-    edge_absent g.N.NodeStore.node (g.N.NodeStore.table c.args.links.now) (g.M.Sums.sums c.args.sums.now) s c.args.place c.args.edge
+    edge_absent g.N.NodeStore.node (g.N.NodeStore.table c.args.links.now) (g.M.Summaries.summaries c.args.summaries.now) s c.args.place c.args.edge
     (c.in-Some.is ∙ is_end_yes (Some c.in-Some.highest) c.args.place (sym c.is_at.ensures ∙ c.if-is_at.true)) absent k
 
 pub returns-clause-consistent : goal.returns-clause-consistent
 returns-clause-consistent g c root s h of absent k =
     let n = g.N.NodeStore.node in
     let v = g.N.NodeStore.table c.args.links.now in
-    let z = g.M.Sums.sums c.args.sums.now in
+    let z = g.M.Summaries.summaries c.args.summaries.now in
     let other : c.in-Some.highest ≢ c.args.place = λ e. is_end_no (Some c.in-Some.highest) c.args.place (sym c.is_at.ensures ∙ c.if-is_at.false) (ap Some e) in
     settled_here n v z _ root s c.in-Some.highest h (of c.in-Some.highest c.in-Some.is other) c.climb_on.ensures.consistent (subst (λ (o : Option Place). IsConsistentBut n v z s o) c.in-Some.is k)
 
 pub returns-in_default-clause-others : goal.returns-in_default-clause-others
 returns-in_default-clause-others g c root other s t h of k apart absent but =
-    invalidated_none g.N.NodeStore.node (g.N.NodeStore.table c.args.links.now) (g.M.Sums.sums c.args.sums.now) t c.args.edge c.in_default.is but
+    invalidated_none g.N.NodeStore.node (g.N.NodeStore.table c.args.links.now) (g.M.Summaries.summaries c.args.summaries.now) t c.args.edge c.in_default.is but
 
 pub returns-then-is_at-clause-others : goal.returns-then-is_at-clause-others
 returns-then-is_at-clause-others g c root other s t h of k apart absent but =
-    edge_absent g.N.NodeStore.node (g.N.NodeStore.table c.args.links.now) (g.M.Sums.sums c.args.sums.now) t c.args.place c.args.edge
+    edge_absent g.N.NodeStore.node (g.N.NodeStore.table c.args.links.now) (g.M.Summaries.summaries c.args.summaries.now) t c.args.place c.args.edge
     (c.in-Some.is ∙ is_end_yes (Some c.in-Some.highest) c.args.place (sym c.is_at.ensures ∙ c.if-is_at.true)) absent but
 
 pub returns-clause-others : goal.returns-clause-others
 returns-clause-others g c root other s t h of k apart absent but =
     let n = g.N.NodeStore.node in
     let v = g.N.NodeStore.table c.args.links.now in
-    let z = g.M.Sums.sums c.args.sums.now in
+    let z = g.M.Summaries.summaries c.args.summaries.now in
     let here : c.in-Some.highest ≢ c.args.place = λ e. is_end_no (Some c.in-Some.highest) c.args.place (sym c.is_at.ensures ∙ c.if-is_at.false) (ap Some e) in
     others_settled_here n v z _ root s c.in-Some.highest h (of c.in-Some.highest c.in-Some.is here) other t c.climb_on.ensures.join c.climb_on.ensures.others k apart
     (subst (λ (o : Option Place). IsConsistentBut n v z t o) c.in-Some.is but)

@@ -1,11 +1,11 @@
-use Rattle.std.proofs.Common.{◌∙◌, [], ◌∷◌, Bool, Option, sym, subst, None}
+use Rattle.std.proofs.Common.{◌∙◌, [], ◌∷◌, Bool, sym, subst, None}
 use Rattle.ic_link_ops.specs.Prelude.{Place, insert, join, IsDisjoint}
 use Rattle.ic_link_ops.proofs.SequenceLemmas.{disjoint_insert, disjoint_sym}
 use Rattle.ic_link_ops.proofs.RepresentedTrees.{holds_out, one_sequence}
 use Rattle.ic_rbtree.specs.Closed.{IsIn}
 use Rattle.ic_rbtree.proofs.RepresentedClosed.{with_place, among_there}
 use Rattle.ic_augmented.specs.Beside.{IsWrittenIn, IsSameBeside}
-use Rattle.ic_augmented.specs.MarkLaws.{written_still, marks_on}
+use Rattle.ic_augmented.specs.MarkLaws.{written_still}
 use Rattle.ic_augmented.proofs.BesideLemmas.{written_among, absent_out, absent_insert}
 use Rattle.ic_augmented.proofs.ConsistencyLemmas.{same_on}
 use Rattle.ic_augmented.proofs.FenceLemmas.{fence_is}
@@ -53,11 +53,11 @@ returns-clause-beside g c =
     let n = g.N.NodeStore.node in
     let p = c.args.place in
     let r = c.requires.hole in
-    let z0 = g.M.Sums.sums c.args.summed.now.sums in
-    let z1 = g.M.Sums.sums c.invalidate_up.new.sums in
-    let z2 = g.M.Sums.sums c.attach_marking-edge.new.summed.sums in
-    let z3 = g.M.Sums.sums c.settle.new.sums in
-    let z4 = g.M.Sums.sums c.refresh_below.new.sums in
+    let z0 = g.M.Summaries.summaries c.args.summed.now.summaries in
+    let z1 = g.M.Summaries.summaries c.invalidate_up.new.summaries in
+    let z2 = g.M.Summaries.summaries c.attach_marking-edge.new.summed.summaries in
+    let z3 = g.M.Summaries.summaries c.settle.new.summaries in
+    let z4 = g.M.Summaries.summaries c.refresh_below.new.summaries in
     let done = c.attach_marking-edge.ensures.attached in
     let tree = attached_represents n _ _ _ _ c.args.parent c.args.side p r.0 done r.1 r.2 r.3 r.4 in
     let fresh = c.refresh_below.ensures.refreshed None tree.tree tree.held.entries (c.root-top.ensures ∙ tree.starts) in

@@ -15,7 +15,7 @@ refresh_path-requires-clause-subtree g c =
 
 pub returns-clause-summed : goal.returns-clause-summed
 returns-clause-summed g c root front back h =
-    propagated g.N.NodeStore.node (g.N.NodeStore.table c.args.summed.now.links) (g.M.Sums.sums c.args.summed.now.sums) (g.M.Sums.sums c.refresh_path.new.sums) root front c.args.place back c.refresh_path.ensures.summed h
+    propagated g.N.NodeStore.node (g.N.NodeStore.table c.args.summed.now.links) (g.M.Summaries.summaries c.args.summed.now.summaries) (g.M.Summaries.summaries c.refresh_path.new.summaries) root front c.args.place back c.refresh_path.ensures.summed h
 
 pub returns-clause-consistent : goal.returns-clause-consistent
 returns-clause-consistent g c root front back h = still_consistent g.N.NodeStore.node _ _ root _ (returns-clause-summed g c root front back h)

@@ -56,11 +56,11 @@ returns-clause-beside g c =
     let n = g.N.NodeStore.node in
     let p = c.args.place in
     let m = c.requires.member in
-    let z0 = g.M.Sums.sums c.args.summed.now.sums in
-    let z1 = g.M.Sums.sums c.unlink_marking-edge.new.summed.sums in
-    let z2 = g.M.Sums.sums c.settle_without.new.sums in
-    let z3 = g.M.Sums.sums c.refresh_below.new.sums in
-    let z4 = g.M.Sums.sums c.invalidate.new.self in
+    let z0 = g.M.Summaries.summaries c.args.summed.now.summaries in
+    let z1 = g.M.Summaries.summaries c.unlink_marking-edge.new.summed.summaries in
+    let z2 = g.M.Summaries.summaries c.settle_without.new.summaries in
+    let z3 = g.M.Summaries.summaries c.refresh_below.new.summaries in
+    let z4 = g.M.Summaries.summaries c.invalidate.new.self in
     let r = unlinked n _ _ _ _ m.front p m.back c.unlink_marking-edge.ensures.taken m.shown (unchanged n _ p) in
     let edge = unlinked_edge n _ _ _ m.front p m.back m.shown c.unlink_marking-edge.ensures.inside in
     let fresh = c.refresh_below.ensures.refreshed None r.shows.tree r.shows.held.entries (c.root-top.ensures ∙ r.shows.starts) in
@@ -71,8 +71,8 @@ returns-clause-beside g c =
           let still = represents_frame h.0 from r.frame in
           let out = (disjoint_sym t (p ∷ m.back) (disjoint_right t m.front (p ∷ m.back) from)).0 in
           let right = c.settle_without.ensures.others _ other (m.front ++ m.back) t r.shows edge still both out (c.unlink_marking-edge.ensures.consistent t h.1) in
-          let renewed = others_consistent n _ _ _ other t fresh.join (λ q k. fresh.frame q (holds_out r.shows.held q (member_out q (m.front ++ m.back) t both k))) (still, right) in
-          invalidated_represents n _ _ _ other t p out c.invalidate.ensures.invalidated renewed;
+          let recomputed = others_consistent n _ _ _ other t fresh.join (λ q k. fresh.frame q (holds_out r.shows.held q (member_out q (m.front ++ m.back) t both k))) (still, right) in
+          invalidated_represents n _ _ _ other t p out c.invalidate.ensures.invalidated recomputed;
       same = λ s shown within q absent.
           let out = absent_out q s absent in
           let written = written_among z0 s within in

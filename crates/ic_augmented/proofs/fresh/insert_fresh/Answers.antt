@@ -100,7 +100,7 @@ returns-then-not-acquire_link-clause-beside g c =
     let stays = g.met.L.LinkOps.refused_keeps _ _ _ c.if-not-acquire_link.ensures.refused in
     record {
       others = λ s t other was apart h.
-          subst (λ (v : Table g.row.L-Entry.Denot). RepresentsConsistent g.L.RBTreeOps.node (g.M.Sums.sums c.args.summed.now.sums) v other t) (sym stays) h;
+          subst (λ (v : Table g.row.L-Entry.Denot). RepresentsConsistent g.L.RBTreeOps.node (g.M.Summaries.summaries c.args.summed.now.summaries) v other t) (sym stays) h;
       same = λ s was within q absent. record { fresh = refl; upper = refl };
       join = refl;
       covers = λ q h. h;

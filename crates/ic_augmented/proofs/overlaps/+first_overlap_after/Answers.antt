@@ -40,8 +40,8 @@ returns-then-to-value g t c fs u h s e sorted low =
     let es = c.args.ends.now.cells.items in
     let eu = sym (subtree_parent n v fs u c.args.place h e) ∙ (sym c.parent.ensures ∙ c.in_ok-above.was) in
     let is : start c.in_ok-above.above ≡ c.value.result.now = ap (key_or (λ (x : ℕ). x)) c.value.ensures in
-    let behind : c.args.to ≤ start c.in_ok-above.above = omega (arith, is, c.if-to-value.true) in
-    after_none n v start es c.args.from c.args.to c.args.place c.in_ok-above.above c.args.turns c.right-right.result c.right-right.ensures None refl behind (sym c.is_at.ensures ∙ c.if-is_at.false) fs u eu h s e sorted low
+    let after : c.args.to ≤ start c.in_ok-above.above = omega (arith, is, c.if-to-value.true) in
+    after_none n v start es c.args.from c.args.to c.args.place c.in_ok-above.above c.args.turns c.right-right.result c.right-right.ensures None refl after (sym c.is_at.ensures ∙ c.if-is_at.false) fs u eu h s e sorted low
 
 pub returns-then-from-value : goal.returns-then-from-value
 returns-then-from-value g t c fs u h s e sorted low =

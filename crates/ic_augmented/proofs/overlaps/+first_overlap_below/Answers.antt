@@ -26,10 +26,10 @@ pub returns-then-to-value : goal.returns-then-to-value
 returns-then-to-value g t c u tree h e s sorted low =
     let start = start_in (g.O.Values.values c.args.starts.now) in
     let is : start c.in_ok-here.here ≡ c.value.result.now = ap (key_or (λ (x : ℕ). x)) c.value.ensures in
-    let behind : c.args.to ≤ start c.in_ok-here.here = omega (arith, is, c.if-to-value.true) in
+    let after : c.args.to ≤ start c.in_ok-here.here = omega (arith, is, c.if-to-value.true) in
     overlap_none start c.args.ends.now.cells.items c.args.from c.args.to g.N.NodeStore.node (g.N.NodeStore.table c.args.links.now) u c.args.turns c.in_ok-here.here
     c.left-left.result (g.N.NodeStore.node ((g.N.NodeStore.table c.args.links.now).entry c.in_ok-here.here)).right c.total.result c.left-left.ensures c.total.ensures refl
-    c.if-from-total.false behind tree (sym c.in_ok-here.was ∙ e) h s sorted low
+    c.if-from-total.false after tree (sym c.in_ok-here.was ∙ e) h s sorted low
 
 pub returns-then-from-value : goal.returns-then-from-value
 returns-then-from-value g t c u tree h e s sorted low =

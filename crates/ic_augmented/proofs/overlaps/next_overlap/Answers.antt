@@ -22,12 +22,12 @@ first_overlap_below-requires g c =
     let r = c.requires in
     let x = member_subtree n v r.0 r.1 c.args.place r.2 r.3 in
     let objects = g.O.Values.values c.args.starts.now in
-    let behind = subst (ArePlaced objects) (sym x.back_is) (placed_right objects r.1 (c.args.place ∷ r.2) r.4).1 in
-    (Some c.args.place, x.b, x.subtree.tree.2, c.right-right.ensures ∙ x.subtree.tree.0.right, placed_left objects (in_order x.b) (after x.fs) behind)
+    let following = subst (ArePlaced objects) (sym x.back_is) (placed_right objects r.1 (c.args.place ∷ r.2) r.4).1 in
+    (Some c.args.place, x.b, x.subtree.tree.2, c.right-right.ensures ∙ x.subtree.tree.0.right, placed_left objects (in_order x.b) (after x.fs) following)
 
 pub returns-then-from-total : goal.returns-then-from-total
 returns-then-from-total g c root front back h sorted =
-    next_below g.N.NodeStore.node (g.N.NodeStore.table c.args.summed.now.links) (start_in (g.O.Values.values c.args.starts.now)) c.args.summed.now.sums.cells.items c.args.from c.args.to root front c.args.place back
+    next_below g.N.NodeStore.node (g.N.NodeStore.table c.args.summed.now.links) (start_in (g.O.Values.values c.args.starts.now)) c.args.summed.now.summaries.cells.items c.args.from c.args.to root front c.args.place back
     c.right-right.result c.total.result c.first_overlap_below.result c.right-right.ensures c.total.ensures c.if-from-total.true c.first_overlap_below.ensures h sorted
 
 pub first_overlap_after-requires : goal.first_overlap_after-requires
@@ -37,10 +37,10 @@ first_overlap_after-requires g c =
     let r = c.requires in
     let x = member_subtree n v r.0 r.1 c.args.place r.2 r.3 in
     let objects = g.O.Values.values c.args.starts.now in
-    let behind = subst (ArePlaced objects) (sym x.back_is) (placed_right objects r.1 (c.args.place ∷ r.2) r.4).1 in
-    (x.fs, fork x.c x.a c.args.place x.b, x.subtree, refl, placed_right objects (in_order x.b) (after x.fs) behind)
+    let following = subst (ArePlaced objects) (sym x.back_is) (placed_right objects r.1 (c.args.place ∷ r.2) r.4).1 in
+    (x.fs, fork x.c x.a c.args.place x.b, x.subtree, refl, placed_right objects (in_order x.b) (after x.fs) following)
 
 pub returns : goal.returns
 returns g c root front back h sorted =
-    next_after g.N.NodeStore.node (g.N.NodeStore.table c.args.summed.now.links) (start_in (g.O.Values.values c.args.starts.now)) c.args.summed.now.sums.cells.items c.args.from c.args.to root front c.args.place back
+    next_after g.N.NodeStore.node (g.N.NodeStore.table c.args.summed.now.links) (start_in (g.O.Values.values c.args.starts.now)) c.args.summed.now.summaries.cells.items c.args.from c.args.to root front c.args.place back
     c.right-right.result c.total.result c.first_overlap_after.result c.right-right.ensures c.total.ensures c.if-from-total.false c.first_overlap_after.ensures h sorted

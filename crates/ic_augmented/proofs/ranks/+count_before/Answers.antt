@@ -16,6 +16,6 @@ returns g t c fs u h s e low =
     let n = g.N.NodeStore.node in
     let v = g.N.NodeStore.table c.args.links.now in
     let parent = sym (subtree_parent n v fs u c.args.place h e) ∙ (sym c.parent.ensures ∙ c.in-Some.is) in
-    before_right n v c.args.sums.now.cells.items c.in-Some.above c.args.turns _ c.count_before-before.ensures _ c.right.ensures c.args.place _ _ _ fs u parent
+    before_right n v c.args.summaries.now.cells.items c.in-Some.above c.args.turns _ c.count_before-before.ensures _ c.right.ensures c.args.place _ _ _ fs u parent
     (sym c.is_at.ensures ∙ c.if-not-is_at.false) c.left.ensures c.total-beside.ensures
     (c.saturating_add-2.ensures ∙ ap (λ (y : ℕ). min (y + 1) (2 ^ 64 - 1)) c.saturating_add.ensures) h s e low

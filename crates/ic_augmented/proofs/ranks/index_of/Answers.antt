@@ -20,5 +20,5 @@ left-requires g c =
 
 pub returns : goal.returns
 returns g c root front back h =
-    index_is g.N.NodeStore.node (g.N.NodeStore.table c.args.summed.now.links) c.args.summed.now.sums.cells.items root front c.args.place back _ _ _ _
+    index_is g.N.NodeStore.node (g.N.NodeStore.table c.args.summed.now.links) c.args.summed.now.summaries.cells.items root front c.args.place back _ _ _ _
     c.count_before-before.ensures c.left.ensures c.total.ensures c.saturating_add.ensures h

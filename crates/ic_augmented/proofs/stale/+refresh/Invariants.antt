@@ -7,5 +7,5 @@ decreases-refresh_below g l = 3 * l.turns + 1
 abbrev pub decreases-refresh_at : goal.decreases-refresh_at
 decreases-refresh_at g l = 3 * l.turns
 
-abbrev pub decreases-renew : goal.decreases-renew
-decreases-renew g l = 3 * l.turns + 2
+abbrev pub decreases-recompute : goal.decreases-recompute
+decreases-recompute g l = 3 * l.turns + 2

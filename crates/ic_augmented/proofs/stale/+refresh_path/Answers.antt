@@ -15,12 +15,12 @@ pub returns-clause-summed : goal.returns-clause-summed
 returns-clause-summed g t c =
     let n = g.N.NodeStore.node in
     let v = g.N.NodeStore.table c.args.links.now in
-    path_on n v (g.M.Sums.sums c.args.sums.now) (g.M.Sums.sums c.renew.new.sums) c.args.place c.parent-upper.result c.renew.ensures.refreshed
-    (λ fs u h e. c.parent-upper.ensures ∙ subtree_parent n v fs u c.args.place h e) (g.M.Sums.sums c.refresh_path.new.sums) c.in-Some.above c.args.turns c.in-Some.is c.refresh_path.ensures.summed
+    path_on n v (g.M.Summaries.summaries c.args.summaries.now) (g.M.Summaries.summaries c.recompute.new.summaries) c.args.place c.parent-upper.result c.recompute.ensures.refreshed
+    (λ fs u h e. c.parent-upper.ensures ∙ subtree_parent n v fs u c.args.place h e) (g.M.Summaries.summaries c.refresh_path.new.summaries) c.in-Some.above c.args.turns c.in-Some.is c.refresh_path.ensures.summed
 
 pub returns-clause-others : goal.returns-clause-others
 returns-clause-others g t c =
     let n = g.N.NodeStore.node in
     let v = g.N.NodeStore.table c.args.links.now in
-    others_on n v (g.M.Sums.sums c.args.sums.now) (g.M.Sums.sums c.renew.new.sums) c.args.place c.parent-upper.result c.renew.ensures.refreshed
-    (λ fs u h e. c.parent-upper.ensures ∙ subtree_parent n v fs u c.args.place h e) (g.M.Sums.sums c.refresh_path.new.sums) c.in-Some.above c.in-Some.is c.refresh_path.ensures.others
+    others_on n v (g.M.Summaries.summaries c.args.summaries.now) (g.M.Summaries.summaries c.recompute.new.summaries) c.args.place c.parent-upper.result c.recompute.ensures.refreshed
+    (λ fs u h e. c.parent-upper.ensures ∙ subtree_parent n v fs u c.args.place h e) (g.M.Summaries.summaries c.refresh_path.new.summaries) c.in-Some.above c.in-Some.is c.refresh_path.ensures.others

@@ -3,22 +3,22 @@ use Rattle.ic_unsafe_ref.specs.declared.place.Place.{Place}
 use Rattle.ic_rbtree.specs.Closed.{IsIn}
 use Rattle.ic_augmented.specs.Beside.{IsWrittenIn, IsSameBeside}
 use Rattle.ic_augmented.specs.Consistent.{IsConsistentBut}
-use Rattle.ic_augmented.specs.Sums.{WritesNoSummary}
+use Rattle.ic_augmented.specs.Summaries.{WritesNoSummary}
 use Rattle.ic_augmented.proofs.stale.invalidate_up.Given as goal
 
 abbrev pub invariant-loop-at : goal.invariant-loop-at
 invariant-loop-at g l =
     let n = g.N.NodeStore.node in
     let v = g.N.NodeStore.table l._links in
-    let z = g.M.Sums.sums l.sums in
+    let z = g.M.Summaries.summaries l.summaries in
     record {
       stale : (l.at ≡ Some l.fn.place) ⊎ (z.fresh l.fn.place ≡ None);
-      consistent : (s : List Place) → IsConsistentBut n v (g.M.Sums.sums l.fn.sums) s (Some l.fn.place) → IsConsistentBut n v z s l.at;
-      beside : (inside : Place → Bool) → IsWrittenIn (g.M.Sums.sums l.fn.sums) inside → inside l.fn.place ≡ true → IsIn inside l.at × IsSameBeside (g.M.Sums.sums l.fn.sums) z inside;
-      marks : WritesNoSummary (g.M.Sums.sums l.fn.sums) z;
-      covers : (q : Place) → g.M.Sums.Covers l.fn.sums q → g.M.Sums.Covers l.sums q;
-      join : z.join ≡ (g.M.Sums.sums l.fn.sums).join;
+      consistent : (s : List Place) → IsConsistentBut n v (g.M.Summaries.summaries l.fn.summaries) s (Some l.fn.place) → IsConsistentBut n v z s l.at;
+      beside : (inside : Place → Bool) → IsWrittenIn (g.M.Summaries.summaries l.fn.summaries) inside → inside l.fn.place ≡ true → IsIn inside l.at × IsSameBeside (g.M.Summaries.summaries l.fn.summaries) z inside;
+      marks : WritesNoSummary (g.M.Summaries.summaries l.fn.summaries) z;
+      covers : (q : Place) → g.M.Summaries.Covers l.fn.summaries q → g.M.Summaries.Covers l.summaries q;
+      join : z.join ≡ (g.M.Summaries.summaries l.fn.summaries).join;
     }
 
 abbrev pub decreases-loop-at : goal.decreases-loop-at
-decreases-loop-at g l = g.M.Sums.count l.sums
+decreases-loop-at g l = g.M.Summaries.count l.summaries

@@ -20,17 +20,17 @@ returns-then-not-tells_linked g c s shown =
     let linked = g.met.K.ForwardLinks.between_linked _ _ _ stands.2 in
     cc linked
 
-pub returns-then-not-stands_behind : goal.returns-then-not-stands_behind
-returns-then-not-stands_behind g c s shown =
+pub returns-then-not-names_prev : goal.returns-then-not-names_prev
+returns-then-not-names_prev g c s shown =
     let stands = checks_stands g.K.ForwardLinks.step g.met.K.ForwardLinks.leads
     c.loop-current.invariant c.in-Some.is s shown.chain shown.head in
-    let behind = c.stands_behind.ensures.1 (stands_after g.met.K.ForwardLinks.leads stands.2) in
-    cc behind
+    let after = c.names_prev.ensures.1 (stands_after g.met.K.ForwardLinks.leads stands.2) in
+    cc after
 
 pub loop-current-preserved : goal.loop-current-preserved
 loop-current-preserved g c =
     checks_more g.K.ForwardLinks.step g.met.K.ForwardLinks.leads c.loop-current.invariant c.in-Some.is
-    (rw c.next-behind.ensures (c.stands_behind.ensures.0 c.if-not-stands_behind.false)) refl
+    (rw c.next-after.ensures (c.names_prev.ensures.0 c.if-not-names_prev.false)) refl
 
 pub returns-then-ends_with : goal.returns-then-ends_with
 returns-then-ends_with g c =

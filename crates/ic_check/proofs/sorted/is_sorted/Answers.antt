@@ -9,11 +9,11 @@ loop-value-init g c =
     let some = c.is_none.ensures ∙ ap not c.if-is_none.false in (
       on_some c.next.result some c.next.ensures.goes.keeps,
       tt,
-      c.iter-behind.ensures.can_walk,
+      c.iter-after.ensures.can_walk,
       tt,
       λ s shown.
           let first = first_given (objects_left g.L.RBTreeOps.node g.L.LinkOps.table g.O.Values.values) c.iter-walk.result c.next.new.self c.next.result some c.next.ensures.steps in
-          goes g.A.Key.Ord.cmp (g.A.KeyAdapter.key_of (adapter_of c.args.tree.now)) (c.iter-behind.ensures.walks s shown) (sym (c.iter-walk.ensures.walks s shown) ∙ first.1),
+          goes g.A.Key.Ord.cmp (g.A.KeyAdapter.key_of (adapter_of c.args.tree.now)) (c.iter-after.ensures.walks s shown) (sym (c.iter-walk.ensures.walks s shown) ∙ first.1),
     )
 
 pub loop-value-preserved : goal.loop-value-preserved

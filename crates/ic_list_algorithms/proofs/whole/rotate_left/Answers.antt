@@ -12,8 +12,8 @@ split_between-rest-requires-clause-before g c q e =
     let s = c.requires.shown in
     gap_linked g.met.K.ForwardLinks.between_linked (take n s.0) (drop n s.0) (cut_represented n s.1) (sym e ∙ (c.gap_at-before.ensures s.0 s.1).0)
 
-pub split_between-rest-requires-clause-behind : goal.split_between-rest-requires-clause-behind
-split_between-rest-requires-clause-behind g c names q e =
+pub split_between-rest-requires-clause-after : goal.split_between-rest-requires-clause-after
+split_between-rest-requires-clause-after g c names q e =
     let n = c.args.n in
     let s = c.requires.shown in
     gap_after_linked g.met.K.ForwardLinks.between_linked (take n s.0) (drop n s.0) (cut_represented n s.1) (sym e ∙ (c.gap_at-before.ensures s.0 s.1).1)

@@ -17,7 +17,7 @@ loop-left-init g c = record {
   small = omega (arith, c.ranges.first.fits);
   extent = refl;
   before = c.requires.stand.0;
-  behind = c.requires.stand.1;
+  after = c.requires.stand.1;
   links = λ free. (free, links_none g.W.Words.is_linked g.K.ListKind.kept g.K.ForwardLinks.NamesPrev c.args.gap);
   fills = λ law cut free shown is. (free, fills_none g.K.ForwardLinks.Between g.K.ListKind.kept cut refl shown (ap (λ x. x.before) is));
 }
@@ -39,8 +39,8 @@ pub insert_linked-requires-clause-next : goal.insert_linked-requires-clause-next
 insert_linked-requires-clause-next g c =
     let width = g.W.Words.width in
     let words = raw_entries c.loop-left.links in
-    end_named (HasRoom width) c.args.gap.behind
-    (λ q e. nameable_has_room width words q (linked_in_range g.W.Words.is_linked g.W.Words.unlinked g.met.W.Words.starts_unlinked (nameable width words) (index_of q) (c.loop-left.invariant.behind q e)))
+    end_named (HasRoom width) c.args.gap.after
+    (λ q e. nameable_has_room width words q (linked_in_range g.W.Words.is_linked g.W.Words.unlinked g.met.W.Words.starts_unlinked (nameable width words) (index_of q) (c.loop-left.invariant.after q e)))
 
 pub overflow_add-number : goal.overflow_add-number
 overflow_add-number g c =
@@ -67,7 +67,7 @@ loop-left-preserved g c =
       small = small;
       extent = put.extent ∙ only.extent ∙ was.extent;
       before = λ q e. subst (λ z. linked (new.entry z) ≡ true) (some_same e) also.is;
-      behind = λ q e. also.others q (λ same. never (ap (λ z. linked (old.entry z)) same ∙ free'.unlinked) (was.behind q e)) ∙ was.behind q e;
+      after = λ q e. also.others q (λ same. never (ap (λ z. linked (old.entry z)) same ∙ free'.unlinked) (was.after q e)) ∙ was.after q e;
       links = λ free.
           let k = was.links free in
           let on = rest k.0 in
@@ -83,7 +83,7 @@ loop-left-preserved g c =
           subst (λ r. Fills g.K.ForwardLinks.Between g.K.ListKind.kept base old c.loop-left.list cut c.loop-left.before free.run r) on.1 k.1 in (
             on.0,
             fills_more g.K.ForwardLinks.Between g.K.ListKind.kept cut p there
-                (inserted law (record { front = cut.front ++ there.done; back = cut.back }) there.after (ap (λ x. x.behind) is) there.shows free' only put.shows put.extent put.others),
+                (inserted law (record { front = cut.front ++ there.done; back = cut.back }) there.after (ap (λ x. x.after) is) there.shows free' only put.shows put.extent put.others),
           );
     }
 

@@ -13,7 +13,7 @@ invariant-loop-left g l = record {
   small : l.number < 4294967296;
   extent : (nameable_table g.W.Words.width g.W.Words.unlinked l.links).extent ≡ (nameable_table g.W.Words.width g.W.Words.unlinked l.fn.links).extent;
   before : IsNoneOrLinked g.W.Words.is_linked (nameable_table g.W.Words.width g.W.Words.unlinked l.links) l.before;
-  behind : IsNoneOrLinked g.W.Words.is_linked (nameable_table g.W.Words.width g.W.Words.unlinked l.links) l.fn.gap.behind;
+  after : IsNoneOrLinked g.W.Words.is_linked (nameable_table g.W.Words.width g.W.Words.unlinked l.links) l.fn.gap.after;
   links : (free : IsFreeRun g.W.Words.is_linked (nameable_table g.W.Words.width g.W.Words.unlinked l.fn.links) l.fn.first l.fn.count)
       → (rest : IsFreeRun g.W.Words.is_linked (nameable_table g.W.Words.width g.W.Words.unlinked l.links) l.number l.left)
       × LinksRun g.W.Words.is_linked g.K.ListKind.kept g.K.ForwardLinks.NamesPrev (nameable_table g.W.Words.width g.W.Words.unlinked l.fn.links) (nameable_table g.W.Words.width g.W.Words.unlinked l.links) l.fn.list l.list

@@ -63,14 +63,14 @@ returns c = record {
       told_back wide_words Before c.new-links.result (ends_of c.args.list.now) None c.new-links.ensures.1 there;
   own = λ made some.
       let gap = c.fill-status.ensures.gap c.if-status-ne-OK.false in
-      let behind = c.gap_at-gap.ensures.sides gap.0 gap.1 ∙ ap (λ (l : Ends). gap_between l.tail None) c.list_of-edited.ensures in
-      turns_back behind c.list_of-edited.ensures c.write_back.ensures.set (c.fill-status.ensures.ends c.if-status-ne-OK.false some gap.0 gap.1);
+      let after = c.gap_at-gap.ensures.sides gap.0 gap.1 ∙ ap (λ (l : Ends). gap_between l.tail None) c.list_of-edited.ensures in
+      turns_back after c.list_of-edited.ensures c.write_back.ensures.set (c.fill-status.ensures.ends c.if-status-ne-OK.false some gap.0 gap.1);
   touched = λ made free.
       run_touched is_linked_two no_words c.new-links.result c.fill-status.new.links c.new-links.ensures.1 (search rules) (c.fill-status.ensures.touched c.if-status-ne-OK.false)
       (c.fill-status.ensures.gap c.if-status-ne-OK.false)
       (λ g is. (
         ap (λ (x : Gap). x.before) (c.gap_at-gap.ensures.sides g is) ∙ ap (λ (l : Ends). l.tail) c.list_of-edited.ensures,
-        (λ _. ap (λ (x : Gap). x.behind) (c.gap_at-gap.ensures.sides g is)),
+        (λ _. ap (λ (x : Gap). x.after) (c.gap_at-gap.ensures.sides g is)),
       )) free;
   words = search rules;
   refused = search rules;

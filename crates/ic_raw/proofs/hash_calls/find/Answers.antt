@@ -13,9 +13,9 @@ returns c = record {
   linked = λ made.
       let slot = c.slot.ensures.slot c.in-Some.at c.in-Some.is in
       let read = chain_read c.args.buckets.now c.args.hash c.in-Some.at slot.0 _ slot.1 in
-      names_back c.new-links.result _ _ _ c.new-links.ensures.1 (c.place_in.ensures ∙ ap front_of (sym read)) (c.look_from.ensures.linked made);
+      names_back c.new-links.result _ _ _ c.new-links.ensures.1 (c.place_in.ensures ∙ ap front_of (sym read)) (c.find_from.ensures.linked made);
   ended = λ null.
-      let chain = c.look_from.ensures.ended null in
+      let chain = c.find_from.ensures.ended null in
       let slot = c.slot.ensures.slot c.in-Some.at c.in-Some.is in
       let read = chain_read c.args.buckets.now c.args.hash c.in-Some.at slot.0 _ slot.1 in
       (chain.0, subst (λ w. RepresentsList c.args.table.now w chain.0) (sym read) (represented_back no_word kept c.new-links.result c.new-links.ensures.1 (rw c.place_in.ensures at chain.1)));

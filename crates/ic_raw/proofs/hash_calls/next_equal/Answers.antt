@@ -35,19 +35,19 @@ returns c = record {
   found = λ list front back p is enough shown.
       let one : c.in-Some.member ≡ p = some_same (sym c.in-Some.is ∙ c.place_of.ensures ∙ is) in
       let seen : Represents (lent_table c.new-links.result) (list_of list) (front ++ p ∷ back) = viewed no_word kept c.new-links.result c.new-links.ensures.1 shown in
-      rw (← one) (rw c.index.ensures.value at (c.look_from.ensures.found back (rw (c.next.ensures, one) (represented_after front p back seen))));
+      rw (← one) (rw c.index.ensures.value at (c.find_from.ensures.found back (rw (c.next.ensures, one) (represented_after front p back seen))));
   linked = λ p is made.
       let one : c.in-Some.member ≡ p = some_same (sym c.in-Some.is ∙ c.place_of.ensures ∙ is) in
-      let behind = c.next.ensures ∙ ap (λ fs. (successor (entry_at no_word fs c.in-Some.member)).next) c.new-links.ensures.1 in
-      rw (← one) (names_back c.new-links.result _ _ _ c.new-links.ensures.1 behind (rw c.index.ensures.value at (c.look_from.ensures.linked made)));
+      let after = c.next.ensures ∙ ap (λ fs. (successor (entry_at no_word fs c.in-Some.member)).next) c.new-links.ensures.1 in
+      rw (← one) (names_back c.new-links.result _ _ _ c.new-links.ensures.1 after (rw c.index.ensures.value at (c.find_from.ensures.linked made)));
   ended = λ p is null.
       let one : c.in-Some.member ≡ p = some_same (sym c.in-Some.is ∙ c.place_of.ensures ∙ is) in
-      let behind = c.look_from.ensures.ended null in
-      let whole = represented_from c.in-Some.member behind.0 (sym c.is_linked.ensures ∙ c.if-not-is_linked.false) (rw c.next.ensures at behind.1) in
+      let after = c.find_from.ensures.ended null in
+      let whole = represented_from c.in-Some.member after.0 (sym c.is_linked.ensures ∙ c.if-not-is_linked.false) (rw c.next.ensures at after.1) in
       let t = lent_table c.new-links.result in
-      let first : Represents t (list_of (word_of_front (Some c.in-Some.member))) (c.in-Some.member ∷ behind.0) =
-      subst (λ (o : Option Place). Represents t (list_from o) (c.in-Some.member ∷ behind.0)) (sym (place_kept (Some c.in-Some.member))) whole in
-      (behind.0, represented_back no_word kept c.new-links.result c.new-links.ensures.1 (subst (λ (q : Place). Represents t (list_of (word_of_front (Some q))) (q ∷ behind.0)) one first));
+      let first : Represents t (list_of (word_of_front (Some c.in-Some.member))) (c.in-Some.member ∷ after.0) =
+      subst (λ (o : Option Place). Represents t (list_from o) (c.in-Some.member ∷ after.0)) (sym (place_kept (Some c.in-Some.member))) whole in
+      (after.0, represented_back no_word kept c.new-links.result c.new-links.ensures.1 (subst (λ (q : Place). Represents t (list_of (word_of_front (Some q))) (q ∷ after.0)) one first));
   none = search rules;
   refused = search rules;
   same = search rules;

@@ -32,24 +32,24 @@ pub returns-then-not-follows-clause-member : goal.returns-then-not-follows-claus
 returns-then-not-follows-clause-member g c front back p shown is =
     let words = link_words g.W.Words g.W.NextWord g.W.PrevPlace in
     let there = around_member words front p back shown is in
-    let f = there.followed _ (c.next_of-behind.ensures ∙ there.next) in
+    let f = there.followed _ (c.next_of-after.ensures ∙ there.next) in
     absurd (never c.if-not-follows.true (c.follows.ensures.follows f.0 f.1))
 
 pub returns-then-not-follows-clause-ends : goal.returns-then-not-follows-clause-ends
 returns-then-not-follows-clause-ends g c s shown is =
     let words = link_words g.W.Words g.W.NextWord g.W.PrevPlace in
     let there = around_ends words s shown is in
-    let f = there.followed _ (c.next_of-behind.ensures ∙ there.next) in
+    let f = there.followed _ (c.next_of-after.ensures ∙ there.next) in
     absurd (never c.if-not-follows.true (c.follows.ensures.follows f.0 f.1))
 
 pub returns-clause-member : goal.returns-clause-member
 returns-clause-member g c front back p shown is =
     let words = link_words g.W.Words g.W.NextWord g.W.PrevPlace in
     let there = around_member words front p back shown is in
-    gap_is (record { front = front; back = back }) (c.prev_of-before.ensures ∙ there.prev) (c.next_of-behind.ensures ∙ there.next)
+    gap_is (record { front = front; back = back }) (c.prev_of-before.ensures ∙ there.prev) (c.next_of-after.ensures ∙ there.next)
 
 pub returns-clause-ends : goal.returns-clause-ends
 returns-clause-ends g c s shown is =
     let words = link_words g.W.Words g.W.NextWord g.W.PrevPlace in
     let there = around_ends words s shown is in
-    gap_is (record { front = s; back = s }) (c.prev_of-before.ensures ∙ there.prev) (c.next_of-behind.ensures ∙ there.next)
+    gap_is (record { front = s; back = s }) (c.prev_of-before.ensures ∙ there.prev) (c.next_of-after.ensures ∙ there.next)

@@ -17,7 +17,7 @@ pub returns-clause-prev : goal.returns-clause-prev
 returns-clause-prev g c gap is = (c.in-Some.before, sym (ap (λ g. g.before) (some_same is)))
 
 pub returns-clause-next : goal.returns-clause-next
-returns-clause-next g c gap is = (c.in-Some-next.behind, sym (ap (λ g. g.behind) (some_same is)))
+returns-clause-next g c gap is = (c.in-Some-next.after, sym (ap (λ g. g.after) (some_same is)))
 
 pub returns-clause-before : goal.returns-clause-before
 returns-clause-before g c gap list is =
@@ -25,10 +25,10 @@ returns-clause-before g c gap list is =
     told_before words (lent_table words c.args.links.now) list (Some c.args.member) (Some c.in-Some.before) (sym c.prev.ensures ∙ c.in-Some.is)
     (c.is_before.ensures.stands c.if-not-is_before.false) (c.is_before.ensures.next c.if-not-is_before.false)
 
-pub returns-clause-behind : goal.returns-clause-behind
-returns-clause-behind g c gap list is =
+pub returns-clause-after : goal.returns-clause-after
+returns-clause-after g c gap list is =
     let words = link_words g.W.Words g.W.NextWord g.W.PrevPlace in
-    told_after words (lent_table words c.args.links.now) list (Some c.args.member) (Some c.in-Some-next.behind) (sym c.next.ensures ∙ c.in-Some-next.is)
+    told_after words (lent_table words c.args.links.now) list (Some c.args.member) (Some c.in-Some-next.after) (sym c.next.ensures ∙ c.in-Some-next.is)
     (c.is_after.ensures.stands c.if-not-is_after.false) (c.is_after.ensures.prev c.if-not-is_after.false)
 
 pub returns-clause-sides : goal.returns-clause-sides

@@ -15,9 +15,9 @@ pub returns-then-not-follows-clause-shown : goal.returns-then-not-follows-clause
 returns-then-not-follows-clause-shown g c cut shown beside =
     let words = link_words g.W.Words g.W.NextWord g.W.PrevPlace in
     let at : c.args.at ≡ last cut.front = rw c.in-After.is at beside in
-    let behind = c.next_of-behind.ensures ∙ next_represented words cut.front cut.back shown c.args.at at in
-    absurd (never c.if-not-follows.true (c.follows.ensures.follows (after_stands (law words) cut.front cut.back shown behind)
-    (at ∙ sym (prev_represented words cut.front cut.back shown c.next_of-behind.result behind))))
+    let after = c.next_of-after.ensures ∙ next_represented words cut.front cut.back shown c.args.at at in
+    absurd (never c.if-not-follows.true (c.follows.ensures.follows (after_stands (law words) cut.front cut.back shown after)
+    (at ∙ sym (prev_represented words cut.front cut.back shown c.next_of-after.result after))))
 
 pub returns-then-not-leads-clause-shown : goal.returns-then-not-leads-clause-shown
 returns-then-not-leads-clause-shown g c cut shown beside =
@@ -31,7 +31,7 @@ pub returns-else-not-follows-clause-shown : goal.returns-else-not-follows-clause
 returns-else-not-follows-clause-shown g c cut shown beside =
     let words = link_words g.W.Words g.W.NextWord g.W.PrevPlace in
     let at : c.args.at ≡ last cut.front = rw c.in-After.is at beside in
-    gap_is cut at (c.next_of-behind.ensures ∙ next_represented words cut.front cut.back shown c.args.at at)
+    gap_is cut at (c.next_of-after.ensures ∙ next_represented words cut.front cut.back shown c.args.at at)
 
 pub returns-else-not-leads-clause-shown : goal.returns-else-not-leads-clause-shown
 returns-else-not-leads-clause-shown g c cut shown beside =

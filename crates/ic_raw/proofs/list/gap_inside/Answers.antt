@@ -22,7 +22,7 @@ returns-else-not-is_before-clause-shown g c gap list cut is shown beside' =
 pub returns-else-not-is_after-clause-links_back : goal.returns-else-not-is_after-clause-links_back
 returns-else-not-is_after-clause-links_back g c gap list is =
     let words = link_words g.W.Words g.W.NextWord g.W.PrevPlace in
-    let links_back = told_after words (lent_table words c.args.links.now) list (Some c.in-Some.at) (Some c.in-Some-next.behind) (sym c.next.ensures ∙ c.in-Some-next.is)
+    let links_back = told_after words (lent_table words c.args.links.now) list (Some c.in-Some.at) (Some c.in-Some-next.after) (sym c.next.ensures ∙ c.in-Some-next.is)
     (c.is_after.ensures.stands c.if-not-is_after.false) (c.is_after.ensures.prev c.if-not-is_after.false) in
     rw (c.in-After.is, c.in-Some.is) links_back
 

@@ -17,7 +17,7 @@ returns-clause-inserted g c cut p shown beside is free' =
     let put = c.insert_linked.ensures in
     rw one (
       refl,
-      inserted (law words) cut (ap (λ g. g.before) gap) (ap (λ g. g.behind) gap) shown (c.acquire.ensures.free _ taken) (c.acquire.ensures.frame _ taken) put.shows put.extent put.others,
+      inserted (law words) cut (ap (λ g. g.before) gap) (ap (λ g. g.after) gap) shown (c.acquire.ensures.free _ taken) (c.acquire.ensures.frame _ taken) put.shows put.extent put.others,
     )
 
 pub returns-clause-free : goal.returns-clause-free
@@ -39,4 +39,4 @@ returns-clause-touched g c p made is =
 pub insert_linked-requires-clause-next : goal.insert_linked-requires-clause-next
 insert_linked-requires-clause-next g c =
     let words = link_words g.W.Words g.W.NextWord g.W.PrevPlace in
-    end_has_room words g.met.W.Words.starts_unlinked c.args.links.now c.in-Some.gap.behind (c.gap_at.ensures.stands _ c.in-Some.is).1
+    end_has_room words g.met.W.Words.starts_unlinked c.args.links.now c.in-Some.gap.after (c.gap_at.ensures.stands _ c.in-Some.is).1

@@ -19,7 +19,7 @@ returns-clause-popped g c front back p shown' there =
     let off = c.bypass.ensures in
     let released = c.release_link.ensures in (
       ap (λ q. Some q) (sym one),
-      rw one (removed front c.in-Some.member back (ap (λ g. g.before) gap) (ap (λ g. g.behind) gap) shown off.shows off.extent off.others released.frame),
+      rw one (removed front c.in-Some.member back (ap (λ g. g.before) gap) (ap (λ g. g.after) gap) shown off.shows off.extent off.others released.frame),
       rw one released.released.is,
     )
 
@@ -39,7 +39,7 @@ returns-clause-touched g c p is =
 pub bypass-requires-clause-next : goal.bypass-requires-clause-next
 bypass-requires-clause-next g c =
     let words = link_words g.W.Words g.W.NextWord g.W.PrevPlace in
-    end_has_room words g.met.W.Words.starts_unlinked c.args.links.now c.in-Some.gap.behind (c.end_at.ensures.beside _ _ c.in-Some.is).1
+    end_has_room words g.met.W.Words.starts_unlinked c.args.links.now c.in-Some.gap.after (c.end_at.ensures.beside _ _ c.in-Some.is).1
 
 pub bypass-requires-clause-out : goal.bypass-requires-clause-out
 bypass-requires-clause-out g c =

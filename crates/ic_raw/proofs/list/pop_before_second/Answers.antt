@@ -16,11 +16,11 @@ pub returns-clause-removed : goal.returns-clause-removed
 returns-clause-removed g c p q s some shown' =
     let one : p ≡ c.in-Some.first = sym (some_same (sym c.in-Some.is ∙ c.first.ensures ∙ shown'.head)) in
     let shown = rw one at shown' in
-    let behind = sym c.in-Some-next.is ∙ c.next.ensures ∙ (represents_middle [] s shown).next in
+    let after = sym c.in-Some-next.is ∙ c.next.ensures ∙ (represents_middle [] s shown).next in
     let off = c.bypass.ensures in
     let released = c.release_link.ensures in (
       sym (some_same some) ∙ sym one,
-      rw one (removed [] c.in-Some.first s refl behind shown off.shows off.extent off.others released.frame),
+      rw one (removed [] c.in-Some.first s refl after shown off.shows off.extent off.others released.frame),
       rw one released.released.is,
     )
 

@@ -17,7 +17,7 @@ returns-clause-inserted g c s p made shown is =
     let gap = c.gap_at_end.ensures.shown _ (join (at_back s)) c.in-Some.is shown in
     let before = ap (λ g. g.before) gap ∙ last_of_front s [] refl in
     let put = c.insert_linked.ensures in
-    rw one (inserted (law words) (at_back s) before (ap (λ g. g.behind) gap) shown (c.acquire.ensures.free _ taken) (c.acquire.ensures.frame _ taken) put.shows put.extent put.others)
+    rw one (inserted (law words) (at_back s) before (ap (λ g. g.after) gap) shown (c.acquire.ensures.free _ taken) (c.acquire.ensures.frame _ taken) put.shows put.extent put.others)
 
 pub returns-clause-own : goal.returns-clause-own
 returns-clause-own g c made = put_in (c.gap_at_end.ensures.sides _ c.in-Some.is) (c.acquire.ensures.same _ c.in-Some-acquire.is) c.insert_linked.ensures.ends
@@ -43,4 +43,4 @@ returns-clause-touched g c p made is =
 pub insert_linked-requires-clause-next : goal.insert_linked-requires-clause-next
 insert_linked-requires-clause-next g c =
     let words = link_words g.W.Words g.W.NextWord g.W.PrevPlace in
-    end_has_room words g.met.W.Words.starts_unlinked c.args.links.now c.in-Some.gap.behind (c.gap_at_end.ensures.stands _ c.in-Some.is).1
+    end_has_room words g.met.W.Words.starts_unlinked c.args.links.now c.in-Some.gap.after (c.gap_at_end.ensures.stands _ c.in-Some.is).1

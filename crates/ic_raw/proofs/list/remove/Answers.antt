@@ -13,7 +13,7 @@ returns-clause-removed g c front back shown =
     let off = c.bypass.ensures in
     let released = c.release_link.ensures in (
       refl,
-      removed front c.args.member back (ap (λ g. g.before) gap) (ap (λ g. g.behind) gap) shown off.shows off.extent off.others released.frame,
+      removed front c.args.member back (ap (λ g. g.before) gap) (ap (λ g. g.after) gap) shown off.shows off.extent off.others released.frame,
       released.released.is,
     )
 
@@ -30,7 +30,7 @@ returns-clause-touched g c made =
 pub bypass-requires-clause-next : goal.bypass-requires-clause-next
 bypass-requires-clause-next g c =
     let words = link_words g.W.Words g.W.NextWord g.W.PrevPlace in
-    end_has_room words g.met.W.Words.starts_unlinked c.args.links.now c.in-Some.gap.behind (c.beside.ensures.stands _ c.in-Some.is).1
+    end_has_room words g.met.W.Words.starts_unlinked c.args.links.now c.in-Some.gap.after (c.beside.ensures.stands _ c.in-Some.is).1
 
 pub bypass-requires-clause-out : goal.bypass-requires-clause-out
 bypass-requires-clause-out g c =

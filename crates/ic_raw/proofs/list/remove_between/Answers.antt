@@ -13,12 +13,12 @@ returns-clause-removed g c front back made shown =
     let found = c.in-Some.is in
     let gap = c.between.ensures.shown _ _ front back found shown in
     let before = ap (λ g. g.before) gap in
-    let behind = ap (λ g. g.behind) gap in
+    let after = ap (λ g. g.after) gap in
     let prev = sym (c.between.ensures.prev _ found).1 ∙ before in
-    let next = sym (c.between.ensures.next _ found).1 ∙ behind in
+    let next = sym (c.between.ensures.next _ found).1 ∙ after in
     let off = c.bypass.ensures in
     let released = c.release_link.ensures in
-    let done = removed front member back before behind shown off.shows off.extent off.others released.frame in (
+    let done = removed front member back before after shown off.shows off.extent off.others released.frame in (
       record {
         shows = record {
           distinct = done.shows.distinct;
@@ -34,8 +34,8 @@ returns-clause-removed g c front back made shown =
 pub returns-clause-before : goal.returns-clause-before
 returns-clause-before g c made = c.between.ensures.before _ c.args.list.now c.in-Some.is
 
-pub returns-clause-behind : goal.returns-clause-behind
-returns-clause-behind g c made = c.between.ensures.behind _ c.args.list.now c.in-Some.is
+pub returns-clause-after : goal.returns-clause-after
+returns-clause-after g c made = c.between.ensures.after _ c.args.list.now c.in-Some.is
 
 pub returns-clause-own : goal.returns-clause-own
 returns-clause-own g c made =
@@ -43,7 +43,7 @@ returns-clause-own g c made =
     let sides = c.between.ensures.sides _ c.args.list.now found in
     record {
       head = sym (end_stays _ (sym (ap (λ g. g.before) sides) ∙ (c.between.ensures.prev _ found).1));
-      tail = sym (end_stays _ (sym (ap (λ g. g.behind) sides) ∙ (c.between.ensures.next _ found).1));
+      tail = sym (end_stays _ (sym (ap (λ g. g.after) sides) ∙ (c.between.ensures.next _ found).1));
     }
 
 pub returns-clause-touched : goal.returns-clause-touched
@@ -56,7 +56,7 @@ returns-clause-touched g c made =
 pub bypass-requires-clause-next : goal.bypass-requires-clause-next
 bypass-requires-clause-next g c =
     let words = link_words g.W.Words g.W.NextWord g.W.PrevPlace in
-    end_has_room words g.met.W.Words.starts_unlinked c.args.links.now c.in-Some.gap.behind (c.between.ensures.stands _ c.in-Some.is).1
+    end_has_room words g.met.W.Words.starts_unlinked c.args.links.now c.in-Some.gap.after (c.between.ensures.stands _ c.in-Some.is).1
 
 pub bypass-requires-clause-out : goal.bypass-requires-clause-out
 bypass-requires-clause-out g c =

@@ -18,7 +18,7 @@ returns-clause-replaced g c front back p shown is free' =
     let released = c.release_link.ensures in
     rw one (
       refl,
-      replaced (law words) front c.args.member back (ap (λ g. g.before) gap) (ap (λ g. g.behind) gap) shown (c.acquire.ensures.free _ taken) (c.acquire.ensures.frame _ taken) put.shows
+      replaced (law words) front c.args.member back (ap (λ g. g.before) gap) (ap (λ g. g.after) gap) shown (c.acquire.ensures.free _ taken) (c.acquire.ensures.frame _ taken) put.shows
           put.extent put.others released.frame,
       released.released.is,
     )
@@ -43,7 +43,7 @@ returns-clause-touched g c p made is =
 pub replace_linked-requires-clause-next : goal.replace_linked-requires-clause-next
 replace_linked-requires-clause-next g c =
     let words = link_words g.W.Words g.W.NextWord g.W.PrevPlace in
-    end_has_room words g.met.W.Words.starts_unlinked c.args.links.now c.in-Some.gap.behind (c.beside.ensures.stands _ c.in-Some.is).1
+    end_has_room words g.met.W.Words.starts_unlinked c.args.links.now c.in-Some.gap.after (c.beside.ensures.stands _ c.in-Some.is).1
 
 pub replace_linked-requires-clause-out : goal.replace_linked-requires-clause-out
 replace_linked-requires-clause-out g c =

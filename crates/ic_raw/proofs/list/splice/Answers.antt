@@ -17,7 +17,7 @@ returns-clause-touched g c made =
     let found = c.gap_at.ensures.sides _ c.in-Some.is in
     let ends = c.beside.ensures.sides _ c.in-Some-beside.is in
     let put = c.splice_between.ensures in
-    touches_same (λ k. (found k).before ∷ (found k).behind ∷ c.args.given.head ∷ (ends k).before ∷ []) (touches_splice put.trace_stays put.others)
+    touches_same (λ k. (found k).before ∷ (found k).after ∷ c.args.given.head ∷ (ends k).before ∷ []) (touches_splice put.trace_stays put.others)
 
 pub returns-clause-own : goal.returns-clause-own
 returns-clause-own g c made =
@@ -26,14 +26,14 @@ returns-clause-own g c made =
     let ends = c.in-Some-beside.is in
     let put = c.splice_between.ensures in
     all_put_in words c.args.side (lent_table words c.args.links.now) c.args.at (c.gap_at.ensures.sides _ c.in-Some.is) (ap (λ g. g.before) (given.sides _ ends))
-    (c.gap_at.ensures.links_back _ c.in-Some.is) (given.behind _ ends) (given.before _ ends) (λ none. (put.nothing none).0) put.ends
+    (c.gap_at.ensures.links_back _ c.in-Some.is) (given.after _ ends) (given.before _ ends) (λ none. (put.nothing none).0) put.ends
 
 pub splice_between-requires-clause-next : goal.splice_between-requires-clause-next
 splice_between-requires-clause-next g c =
     let words = link_words g.W.Words g.W.NextWord g.W.PrevPlace in
-    end_has_room words g.met.W.Words.starts_unlinked c.args.links.now c.in-Some.gap.behind (c.gap_at.ensures.stands _ c.in-Some.is).1
+    end_has_room words g.met.W.Words.starts_unlinked c.args.links.now c.in-Some.gap.after (c.gap_at.ensures.stands _ c.in-Some.is).1
 
 pub splice_between-requires-clause-given : goal.splice_between-requires-clause-given
 splice_between-requires-clause-given g c =
     let words = link_words g.W.Words g.W.NextWord g.W.PrevPlace in
-    end_has_room words g.met.W.Words.starts_unlinked c.args.links.now c.args.given.head (c.beside.ensures.behind _ c.in-Some-beside.is).0
+    end_has_room words g.met.W.Words.starts_unlinked c.args.links.now c.args.given.head (c.beside.ensures.after _ c.in-Some-beside.is).0

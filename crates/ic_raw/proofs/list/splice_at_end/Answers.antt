@@ -18,14 +18,14 @@ returns-clause-spliced g c cut t made shown beside given apart =
     let none = subst (λ at. IsBeside side cut at) (is_none c.args.at (sym c.is_some.ensures ∙ c.if-is_some.false)) beside in
     let gap = c.gap_at_end.ensures.shown _ (join cut) c.in-Some.is shown ∙ outermost_is side cut none in
     let end = c.gap_at_end-3.ensures.shown _ t c.in-Some-gap_at_end-2.is given in
-    c.splice_between.ensures.spliced cut t shown (ap (λ g. g.before) gap) (ap (λ g. g.behind) gap) given (inl (ap (λ g. g.before) end)) apart
+    c.splice_between.ensures.spliced cut t shown (ap (λ g. g.before) gap) (ap (λ g. g.after) gap) given (inl (ap (λ g. g.before) end)) apart
 
 pub returns-clause-touched : goal.returns-clause-touched
 returns-clause-touched g c made =
     let found = c.gap_at_end.ensures.sides _ c.in-Some.is in
     let end = c.gap_at_end-3.ensures.sides _ c.in-Some-gap_at_end-2.is in
     let put = c.splice_between.ensures in
-    touches_same (λ k. (found k).before ∷ (found k).behind ∷ c.args.given.head ∷ (end k).before ∷ []) (touches_splice put.trace_stays put.others)
+    touches_same (λ k. (found k).before ∷ (found k).after ∷ c.args.given.head ∷ (end k).before ∷ []) (touches_splice put.trace_stays put.others)
 
 pub returns-clause-own : goal.returns-clause-own
 returns-clause-own g c made =
@@ -38,7 +38,7 @@ returns-clause-own g c made =
 pub splice_between-requires-clause-next : goal.splice_between-requires-clause-next
 splice_between-requires-clause-next g c =
     let words = link_words g.W.Words g.W.NextWord g.W.PrevPlace in
-    end_has_room words g.met.W.Words.starts_unlinked c.args.links.now c.in-Some.gap.behind (c.gap_at_end.ensures.stands _ c.in-Some.is).1
+    end_has_room words g.met.W.Words.starts_unlinked c.args.links.now c.in-Some.gap.after (c.gap_at_end.ensures.stands _ c.in-Some.is).1
 
 pub splice_between-requires-clause-given : goal.splice_between-requires-clause-given
 splice_between-requires-clause-given g c =

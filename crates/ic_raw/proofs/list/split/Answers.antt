@@ -7,11 +7,11 @@ use Rattle.ic_raw.proofs.list.split.Goals as goal
 
 pub returns-in-After-clause-split : goal.returns-in-After-clause-split
 returns-in-After-clause-split g c cut shown gap =
-    rw c.in-After.is (c.split_between-back.ensures.split cut shown (ap (λ g. g.before) gap) (ap (λ g. g.behind) gap))
+    rw c.in-After.is (c.split_between-back.ensures.split cut shown (ap (λ g. g.before) gap) (ap (λ g. g.after) gap))
 
 pub returns-in-Before-clause-split : goal.returns-in-Before-clause-split
 returns-in-Before-clause-split g c cut shown gap =
-    let split = c.split_between-back.ensures.split cut shown (ap (λ g. g.before) gap) (ap (λ g. g.behind) gap) in
+    let split = c.split_between-back.ensures.split cut shown (ap (λ g. g.before) gap) (ap (λ g. g.after) gap) in
     rw c.in-Before.is (record {
       keeps = rw c.replace.ensures.after split.hands_out;
       hands_out = rw c.replace.ensures.value split.keeps;
@@ -33,4 +33,4 @@ returns-in-Before-clause-own g c = rw (c.in-Before.is, c.replace.ensures.after, 
 pub split_between-back-requires-clause-next : goal.split_between-back-requires-clause-next
 split_between-back-requires-clause-next g c =
     let words = link_words g.W.Words g.W.NextWord g.W.PrevPlace in
-    end_has_room words g.met.W.Words.starts_unlinked c.args.links.now c.args.gap.behind c.requires.gap.1
+    end_has_room words g.met.W.Words.starts_unlinked c.args.links.now c.args.gap.after c.requires.gap.1

@@ -22,7 +22,7 @@ returns-then-splice_at_end g c =
           let gap = gap_viewed words c.args.side c.new-links.result c.new-links.ensures.1 c.list_of-edited.ensures none refl in
           let given = c.list_of-other.ensures in
           touched_back words c.new-links.result c.splice_at_end.new.links c.new-links.ensures.1 (search rules)
-          (λ k. (gap k).before ∷ (gap k).behind ∷ (sym given k).head ∷ (sym given k).tail ∷ []) (c.splice_at_end.ensures.touched c.if-splice_at_end.true);
+          (λ k. (gap k).before ∷ (gap k).after ∷ (sym given k).head ∷ (sym given k).tail ∷ []) (c.splice_at_end.ensures.touched c.if-splice_at_end.true);
       own = λ made.
           let none = sym (c.splice_at_end.ensures.none c.if-splice_at_end.true) ∙ c.place_of.ensures in
           let gap = gap_viewed words c.args.side c.new-links.result c.new-links.ensures.1 c.list_of-edited.ensures none refl in

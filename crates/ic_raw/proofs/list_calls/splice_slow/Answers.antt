@@ -19,7 +19,7 @@ returns g c =
           let gap = gap_viewed words c.args.side c.new-links.result c.new-links.ensures.1 c.list_of-edited.ensures c.place_of.ensures refl in
           let given = c.list_of-other.ensures in
           touched_back words c.new-links.result c.splice.new.links c.new-links.ensures.1 (search rules)
-          (λ k. (gap k).before ∷ (gap k).behind ∷ (sym given k).head ∷ (sym given k).tail ∷ []) (c.splice.ensures.touched c.if-not-splice.false);
+          (λ k. (gap k).before ∷ (gap k).after ∷ (sym given k).head ∷ (sym given k).tail ∷ []) (c.splice.ensures.touched c.if-not-splice.false);
       own = λ made.
           let gap = gap_viewed words c.args.side c.new-links.result c.new-links.ensures.1 c.list_of-edited.ensures c.place_of.ensures refl in
           all_put_same gap (sym c.list_of-other.ensures) (sym c.list_of-edited.ensures) c.write_back.ensures.set (c.splice.ensures.own c.if-not-splice.false);

@@ -46,9 +46,9 @@ returns-then-not-is_apart g c =
           let links_back = c.gaps_inside.ensures.before _ _ list c.in-Some-gaps_inside.is in
           told_back words Before c.new-links.result list (place_of c.args.place) c.new-links.ensures.1
           (subst (λ at. TellsGap words Before (lent_table words c.new-links.result) list at) (sym c.in-Some.is ∙ c.place_of.ensures) links_back);
-      behind = λ made.
+      after = λ made.
           let list = ends_of c.args.list.now in
-          let links_back = c.gaps_inside.ensures.behind _ _ list c.in-Some-gaps_inside.is in
+          let links_back = c.gaps_inside.ensures.after _ _ list c.in-Some-gaps_inside.is in
           told_back words After c.new-links.result list (place_of c.args.place) c.new-links.ensures.1
           (subst (λ at. TellsGap words After (lent_table words c.new-links.result) list at) (sym c.in-Some.is ∙ c.place_of.ensures) links_back);
       linked = search rules;
@@ -107,9 +107,9 @@ returns g c =
           let links_back = c.gaps_inside.ensures.before _ _ list c.in-Some-gaps_inside.is in
           told_back words Before c.new-links.result list (place_of c.args.place) c.new-links.ensures.1
           (subst (λ at. TellsGap words Before (lent_table words c.new-links.result) list at) (sym c.in-Some.is ∙ c.place_of.ensures) links_back);
-      behind = λ made.
+      after = λ made.
           let list = ends_of c.args.list.now in
-          let links_back = c.gaps_inside.ensures.behind _ _ list c.in-Some-gaps_inside.is in
+          let links_back = c.gaps_inside.ensures.after _ _ list c.in-Some-gaps_inside.is in
           told_back words After c.new-links.result list (place_of c.args.place) c.new-links.ensures.1
           (subst (λ at. TellsGap words After (lent_table words c.new-links.result) list at) (sym c.in-Some.is ∙ c.place_of.ensures) links_back);
       linked = search rules;

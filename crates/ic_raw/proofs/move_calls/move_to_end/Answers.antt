@@ -44,9 +44,9 @@ returns-in-Some-gap_at_end g c =
           let links_back = c.between.ensures.before _ list c.in-Some-between.is in
           told_back words Before c.new-links.result list (place_of c.args.place) c.new-links.ensures.1
           (subst (λ at. TellsGap words Before (lent_table words c.new-links.result) list at) (sym c.in-Some.is ∙ c.place_of.ensures) links_back);
-      behind = λ made.
+      after = λ made.
           let list = ends_of c.args.list.now in
-          let links_back = c.between.ensures.behind _ list c.in-Some-between.is in
+          let links_back = c.between.ensures.after _ list c.in-Some-between.is in
           told_back words After c.new-links.result list (place_of c.args.place) c.new-links.ensures.1
           (subst (λ at. TellsGap words After (lent_table words c.new-links.result) list at) (sym c.in-Some.is ∙ c.place_of.ensures) links_back);
       linked = search rules;
@@ -96,7 +96,7 @@ returns-then-is_at_end g c =
       links_back = search rules;
       member = search rules;
       before = search rules;
-      behind = search rules;
+      after = search rules;
       linked = search rules;
       touched = λ made. touches_nothing (search rules);
       own = λ p is made away.

@@ -41,7 +41,7 @@ returns-in-Some-gap_at_end g c =
       links_back = λ made. told_viewed words c.args.side c.new-links.result c.new-links.ensures.1 c.list_of-edited.ensures refl (c.gap_at_end.ensures.links_back _ c.in-Some-gap_at_end.is);
       member = λ made. stands_back words c.new-links.result c.new-links.ensures.1 (sym c.in-Some.is ∙ c.place_of.ensures) (c.beside_other_end.ensures.member _ c.in-Some-beside_other_end.is);
       before = λ made. told_viewed words Before c.new-links.result c.new-links.ensures.1 c.list_of-edited.ensures (sym c.in-Some.is ∙ c.place_of.ensures) (c.beside_other_end.ensures.before _ c.in-Some-beside_other_end.is);
-      behind = λ made. told_viewed words After c.new-links.result c.new-links.ensures.1 c.list_of-edited.ensures (sym c.in-Some.is ∙ c.place_of.ensures) (c.beside_other_end.ensures.behind _ c.in-Some-beside_other_end.is);
+      after = λ made. told_viewed words After c.new-links.result c.new-links.ensures.1 c.list_of-edited.ensures (sym c.in-Some.is ∙ c.place_of.ensures) (c.beside_other_end.ensures.after _ c.in-Some-beside_other_end.is);
       linked = search rules;
       touched = λ made.
           let member = sym c.in-Some.is ∙ c.place_of.ensures in
@@ -84,7 +84,7 @@ returns g c =
           rw (← c.new-links.ensures.1) (subst (λ at. TellsGap words c.args.side (table_of words c.new-links.result.entries.now) list at) none_named (c.move_slow.ensures.links_back made));
       member = search rules;
       before = search rules;
-      behind = search rules;
+      after = search rules;
       linked = search rules;
       touched = λ made.
           let es = c.new-links.result.entries.now in

@@ -14,7 +14,7 @@ returns-in-Some-clause-shown g c gap front back is shown =
     some_same (sym is ∙ gap_is (record { front = front; back = back }) (sym c.in-Some.is ∙ c.prev.ensures ∙ there.prev) (c.next.ensures ∙ there.next))
 
 pub returns-in-Some-next-clause-toward : goal.returns-in-Some-next-clause-toward
-returns-in-Some-next-clause-toward g c gap is = rw c.in-Before.is (c.in-Some-next.behind, sym (ap (λ g. g.behind) (some_same is)))
+returns-in-Some-next-clause-toward g c gap is = rw c.in-Before.is (c.in-Some-next.after, sym (ap (λ g. g.after) (some_same is)))
 
 pub returns-in-Some-next-clause-shown : goal.returns-in-Some-next-clause-shown
 returns-in-Some-next-clause-shown g c gap front back is shown =

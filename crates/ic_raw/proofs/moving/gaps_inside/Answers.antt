@@ -12,8 +12,8 @@ returns-clause-shown g c from to list front back cut is shown same beside =
 pub returns-clause-before : goal.returns-clause-before
 returns-clause-before g c from to list is = c.between.ensures.before _ list c.in-Some.is
 
-pub returns-clause-behind : goal.returns-clause-behind
-returns-clause-behind g c from to list is = c.between.ensures.behind _ list c.in-Some.is
+pub returns-clause-after : goal.returns-clause-after
+returns-clause-after g c from to list is = c.between.ensures.after _ list c.in-Some.is
 
 pub returns-clause-sides : goal.returns-clause-sides
 returns-clause-sides g c from to list is =

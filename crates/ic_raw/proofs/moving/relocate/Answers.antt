@@ -10,7 +10,7 @@ pub returns-clause-moved : goal.returns-clause-moved
 returns-clause-moved g c front back cut shown same from to =
     let off = c.bypass.ensures in
     let put = c.insert_linked.ensures in
-    moved front c.args.member back cut (ap (λ g. g.before) from) (ap (λ g. g.behind) from) (ap (λ g. g.before) to) (ap (λ g. g.behind) to) same shown off.shows off.extent off.others
+    moved front c.args.member back cut (ap (λ g. g.before) from) (ap (λ g. g.after) from) (ap (λ g. g.before) to) (ap (λ g. g.after) to) same shown off.shows off.extent off.others
     put.shows put.extent put.others
 
 pub returns-clause-touched : goal.returns-clause-touched
@@ -24,7 +24,7 @@ returns-clause-own g c = (c.bypass.new.self, taken_out refl c.bypass.ensures.end
 pub bypass-requires-clause-next : goal.bypass-requires-clause-next
 bypass-requires-clause-next g c =
     let words = link_words g.W.Words g.W.NextWord g.W.PrevPlace in
-    end_has_room words g.met.W.Words.starts_unlinked c.args.links.now c.args.from.behind c.requires.from.1
+    end_has_room words g.met.W.Words.starts_unlinked c.args.links.now c.args.from.after c.requires.from.1
 
 pub bypass-requires-clause-out : goal.bypass-requires-clause-out
 bypass-requires-clause-out g c =
@@ -34,4 +34,4 @@ bypass-requires-clause-out g c =
 pub insert_linked-requires-clause-next : goal.insert_linked-requires-clause-next
 insert_linked-requires-clause-next g c =
     let words = link_words g.W.Words g.W.NextWord g.W.PrevPlace in
-    end_has_room words g.met.W.Words.starts_unlinked c.args.links.now c.args.to.behind c.requires.to.1
+    end_has_room words g.met.W.Words.starts_unlinked c.args.links.now c.args.to.after c.requires.to.1

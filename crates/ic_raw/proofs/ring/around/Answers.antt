@@ -19,5 +19,5 @@ returns-in_default-beside-clause-tells g c r circle =
 pub returns-clause-links_back : goal.returns-clause-links_back
 returns-clause-links_back g c x is =
     let a = c.beside.ensures.links_back c.in-Some.before c.in-Some.is in
-    let b = c.beside-2.ensures.links_back c.in-Some-beside.behind c.in-Some-beside.is in
+    let b = c.beside-2.ensures.links_back c.in-Some-beside.after c.in-Some-beside.is in
     rw (sym (some_same is)) (rw a.1 at a.0, rw b.1 at b.0)

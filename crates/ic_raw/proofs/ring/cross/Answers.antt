@@ -82,8 +82,8 @@ returns-clause-cuts g c (x ∷ r) (y ∷ s) circle last_r last_s =
     }
 
 pub returns-clause-others : goal.returns-clause-others
-returns-clause-others g c q before behind ahead after =
-    c.set_prev-2.ensures.frame.others q behind ∙ c.set_next-2.ensures.frame.others q ahead ∙ c.set_prev.ensures.frame.others q after ∙ c.set_next.ensures.frame.others q before
+returns-clause-others g c q before following ahead after =
+    c.set_prev-2.ensures.frame.others q following ∙ c.set_next-2.ensures.frame.others q ahead ∙ c.set_prev.ensures.frame.others q after ∙ c.set_next.ensures.frame.others q before
 
 pub returns-clause-extent : goal.returns-clause-extent
 returns-clause-extent g c =

@@ -12,8 +12,8 @@ returns-in_default-clause-removed g c r circle = absurd (some_there c.in_default
 pub bypass-requires-clause-before : goal.bypass-requires-clause-before
 bypass-requires-clause-before g c = (c.around.ensures.links_back c.in-Some.pair c.in-Some.is).0.linked
 
-pub bypass-requires-clause-behind : goal.bypass-requires-clause-behind
-bypass-requires-clause-behind g c = (c.around.ensures.links_back c.in-Some.pair c.in-Some.is).1.stands
+pub bypass-requires-clause-after : goal.bypass-requires-clause-after
+bypass-requires-clause-after g c = (c.around.ensures.links_back c.in-Some.pair c.in-Some.is).1.stands
 
 pub release_link-requires : goal.release_link-requires
 release_link-requires g c = record { linked = c.bypass.ensures.trace_stays c.args.place ∙ (c.around.ensures.links_back c.in-Some.pair c.in-Some.is).1.linked }
@@ -36,8 +36,8 @@ returns-clause-removed g c r circle =
 pub returns-clause-before : goal.returns-clause-before
 returns-clause-before g c made = (c.in-Some.pair.0, (c.around.ensures.links_back c.in-Some.pair c.in-Some.is).0)
 
-pub returns-clause-behind : goal.returns-clause-behind
-returns-clause-behind g c made = (c.in-Some.pair.1, (c.around.ensures.links_back c.in-Some.pair c.in-Some.is).1)
+pub returns-clause-after : goal.returns-clause-after
+returns-clause-after g c made = (c.in-Some.pair.1, (c.around.ensures.links_back c.in-Some.pair c.in-Some.is).1)
 
 pub returns-clause-touched : goal.returns-clause-touched
 returns-clause-touched g c made =

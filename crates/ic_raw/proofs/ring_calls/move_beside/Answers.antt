@@ -39,7 +39,7 @@ returns g c =
           record { accepted = refl; done = same_back words links c.move_beside.new.links view (search rules) got };
       links_back = λ p is ok.
           let place : member ≡ p = some_same (sym c.in-Some-place_of.is ∙ c.place_of-2.ensures ∙ is) in
-          rw place at (amid_back words links view (c.move_beside.ensures.before c.if-not-move_beside.false) (c.move_beside.ensures.behind c.if-not-move_beside.false));
+          rw place at (amid_back words links view (c.move_beside.ensures.before c.if-not-move_beside.false) (c.move_beside.ensures.after c.if-not-move_beside.false));
       linked = λ h is ok.
           let to : beside ≡ h = some_same (sym c.in-Some.is ∙ c.place_of.ensures ∙ is) in
           rw to at (linked_back words links beside view (c.move_beside.ensures.linked c.if-not-move_beside.false));

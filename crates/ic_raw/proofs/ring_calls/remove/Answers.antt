@@ -42,7 +42,7 @@ returns g c =
       null = search rules;
       links_back = λ p is made.
           let same : c.in-Some.member ≡ p = some_same (sym c.in-Some.is ∙ c.place_of.ensures ∙ is) in
-          rw same at (amid_back words c.new-links.result c.new-links.ensures.1 (c.remove.ensures.before c.if-not-remove.false) (c.remove.ensures.behind c.if-not-remove.false));
+          rw same at (amid_back words c.new-links.result c.new-links.ensures.1 (c.remove.ensures.before c.if-not-remove.false) (c.remove.ensures.after c.if-not-remove.false));
       touched = λ p is made.
           let view = c.new-links.ensures.1 in
           let same : c.in-Some.member ≡ p = some_same (sym c.in-Some.is ∙ c.place_of.ensures ∙ is) in

@@ -47,7 +47,7 @@ returns g c =
       no_place = search rules;
       links_back = λ h is ok.
           let same : c.in-Some.member ≡ h = some_same (sym c.in-Some.is ∙ c.place_of.ensures ∙ is) in
-          rw same at (amid_back words links view (c.replace.ensures.before c.if-not-replace.false) (c.replace.ensures.behind c.if-not-replace.false));
+          rw same at (amid_back words links view (c.replace.ensures.before c.if-not-replace.false) (c.replace.ensures.after c.if-not-replace.false));
       touched = λ h p is_at is_place ok.
           let same : c.in-Some.member ≡ h = some_same (sym c.in-Some.is ∙ c.place_of.ensures ∙ is_at) in
           let named = rw same at (c.replace.ensures.touched p (c.place_of-2.ensures ∙ is_place) c.if-not-replace.false) in

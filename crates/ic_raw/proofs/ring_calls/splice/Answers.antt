@@ -26,7 +26,7 @@ returns g c =
           record { accepted = refl; done = makes_two_back words links c.splice.new.links view (search rules) named };
       links_back = λ g is ok.
           let from : given ≡ g = some_same (sym c.in-Some-place_of.is ∙ c.place_of-2.ensures ∙ is) in
-          rw from at (amid_back words links view (c.splice.ensures.before c.if-not-splice.false) (c.splice.ensures.behind c.if-not-splice.false));
+          rw from at (amid_back words links view (c.splice.ensures.before c.if-not-splice.false) (c.splice.ensures.after c.if-not-splice.false));
       linked = λ h is ok.
           let to : beside ≡ h = some_same (sym c.in-Some.is ∙ c.place_of.ensures ∙ is) in
           rw to at (linked_back words links beside view (c.splice.ensures.linked c.if-not-splice.false));

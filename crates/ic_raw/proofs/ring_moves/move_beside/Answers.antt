@@ -64,8 +64,8 @@ returns-then-eq-2-clause-itself g c r same circle = absurd (tested_other _ _ (sy
 pub close_gap-requires-clause-before : goal.close_gap-requires-clause-before
 close_gap-requires-clause-before g c = (c.around.ensures.links_back c.in-Some.from c.in-Some.is).0.linked
 
-pub close_gap-requires-clause-behind : goal.close_gap-requires-clause-behind
-close_gap-requires-clause-behind g c = (c.around.ensures.links_back c.in-Some.from c.in-Some.is).1.stands
+pub close_gap-requires-clause-after : goal.close_gap-requires-clause-after
+close_gap-requires-clause-after g c = (c.around.ensures.links_back c.in-Some.from c.in-Some.is).1.stands
 
 pub link_between-requires-clause-held : goal.link_between-requires-clause-held
 link_between-requires-clause-held g c = c.close_gap.ensures.trace_stays c.args.place ∙ (c.around.ensures.links_back c.in-Some.from c.in-Some.is).1.linked
@@ -141,8 +141,8 @@ returns-clause-itself g c r same circle = absurd (tested_other _ _ (sym c.eq.ens
 pub returns-clause-before : goal.returns-clause-before
 returns-clause-before g c made = (c.in-Some.from.0, (c.around.ensures.links_back c.in-Some.from c.in-Some.is).0)
 
-pub returns-clause-behind : goal.returns-clause-behind
-returns-clause-behind g c made = (c.in-Some.from.1, (c.around.ensures.links_back c.in-Some.from c.in-Some.is).1)
+pub returns-clause-after : goal.returns-clause-after
+returns-clause-after g c made = (c.in-Some.from.1, (c.around.ensures.links_back c.in-Some.from c.in-Some.is).1)
 
 pub returns-then-eq-2-clause-linked : goal.returns-then-eq-2-clause-linked
 returns-then-eq-2-clause-linked g c made =
@@ -157,14 +157,14 @@ returns-clause-linked g c made =
 pub returns-then-eq-clause-before : goal.returns-then-eq-clause-before
 returns-then-eq-clause-before g c made = (c.in-Some.from.0, (c.around.ensures.links_back c.in-Some.from c.in-Some.is).0)
 
-pub returns-then-eq-clause-behind : goal.returns-then-eq-clause-behind
-returns-then-eq-clause-behind g c made = (c.in-Some.from.1, (c.around.ensures.links_back c.in-Some.from c.in-Some.is).1)
+pub returns-then-eq-clause-after : goal.returns-then-eq-clause-after
+returns-then-eq-clause-after g c made = (c.in-Some.from.1, (c.around.ensures.links_back c.in-Some.from c.in-Some.is).1)
 
 pub returns-then-eq-2-clause-before : goal.returns-then-eq-2-clause-before
 returns-then-eq-2-clause-before g c made = (c.in-Some.from.0, (c.around.ensures.links_back c.in-Some.from c.in-Some.is).0)
 
-pub returns-then-eq-2-clause-behind : goal.returns-then-eq-2-clause-behind
-returns-then-eq-2-clause-behind g c made = (c.in-Some.from.1, (c.around.ensures.links_back c.in-Some.from c.in-Some.is).1)
+pub returns-then-eq-2-clause-after : goal.returns-then-eq-2-clause-after
+returns-then-eq-2-clause-after g c made = (c.in-Some.from.1, (c.around.ensures.links_back c.in-Some.from c.in-Some.is).1)
 
 pub returns-then-eq-clause-touched : goal.returns-then-eq-clause-touched
 returns-then-eq-clause-touched g c made = record { steps_are = λ q. refl; others = λ q out. refl }

@@ -26,8 +26,8 @@ pub close_gap-requires-clause-before : goal.close_gap-requires-clause-before
 close_gap-requires-clause-before g c =
     let own = c.in-Some-acquire.own in c.link_between.ensures.trace_stays own ∙ c.acquire.ensures.linked own c.in-Some-acquire.is
 
-pub close_gap-requires-clause-behind : goal.close_gap-requires-clause-behind
-close_gap-requires-clause-behind g c =
+pub close_gap-requires-clause-after : goal.close_gap-requires-clause-after
+close_gap-requires-clause-after g c =
     let words = link_words g.W.Words g.W.NextWord g.W.PrevPlace in
     let own = c.in-Some-acquire.own in
     let links_back = (c.around.ensures.links_back c.in-Some.pair c.in-Some.is).1 in
@@ -79,8 +79,8 @@ returns-clause-free g c made =
 pub returns-clause-before : goal.returns-clause-before
 returns-clause-before g c made = (c.in-Some.pair.0, (c.around.ensures.links_back c.in-Some.pair c.in-Some.is).0)
 
-pub returns-clause-behind : goal.returns-clause-behind
-returns-clause-behind g c made = (c.in-Some.pair.1, (c.around.ensures.links_back c.in-Some.pair c.in-Some.is).1)
+pub returns-clause-after : goal.returns-clause-after
+returns-clause-after g c made = (c.in-Some.pair.1, (c.around.ensures.links_back c.in-Some.pair c.in-Some.is).1)
 
 pub returns-clause-touched : goal.returns-clause-touched
 returns-clause-touched g c p is made =

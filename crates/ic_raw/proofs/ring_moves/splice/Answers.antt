@@ -55,8 +55,8 @@ returns-then-eq-3-clause-other g c made =
 pub close_gap-requires-clause-before : goal.close_gap-requires-clause-before
 close_gap-requires-clause-before g c = (c.around.ensures.links_back c.in-Some.from c.in-Some.is).0.linked
 
-pub close_gap-requires-clause-behind : goal.close_gap-requires-clause-behind
-close_gap-requires-clause-behind g c = (c.around.ensures.links_back c.in-Some.from c.in-Some.is).1.stands
+pub close_gap-requires-clause-after : goal.close_gap-requires-clause-after
+close_gap-requires-clause-after g c = (c.around.ensures.links_back c.in-Some.from c.in-Some.is).1.stands
 
 pub cross-requires-clause-first : goal.cross-requires-clause-first
 cross-requires-clause-first g c =
@@ -127,8 +127,8 @@ returns-clause-spliced g c r s ring circle away =
 pub returns-clause-before : goal.returns-clause-before
 returns-clause-before g c made = (c.in-Some.from.0, (c.around.ensures.links_back c.in-Some.from c.in-Some.is).0)
 
-pub returns-clause-behind : goal.returns-clause-behind
-returns-clause-behind g c made = (c.in-Some.from.1, (c.around.ensures.links_back c.in-Some.from c.in-Some.is).1)
+pub returns-clause-after : goal.returns-clause-after
+returns-clause-after g c made = (c.in-Some.from.1, (c.around.ensures.links_back c.in-Some.from c.in-Some.is).1)
 
 pub returns-clause-linked : goal.returns-clause-linked
 returns-clause-linked g c made =
@@ -145,8 +145,8 @@ returns-clause-other g c made =
 pub returns-then-eq-3-clause-before : goal.returns-then-eq-3-clause-before
 returns-then-eq-3-clause-before g c made = (c.in-Some.from.0, (c.around.ensures.links_back c.in-Some.from c.in-Some.is).0)
 
-pub returns-then-eq-3-clause-behind : goal.returns-then-eq-3-clause-behind
-returns-then-eq-3-clause-behind g c made = (c.in-Some.from.1, (c.around.ensures.links_back c.in-Some.from c.in-Some.is).1)
+pub returns-then-eq-3-clause-after : goal.returns-then-eq-3-clause-after
+returns-then-eq-3-clause-after g c made = (c.in-Some.from.1, (c.around.ensures.links_back c.in-Some.from c.in-Some.is).1)
 
 pub returns-then-eq-3-clause-touched : goal.returns-then-eq-3-clause-touched
 returns-then-eq-3-clause-touched g c made = record { steps_are = λ q. refl; others = λ q out. refl }

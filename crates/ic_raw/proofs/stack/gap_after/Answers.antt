@@ -10,9 +10,9 @@ returns-then-not-stands-clause-shown c cut shown after =
 
 pub returns-then-not-stands-2-clause-shown : goal.returns-then-not-stands-2-clause-shown
 returns-then-not-stands-2-clause-shown c cut shown after =
-    let behind = c.next_of-behind.ensures ∙ next_represented cut.front cut.back shown c.args.at after in
-    absurd (never c.if-not-stands-2.true (c.stands-2.ensures.1 (after_stands law cut.front cut.back shown behind)))
+    let following = c.next_of-after.ensures ∙ next_represented cut.front cut.back shown c.args.at after in
+    absurd (never c.if-not-stands-2.true (c.stands-2.ensures.1 (after_stands law cut.front cut.back shown following)))
 
 pub returns-clause-shown : goal.returns-clause-shown
 returns-clause-shown c cut shown after =
-    gap_is cut after (c.next_of-behind.ensures ∙ next_represented cut.front cut.back shown c.args.at after)
+    gap_is cut after (c.next_of-after.ensures ∙ next_represented cut.front cut.back shown c.args.at after)

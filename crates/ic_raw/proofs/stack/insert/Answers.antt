@@ -12,7 +12,7 @@ returns-clause-inserted c cut p shown after is free =
     let put = c.insert_linked.ensures in
     rw one (
       refl,
-      inserted law cut (ap (λ g. g.before) gap) (ap (λ g. g.behind) gap) shown (c.acquire.ensures.free c.in-Some-acquire.place c.in-Some-acquire.is)
+      inserted law cut (ap (λ g. g.before) gap) (ap (λ g. g.after) gap) shown (c.acquire.ensures.free c.in-Some-acquire.place c.in-Some-acquire.is)
           (c.acquire.ensures.frame c.in-Some-acquire.place c.in-Some-acquire.is) put.shows put.extent put.others,
     )
 

@@ -6,13 +6,13 @@ use Rattle.ic_raw.proofs.stack.remove.Goals as goal
 
 pub returns-clause-removed : goal.returns-clause-removed
 returns-clause-removed c front back shown after =
-    let behind = c.next-behind.ensures ∙ (represents_middle front back shown).next in
+    let following = c.next-after.ensures ∙ (represents_middle front back shown).next in
     let off = c.bypass.ensures in
     let released = c.release_link.ensures in
-    (removed front c.args.member back after behind shown off.shows off.extent off.others released.frame, released.released.is)
+    (removed front c.args.member back after following shown off.shows off.extent off.others released.frame, released.released.is)
 
 pub returns-clause-own : goal.returns-clause-own
-returns-clause-own c = rw (← c.next-behind.ensures) c.bypass.ensures.ends.head
+returns-clause-own c = rw (← c.next-after.ensures) c.bypass.ensures.ends.head
 
 pub returns-clause-touched : goal.returns-clause-touched
 returns-clause-touched c =

@@ -9,12 +9,12 @@ use Rattle.ic_raw.proofs.stack.replace.Goals as goal
 pub returns-clause-replaced : goal.returns-clause-replaced
 returns-clause-replaced c front back p shown after is free =
     let one : p ≡ c.in-Some.place = some_same (sym is ∙ c.acquire.ensures.same c.in-Some.place c.in-Some.is) in
-    let behind = c.next-behind.ensures ∙ (represents_middle front back shown).next in
+    let following = c.next-after.ensures ∙ (represents_middle front back shown).next in
     let put = c.replace_linked.ensures in
     let released = c.release_link.ensures in
     rw one (
       refl,
-      replaced law front c.args.member back after behind shown (c.acquire.ensures.free c.in-Some.place c.in-Some.is) (c.acquire.ensures.frame c.in-Some.place c.in-Some.is)
+      replaced law front c.args.member back after following shown (c.acquire.ensures.free c.in-Some.place c.in-Some.is) (c.acquire.ensures.frame c.in-Some.place c.in-Some.is)
           put.shows put.extent put.others released.frame,
       released.released.is,
     )

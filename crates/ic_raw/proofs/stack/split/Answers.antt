@@ -12,7 +12,7 @@ pub returns-clause-own : goal.returns-clause-own
 returns-clause-own c made = rw (← ap (λ g. g.before) (c.gap_after.ensures.is _ c.in-Some.is)) c.split_between.ensures.ends.head
 
 pub returns-clause-rest : goal.returns-clause-rest
-returns-clause-rest c made = c.split_between.ensures.ends.rest_head ∙ ap (λ g. g.behind) (c.gap_after.ensures.is _ c.in-Some.is)
+returns-clause-rest c made = c.split_between.ensures.ends.rest_head ∙ ap (λ g. g.after) (c.gap_after.ensures.is _ c.in-Some.is)
 
 pub returns-in_default-clause-accepted : goal.returns-in_default-clause-accepted
 returns-in_default-clause-accepted c = ((λ e. absurd (never refl e)), (λ links_back. absurd (none_not _ (sym c.in_default.is ∙ c.gap_after.ensures.found links_back))))

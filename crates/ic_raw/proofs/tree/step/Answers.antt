@@ -20,8 +20,8 @@ pub returns-then-not-stand-clause-found : goal.returns-then-not-stand-clause-fou
 returns-then-not-stand-clause-found c cut member shown at is =
     absurd (never c.if-not-stand.true (c.stand.ensures.shown c.args.side cut shown (subst (λ o. IsBeside c.args.side cut o) (sym c.place_of.ensures ∙ c.in-Some.is) at)))
 
-pub step_within-beside-requires : goal.step_within-beside-requires
-step_within-beside-requires c =
+pub step_bounded-beside-requires : goal.step_bounded-beside-requires
+step_bounded-beside-requires c =
     let t = lent_table c.args.links.now in
     let law = in_range c.args.links.now in
     let ok = c.if-not-stand.false in
@@ -32,12 +32,12 @@ tell-requires c =
     let t = lent_table c.args.links.now in
     let law = in_range c.args.links.now in
     let ok = c.if-not-stand.false in
-    c.step_within-beside.ensures.safe (has_place t) (closed t c.root.result (rw c.root.ensures (end_in t law _ (c.stand.ensures.root ok)))) (end_in t law (Some c.in-Some.member) (c.stand.ensures.at ok))
+    c.step_bounded-beside.ensures.safe (has_place t) (closed t c.root.result (rw c.root.ensures (end_in t law _ (c.stand.ensures.root ok)))) (end_in t law (Some c.in-Some.member) (c.stand.ensures.at ok))
 
 pub returns-then-tell-clause-found : goal.returns-then-tell-clause-found
 returns-then-tell-clause-found c cut member shown at is =
     let t = lent_table c.args.links.now in
-    let there = c.step_within-beside.ensures.leads cut (rw c.root.ensures (represents_of seen_node (seen_represented t (in_range c.args.links.now) [] (represented_of node shown) tt)))
+    let there = c.step_bounded-beside.ensures.leads cut (rw c.root.ensures (represents_of seen_node (seen_represented t (in_range c.args.links.now) [] (represented_of node shown) tt)))
     (subst (λ o. IsBeside c.args.side cut o) (sym c.place_of.ensures ∙ c.in-Some.is) at) in
     let links_back = c.tell.ensures.links_back c.if-tell.true in
     subst (λ o. IsFound o 0 c.tell.new.found) (sym links_back.1 ∙ one_beside (across c.args.side) cut there is) (record { accepted = refl; done = links_back.3 })
@@ -50,11 +50,11 @@ returns-then-tell-clause-looked c made =
 pub returns-clause-found : goal.returns-clause-found
 returns-clause-found c cut member shown at is =
     let t = lent_table c.args.links.now in
-    let there = c.step_within-beside.ensures.leads cut (rw c.root.ensures (represents_of seen_node (seen_represented t (in_range c.args.links.now) [] (represented_of node shown) tt)))
+    let there = c.step_bounded-beside.ensures.leads cut (rw c.root.ensures (represents_of seen_node (seen_represented t (in_range c.args.links.now) [] (represented_of node shown) tt)))
     (subst (λ o. IsBeside c.args.side cut o) (sym c.place_of.ensures ∙ c.in-Some.is) at) in
     subst (λ o. IsFound o c.nothing_found.result c.tell.new.found) (one_beside (across c.args.side) cut there is)
-    (none_found c.step_within-beside.result refl (beside_stands (across c.args.side) cut shown there)) where
-      none_found : (o : Option Place) → c.step_within-beside.result ≡ o → IsNoneOrLinked is_linked_three (lent_table c.args.links.now) c.step_within-beside.result → IsFound o c.nothing_found.result c.tell.new.found
+    (none_found c.step_bounded-beside.result refl (beside_stands (across c.args.side) cut shown there)) where
+      none_found : (o : Option Place) → c.step_bounded-beside.result ≡ o → IsNoneOrLinked is_linked_three (lent_table c.args.links.now) c.step_bounded-beside.result → IsFound o c.nothing_found.result c.tell.new.found
       none_found None e stands = c.nothing_found.ensures.null.1 e
       none_found (Some q) e stands = absurd (never c.if-tell.false (c.tell.ensures.stands stands (λ none. none_not q (sym none ∙ e))))
 
@@ -78,13 +78,13 @@ returns-then-tell-clause-stepped c ok =
       links_back.2,
       links_back.3,
       subst (λ o. StepsTo seen_node (seen t) (root_of c.args.tree.now) c.args.side o links_back.0) (sym c.in-Some.is ∙ c.place_of.ensures)
-          (c.step_within-beside.ensures.reached links_back.0 links_back.1),
+          (c.step_bounded-beside.ensures.reached links_back.0 links_back.1),
     )
 
 pub returns-clause-ended : goal.returns-clause-ended
 returns-clause-ended c null =
     subst (StepEndsIn (lent_table c.args.links.now) (root_of c.args.tree.now) c.args.side) (sym c.in-Some.is ∙ c.place_of.ensures)
-    (c.step_within-beside.ensures.ended (c.nothing_found.ensures.null.0 null))
+    (c.step_bounded-beside.ensures.ended (c.nothing_found.ensures.null.0 null))
 
 pub returns-in_default-clause-stepped : goal.returns-in_default-clause-stepped
 returns-in_default-clause-stepped c ok =

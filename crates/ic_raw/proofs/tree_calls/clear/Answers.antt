@@ -4,8 +4,7 @@ use Rattle.ic_raw.specs.Words.{no_tree_words, is_linked_three}
 use Rattle.ic_raw.proofs.Gaps.{never}
 use Rattle.ic_raw.proofs.Trees.{kept}
 use Rattle.ic_raw.proofs.TreeSteps.{leads_back}
-use Rattle.ic_raw.proofs.TreeWalks.{unmarks_back}
-use Rattle.ic_raw.proofs.Views.{viewed, clears_back}
+use Rattle.ic_raw.proofs.Views.{viewed, clears_back, unlinks_back}
 use Rattle.ic_raw.proofs.tree_calls.clear.Goals as goal
 
 pub returns-then-not-clear : goal.returns-then-not-clear
@@ -14,7 +13,7 @@ returns-then-not-clear c = record {
   root = search rules;
   ended = search rules;
   emptied = search rules;
-  marks = unmarks_back c.new-links.result c.clear.new.links c.new-links.ensures.1 (search rules) c.clear.ensures.marks;
+  marks = unlinks_back no_tree_words c.new-links.result c.clear.new.links c.new-links.ensures.1 (search rules) c.clear.ensures.marks;
   refused = search rules;
   why = search rules;
   is_status = search rules;
@@ -28,7 +27,7 @@ returns c = record {
   root = search rules;
   ended = λ ok. leads_back c.new-links.result (root_in c.args.tree.now) None c.new-links.ensures.1 (rw c.tree_of.ensures at (c.clear.ensures.ended c.if-not-clear.false));
   emptied = search rules;
-  marks = unmarks_back c.new-links.result c.clear.new.links c.new-links.ensures.1 (search rules) c.clear.ensures.marks;
+  marks = unlinks_back no_tree_words c.new-links.result c.clear.new.links c.new-links.ensures.1 (search rules) c.clear.ensures.marks;
   refused = search rules;
   why = search rules;
   is_status = search rules;

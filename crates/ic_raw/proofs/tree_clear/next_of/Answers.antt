@@ -19,16 +19,16 @@ returns-then-not-has-2-clause-leads c cut shown after = absurd (never c.if-not-h
 pub returns-then-not-has-2-clause-ended : goal.returns-then-not-has-2-clause-ended
 returns-then-not-has-2-clause-ended c within none = absurd (never c.if-not-has-2.true (c.has-2.ensures.1 (rw c.root.ensures within.1.0)))
 
-pub step_within-requires : goal.step_within-requires
-step_within-requires c =
+pub step_bounded-requires : goal.step_bounded-requires
+step_bounded-requires c =
     let t = lent_table c.args.links.now in
     (has_place t, closed t _ (rw (c.root-2.ensures, ← c.root.ensures) (c.has-2.ensures.0 c.if-not-has-2.false)), (c.has.ensures.0 c.if-not-has.false, tt))
 
 pub returns-clause-leads : goal.returns-clause-leads
-returns-clause-leads c cut shown after = c.step_within.ensures.leads cut (rw c.root-2.ensures shown) after
+returns-clause-leads c cut shown after = c.step_bounded.ensures.leads cut (rw c.root-2.ensures shown) after
 
 pub returns-clause-reached : goal.returns-clause-reached
-returns-clause-reached c q is = rw c.root-2.ensures at (c.step_within.ensures.reached q is)
+returns-clause-reached c q is = rw c.root-2.ensures at (c.step_bounded.ensures.reached q is)
 
 pub returns-clause-ended : goal.returns-clause-ended
-returns-clause-ended c within none = rw c.root-2.ensures at (c.step_within.ensures.ended none)
+returns-clause-ended c within none = rw c.root-2.ensures at (c.step_bounded.ensures.ended none)

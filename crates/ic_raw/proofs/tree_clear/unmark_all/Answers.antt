@@ -9,7 +9,8 @@ use Rattle.ic_raw.specs.Tree.{lent_table}
 use Rattle.ic_raw.specs.Words.{is_linked_three}
 use Rattle.ic_raw.proofs.Gaps.{never}
 use Rattle.ic_raw.proofs.Trees.{in_range, seen_represents}
-use Rattle.ic_raw.proofs.TreeWalks.{HasComeTo, unmarks_none, unmarks_more, seen_length, seen_kept, walk_starts, walk_member, walk_goes_on, walk_ends, walk_over}
+use Rattle.ic_raw.proofs.TreeWalks.{HasComeTo, unmarks_more, seen_length, seen_kept, walk_starts, walk_member, walk_goes_on, walk_ends, walk_over}
+use Rattle.ic_raw.proofs.Views.{unlinks_none}
 use Rattle.ic_raw.proofs.tree_clear.unmark_all.Goals as goal
 
 -- at the end of a walk all members are unlinked, and nothing else is changed
@@ -25,7 +26,7 @@ walked_all k none same off others =
 pub loop-left-init : goal.loop-left-init
 unfolding walk_starts
 loop-left-init c = record {
-  marks = unmarks_none (lent_table c.args.links.now);
+  marks = unlinks_none (lent_table c.args.links.now);
   walked = λ s shown.
       let there = seen_represents (lent_table c.args.links.now) (in_range c.args.links.now) shown in
       (walk_starts (c.next_of-at.ensures.leads (at_front s) there refl) (rw c.places-left.ensures (seen_length there)), there, (λ p member. absurd (member tt)), (λ q out. refl));

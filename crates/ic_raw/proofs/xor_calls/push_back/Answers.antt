@@ -6,8 +6,8 @@ use Rattle.ic_raw.proofs.xor_calls.push_back.Goals.{else-has_neighbor-via-then-h
 
 pub returns-then-put : goal.returns-then-put
 returns-then-put c = record {
-  inserted = rw (← c.has_neighbor.ensures.kept) (λ cut p after behind is shown free.
-      (c.put.ensures.inserted cut p (c.place_in-last.ensures ∙ after) behind (c.place_of.ensures ∙ is) shown free).1 shown free);
+  inserted = rw (← c.has_neighbor.ensures.kept) (λ cut p after following is shown free.
+      (c.put.ensures.inserted cut p (c.place_in-last.ensures ∙ after) following (c.place_of.ensures ∙ is) shown free).1 shown free);
   free = search rules;
   no_place = search rules;
   links_back = search rules;

@@ -15,8 +15,8 @@ returns-clause-touched c p is made =
     touched_back no_word c.new-links.result c.insert.new.links c.new-links.ensures.1 (search rules) refl (c.insert.ensures.touched p is c.if-not-insert.false)
 
 pub returns-clause-inserted : goal.returns-clause-inserted
-returns-clause-inserted c cut p after behind is shown free =
+returns-clause-inserted c cut p after following is shown free =
     let view = c.new-links.ensures.1 in
     let seen = viewed no_word kept c.new-links.result view shown in
-    let put = c.insert.ensures.inserted cut p (rw c.list_of-edited.ensures seen) after behind is (free_viewed no_word c.new-links.result view free) in
+    let put = c.insert.ensures.inserted cut p (rw c.list_of-edited.ensures seen) after following is (free_viewed no_word c.new-links.result view free) in
     (refl, λ there off. record { accepted = refl; done = inserted_back no_word kept c.new-links.result c.insert.new.links view (search rules) (search rules) put.1 })

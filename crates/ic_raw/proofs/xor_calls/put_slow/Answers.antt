@@ -3,8 +3,8 @@ use Rattle.ic_raw.proofs.xor_calls.put_slow.Goals as goal
 
 pub returns : goal.returns
 returns c = record {
-  inserted = λ cut p after behind is shown free.
-      (c.put.ensures.inserted cut p (c.place_in.ensures ∙ after) (c.place_in-2.ensures ∙ behind) (c.place_of.ensures ∙ is) shown free).1 shown free;
+  inserted = λ cut p after following is shown free.
+      (c.put.ensures.inserted cut p (c.place_in.ensures ∙ after) (c.place_in-2.ensures ∙ following) (c.place_of.ensures ∙ is) shown free).1 shown free;
   free = search rules;
   no_place = search rules;
   links_back = search rules;

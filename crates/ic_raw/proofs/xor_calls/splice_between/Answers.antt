@@ -3,11 +3,11 @@ use Rattle.ic_raw.proofs.xor_calls.splice_between.Goals as goal
 
 pub returns : goal.returns
 returns c = record {
-  spliced = λ cut t after behind shown given apart.
-      (c.splice.ensures.spliced cut t (c.place_of.ensures ∙ after) (c.place_of-2.ensures ∙ behind) shown given apart).1 shown given apart;
+  spliced = λ cut t after following shown given apart.
+      (c.splice.ensures.spliced cut t (c.place_of.ensures ∙ after) (c.place_of-2.ensures ∙ following) shown given apart).1 shown given apart;
   emptied = search rules;
   stands_before = search rules;
-  stands_behind = search rules;
+  stands_after = search rules;
   links_back = search rules;
   ends = search rules;
   apart = search rules;

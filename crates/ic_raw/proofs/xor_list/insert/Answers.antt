@@ -7,13 +7,13 @@ use Rattle.ic_raw.proofs.Touches.{touches_insert}
 use Rattle.ic_raw.proofs.xor_list.insert.Goals as goal
 
 pub returns-clause-inserted : goal.returns-clause-inserted
-returns-clause-inserted c cut p shown after behind is free' =
+returns-clause-inserted c cut p shown after following is free' =
     let taken = c.in-Some.is in
     let one : p ≡ c.in-Some.place = some_same (sym is ∙ c.acquire.ensures.same _ taken) in
     let put = c.insert_linked.ensures in
     rw one (
       refl,
-      inserted joined_linked cut after behind shown (c.acquire.ensures.free _ taken) (c.acquire.ensures.frame _ taken) put.shows put.extent put.others,
+      inserted joined_linked cut after following shown (c.acquire.ensures.free _ taken) (c.acquire.ensures.frame _ taken) put.shows put.extent put.others,
     )
 
 pub returns-clause-free : goal.returns-clause-free

@@ -4,24 +4,25 @@ use Rattle.ic_link_ops.specs.StepLaws.{replays_on}
 use Rattle.ic_link_ops.specs.XorLinkedList.{IsJoined}
 use Rattle.ic_link_ops.proofs.Clearing.{Releases, releases_none, releases_more, releases_all, next_between}
 use Rattle.ic_link_ops.proofs.SequenceLemmas.{last_of_push}
-use Rattle.ic_link_ops.proofs.StepLemmas.{releases_append, each_unlinked}
+use Rattle.ic_link_ops.proofs.StepLemmas.{releases_append, each_unlinked, unlinks_only}
 use Rattle.ic_link_ops.proofs.XorLists.{represented_length}
 use Rattle.ic_raw.specs.declared.words.RawOne.{RawOne}
 use Rattle.ic_raw.specs.Words.{is_linked_one}
 use Rattle.ic_raw.specs.Singly.{lent_table}
-use Rattle.ic_raw.specs.Xor.{Joins, other}
+use Rattle.ic_raw.specs.Xor.{HasNeighbors, other}
 use Rattle.ic_raw.proofs.Gaps.{never}
 use Rattle.ic_raw.proofs.Singly.{covered}
-use Rattle.ic_raw.proofs.Xor.{other_after}
+use Rattle.ic_raw.proofs.Views.{unlinks_none}
+use Rattle.ic_raw.proofs.Xor.{other_after, unlinks_more}
 use Rattle.ic_raw.proofs.xor_list.release_all.Goals as goal
 
 -- the one after the member that is next
-behind : {old new : Table RawOne} {s : List Place} {p : Place} {prev next : Option Place}
-    → (k : Releases (IsJoined is_linked_one Joins) old new s (Some p)) → prev ≡ last k.done → next ≡ other (new.entry p) prev → next ≡ first (drop 1 k.rest)
-behind {new = new} {p} k prev next = next ∙ rw prev (other_after (new.entry p) _ _ (next_between k).joined)
+after : {old new : Table RawOne} {s : List Place} {p : Place} {prev next : Option Place}
+    → (k : Releases (IsJoined is_linked_one HasNeighbors) old new s (Some p)) → prev ≡ last k.done → next ≡ other (new.entry p) prev → next ≡ first (drop 1 k.rest)
+after {new = new} {p} k prev next = next ∙ rw prev (other_after (new.entry p) _ _ (next_between k).joined)
 
 -- where no member is left, nothing is next
-none_left : {old new : Table RawOne} {s : List Place} {at : Option Place} (k : Releases (IsJoined is_linked_one Joins) old new s at) → length k.rest ≡ 0 → at ≡ None
+none_left : {old new : Table RawOne} {s : List Place} {at : Option Place} (k : Releases (IsJoined is_linked_one HasNeighbors) old new s at) → length k.rest ≡ 0 → at ≡ None
 none_left k none = k.at ∙ nothing k.rest none where
   nothing : (rest : List Place) → length rest ≡ 0 → first rest ≡ None
   nothing [] e = refl
@@ -30,7 +31,7 @@ none_left k none = k.at ∙ nothing k.rest none where
 pub loop-left-init : goal.loop-left-init
 unfolding releases_none
 loop-left-init c = record {
-  extent = refl;
+  marks = unlinks_none (lent_table c.args.links.now);
   released = λ s shown.
       (releases_none shown.chain (c.first-at.ensures ∙ shown.head), refl, (λ q. refl), rw c.places-left.ensures (represented_length (lent_table c.args.links.now) (covered c.args.links.now) shown));
 }
@@ -40,7 +41,7 @@ returns-in_default-clause-cleared c s shown =
     let was = c.loop-left.invariant.released s shown in
     let all = rw (releases_all was.0 c.in_default.is) at was.2 in record {
       unlinked = λ p is. each_unlinked is_linked_one s (lent_table c.args.links.now) (lent_table c.loop-left.links) p all is;
-      frame = record { extent = c.loop-left.invariant.extent; others = was.0.others };
+      frame = record { extent = c.loop-left.invariant.marks.extent; others = was.0.others };
     }
 
 pub returns-then-not-is_linked-clause-cleared : goal.returns-then-not-is_linked-clause-cleared
@@ -54,17 +55,18 @@ returns-clause-cleared c s shown =
     let none = none_left was.0 (omega (arith, was.3, c.loop-left-test.false)) in
     let all = rw (releases_all was.0 none) at was.2 in record {
       unlinked = λ p is. each_unlinked is_linked_one s (lent_table c.args.links.now) (lent_table c.loop-left.links) p all is;
-      frame = record { extent = c.loop-left.invariant.extent; others = was.0.others };
+      frame = record { extent = c.loop-left.invariant.marks.extent; others = was.0.others };
     }
 
 pub loop-left-preserved : goal.loop-left-preserved
 loop-left-preserved c = record {
-  extent = c.release_link.ensures.frame.extent ∙ c.loop-left.invariant.extent;
+  marks = unlinks_more c.loop-left.invariant.marks (sym c.is_linked.ensures ∙ c.if-not-is_linked.false) c.unlink.ensures.frame c.unlink.ensures.word;
   released = λ s shown.
       let was = rw c.in-Some.is at (c.loop-left.invariant.released s shown) in
-      let next = behind was.0 was.1 c.next-at.ensures in
-      let more = releases_more {new' = lent_table c.release_link.new.self} shown.distinct was.0 c.release_link.ensures.frame.others next in
+      let next = after was.0 was.1 c.next-at.ensures in
+      let more = releases_more {new' = lent_table c.unlink.new.links} shown.distinct was.0 c.unlink.ensures.frame.others next in
+      let off = unlinks_only (sym c.is_linked.ensures ∙ c.if-not-is_linked.false) (ap is_linked_one c.unlink.ensures.word) c.unlink.ensures.frame in
       let steps = replays_on is_linked_one (releases_each was.0.done) (releases_each (c.in-Some.member ∷ [])) (lent_table c.args.links.now) (lent_table c.loop-left.links)
-      (lent_table c.release_link.new.self) was.2 c.release_link.ensures.released in
+      (lent_table c.unlink.new.links) was.2 off in
       (more.0, sym (ap last more.2 ∙ last_of_push was.0.done c.in-Some.member), rw (more.2, releases_append was.0.done (c.in-Some.member ∷ [])) steps, omega (arith, was.3, ap length more.1));
 }

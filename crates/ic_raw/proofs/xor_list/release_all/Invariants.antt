@@ -4,15 +4,15 @@ use Rattle.ic_link_ops.specs.XorLinkedList.{IsJoined}
 use Rattle.ic_link_ops.proofs.Clearing.{Releases}
 use Rattle.ic_raw.specs.Words.{is_linked_one}
 use Rattle.ic_raw.specs.Singly.{lent_table}
-use Rattle.ic_raw.specs.Xor.{Represents, Joins}
+use Rattle.ic_raw.specs.Xor.{Represents, HasNeighbors, OnlyUnlinks}
 use Rattle.ic_raw.proofs.xor_list.release_all.Given as goal
 
--- the members before `at` are unlinked, and those from there on fit into the steps that are left
+-- only linked places are unlinked. The members before `at` are, and those from there on fit into the steps that are left
 abbrev pub invariant-loop-left : goal.invariant-loop-left
 invariant-loop-left l = record {
-  extent : (lent_table l.links).extent ≡ (lent_table l.fn.links).extent;
+  marks : OnlyUnlinks (lent_table l.fn.links) (lent_table l.links);
   released : (s : List Place) → Represents (lent_table l.fn.links) l.fn.list s
-      → (k : Releases (IsJoined is_linked_one Joins) (lent_table l.fn.links) (lent_table l.links) s l.at)
+      → (k : Releases (IsJoined is_linked_one HasNeighbors) (lent_table l.fn.links) (lent_table l.links) s l.at)
       × (l.prev ≡ last k.done) × TraceIs is_linked_one (lent_table l.fn.links) (lent_table l.links) (releases_each k.done) × (length k.rest ≤ l.left);
 }
 

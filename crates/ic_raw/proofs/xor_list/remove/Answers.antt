@@ -9,4 +9,4 @@ returns-then-not-is_linked-clause-removed c front back shown before =
 
 pub returns-clause-removed : goal.returns-clause-removed
 returns-clause-removed c front back shown before =
-    c.take_out.ensures.removed front back shown before (c.next-behind.ensures ∙ next_represented front c.args.member back shown before)
+    c.take_out.ensures.removed front back shown before (c.next-after.ensures ∙ next_represented front c.args.member back shown before)

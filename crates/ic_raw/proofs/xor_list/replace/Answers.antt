@@ -14,19 +14,19 @@ returns-then-not-is_linked-clause-replaced c front back p shown before is free =
 
 pub returns-then-not-is_between-clause-replaced : goal.returns-then-not-is_between-clause-replaced
 returns-then-not-is_between-clause-replaced c front back p shown before is free =
-    let behind = c.next-behind.ensures ∙ next_represented front c.args.member back shown before in
-    absurd (never c.if-not-is_between.true (c.is_between.ensures.shown front back shown before behind))
+    let after = c.next-after.ensures ∙ next_represented front c.args.member back shown before in
+    absurd (never c.if-not-is_between.true (c.is_between.ensures.shown front back shown before after))
 
 pub returns-clause-replaced : goal.returns-clause-replaced
 returns-clause-replaced c front back p shown before is free' =
     let taken = c.in-Some.is in
     let one : p ≡ c.in-Some.place = some_same (sym is ∙ c.acquire.ensures.same _ taken) in
-    let behind = c.next-behind.ensures ∙ next_represented front c.args.member back shown before in
+    let after = c.next-after.ensures ∙ next_represented front c.args.member back shown before in
     let put = c.replace_linked.ensures in
     let released = c.release_link.ensures in
     rw one (
       refl,
-      replaced joined_linked front c.args.member back before behind shown (c.acquire.ensures.free _ taken) (c.acquire.ensures.frame _ taken) put.shows put.extent put.others
+      replaced joined_linked front c.args.member back before after shown (c.acquire.ensures.free _ taken) (c.acquire.ensures.frame _ taken) put.shows put.extent put.others
           released.frame,
       released.released.is,
     )
@@ -35,7 +35,7 @@ pub returns-clause-free : goal.returns-clause-free
 returns-clause-free c made = let taken = c.in-Some.is in (c.in-Some.place, c.acquire.ensures.same _ taken, c.acquire.ensures.free _ taken)
 
 pub returns-clause-own : goal.returns-clause-own
-returns-clause-own c made = put_in (sides_are refl c.next-behind.ensures) (c.acquire.ensures.same _ c.in-Some.is) c.replace_linked.ensures.ends
+returns-clause-own c made = put_in (sides_are refl c.next-after.ensures) (c.acquire.ensures.same _ c.in-Some.is) c.replace_linked.ensures.ends
 
 pub returns-clause-touched : goal.returns-clause-touched
 returns-clause-touched c p is made =
@@ -43,5 +43,5 @@ returns-clause-touched c p is made =
     let one : p ≡ c.in-Some.place = some_same (sym is ∙ c.acquire.ensures.same _ taken) in
     let put = c.replace_linked.ensures in
     let released = c.release_link.ensures in
-    rw (one, sym c.next-behind.ensures)
+    rw (one, sym c.next-after.ensures)
     (touches_replace (c.acquire.ensures.free _ taken) (c.acquire.ensures.linked _ taken) (c.acquire.ensures.frame _ taken) put.trace_stays put.others released.released released.frame)

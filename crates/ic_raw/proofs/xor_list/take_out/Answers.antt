@@ -5,10 +5,10 @@ use Rattle.ic_raw.proofs.Touches.{touches_remove}
 use Rattle.ic_raw.proofs.xor_list.take_out.Goals as goal
 
 pub returns-clause-removed : goal.returns-clause-removed
-returns-clause-removed c front back shown before behind =
+returns-clause-removed c front back shown before after =
     let off = c.bypass.ensures in
     let released = c.release_link.ensures in
-    (refl, removed front c.args.member back before behind shown off.shows off.extent off.others released.frame, released.released.is)
+    (refl, removed front c.args.member back before after shown off.shows off.extent off.others released.frame, released.released.is)
 
 pub returns-clause-own : goal.returns-clause-own
 returns-clause-own c made = taken_out refl c.bypass.ensures.ends

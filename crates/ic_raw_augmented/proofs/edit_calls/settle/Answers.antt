@@ -10,6 +10,6 @@ pub returns-clause-right : goal.returns-clause-right
 returns-clause-right c ok root s shown right =
     let links = c.new-links.result in
     let view = c.new-links.ensures.1 in
-    summed_back c.args.kind links c.renew_written.new.sums s view
-    (c.renew_written.ensures.right root s (seen_represents (lent_table links) (in_range links) (viewed no_tree_words kept links view shown))
+    summed_back c.args.kind links c.recompute_written.new.sums s view
+    (c.recompute_written.ensures.right root s (seen_represents (lent_table links) (in_range links) (viewed no_tree_words kept links view shown))
     (but_viewed c.args.kind links c.args.sums.now s (is_noted c.args.written.now) view right))

@@ -3,6 +3,7 @@ use Rattle.ic_unsafe_ref.specs.declared.place.Place.{Place}
 use Rattle.ic_link_ops.proofs.SequenceLemmas.{none_not}
 use Rattle.ic_rbtree.proofs.Closed.{in_there, read_in}
 use Rattle.ic_raw.specs.Tree.{lent_table}
+use Rattle.ic_raw_augmented.specs.Ends.{EndsAbove}
 use Rattle.ic_raw_augmented.specs.Sums.{next_end, sum_below}
 use Rattle.ic_raw_augmented.proofs.Searches.{FindsAbove, found_next, found_on, is_position, next_in, none_on, unrooted}
 use Rattle.ic_raw_augmented.proofs.find.find.Goals as goal
@@ -51,10 +52,13 @@ pub returns-clause-within : goal.returns-clause-within
 returns-clause-within c S closed i = c.first_above.ensures.within S (unrooted closed) (in_there S i c.in-Some.is)
 
 pub returns-in_default-clause-ended : goal.returns-in_default-clause-ended
-returns-in_default-clause-ended c none is =
+returns-in_default-clause-ended c is =
+    let v = lent_table c.args.links.now in
     let less : sum_below c.args.sums.now c.next_end-below.result ≤ c.args.bound = subst (λ (n : ℕ). n ≤ c.args.bound) c.sum_below-done.ensures c.if-bound-done.false in
-    let root = c.next_end-below.ensures ∙ ap (next_end (lent_table c.args.links.now) c.args.root) c.in_default.is in
-    subst (λ (o : Option Place). sum_below c.args.sums.now o ≤ c.args.bound) root less
+    (subst (λ (o : Option Place). sum_below c.args.sums.now o ≤ c.args.bound) c.next_end-below.ensures less, subst (EndsAbove v) (sym c.in_default.is) tt)
 
 pub returns-clause-ended : goal.returns-clause-ended
-returns-clause-ended c none is = absurd (none_not c.in-Some.place (sym none ∙ c.in-Some.is))
+returns-clause-ended c is =
+    let v = lent_table c.args.links.now in
+    let less : sum_below c.args.sums.now c.next_end-below.result ≤ c.args.bound = subst (λ (n : ℕ). n ≤ c.args.bound) c.sum_below-done.ensures c.if-bound-done.false in
+    (subst (λ (o : Option Place). sum_below c.args.sums.now o ≤ c.args.bound) c.next_end-below.ensures less, subst (EndsAbove v) (sym c.in-Some.is) (c.first_above.ensures.ended is))

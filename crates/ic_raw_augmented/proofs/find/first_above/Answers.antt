@@ -1,4 +1,4 @@
-use Rattle.std.proofs.Common.{◌≡◌, ◌+◌, ◌-◌, ℕ, Some, None, sym, ap, ◌∙◌, subst, arith}
+use Rattle.std.proofs.Common.{◌≡◌, ◌+◌, ◌-◌, ◌∷◌, [], ℕ, Some, None, sym, ap, ◌∙◌, subst, arith}
 use Rattle.ic_link_ops.proofs.SequenceLemmas.{none_not}
 use Rattle.ic_rbtree.proofs.Closed.{in_there, read_in}
 use Rattle.ic_raw.specs.Seen.{has_place}
@@ -10,12 +10,15 @@ use Rattle.ic_raw_augmented.proofs.find.first_above.Goals as goal
 use Rattle.ic_raw_augmented.proofs.find.first_above.Goals.{then-not-is_child+else-bound-with_it+else-bound-with_right, else-not-is_child}
 
 pub loop-init : goal.loop-init
-loop-init c = record { inside = c.requires; found = λ r h. h; there = λ S closed here. here }
+loop-init c = record { inside = c.requires; found = λ r h. h; there = λ S closed here. here; led = λ h. h }
 
 pub returns-in_default-clause-found : goal.returns-in_default-clause-found
 returns-in_default-clause-found c =
     c.loop.invariant.found (Some None)
     (above_none c.args.kind (lent_table c.args.links.now) c.args.sums.now c.loop.place c.loop.done c.args.bound (67 - c.loop.counter) (sym c.parent.ensures ∙ c.in_default.is))
+
+pub returns-in_default-clause-ended : goal.returns-in_default-clause-ended
+returns-in_default-clause-ended c is = c.loop.invariant.led ([], sym c.parent.ensures ∙ c.in_default.is)
 
 pub returns-then-bound-with_it-clause-found : goal.returns-then-bound-with_it-clause-found
 returns-then-bound-with_it-clause-found c =
@@ -65,6 +68,7 @@ loop-preserved c =
             (w.combine-with_right.ensures ∙ ap (combined c.args.kind w.combine-with_it.result) w.sum_below.ensures) w.if-bound-with_it.false (sym c.is_child.ensures ∙ w.if-not-is_child.true)
             r w.if-bound-with_right.false (subst (λ (n : ℕ). FindsAbove c.args.kind v c.args.sums.now c.in-Some.above w.combine-with_right.result c.args.bound n r) less h));
         there = λ S shut here. in_there S (read_in S (shut.parent p (i.there S shut here) (none_not p)) c.parent.ensures) c.in-Some.is;
+        led = λ h. i.led (c.in-Some.above ∷ h.0, (named, h.1));
       })
       | else-not-is_child w ↦ rw w.done-is (record {
         inside = in_there (has_place v) (read_in (has_place v) ((closed v None tt).parent p i.inside (none_not p)) c.parent.ensures) c.in-Some.is;
@@ -72,6 +76,7 @@ loop-preserved c =
             i.found r (above_right c.args.kind v c.args.sums.now p c.in-Some.above named (67 - c.loop.counter) c.loop.done c.args.bound r (sym c.is_child.ensures ∙ w.if-not-is_child.false)
             (subst (λ (n : ℕ). FindsAbove c.args.kind v c.args.sums.now c.in-Some.above c.loop.done c.args.bound n r) less h));
         there = λ S shut here. in_there S (read_in S (shut.parent p (i.there S shut here) (none_not p)) c.parent.ensures) c.in-Some.is;
+        led = λ h. i.led (c.in-Some.above ∷ h.0, (named, h.1));
       })
     ]
 

@@ -1,4 +1,4 @@
-use Rattle.std.proofs.Common.{◌≡◌, ◌<◌, ◌≤◌, Option, Some, None, [], sym, ap, ◌∙◌, subst, arith}
+use Rattle.std.proofs.Common.{◌≡◌, ◌<◌, ◌≤◌, Option, Some, None, [], sym, ap, ◌∙◌, subst, arith, inl, inr}
 use Rattle.std.proofs.lemmas.Bool.{ltb-true}
 use Rattle.ic_link_ops.specs.Prelude.{Place, index_of}
 use Rattle.ic_link_ops.proofs.SequenceLemmas.{some_same}
@@ -48,3 +48,11 @@ returns-clause-found c cut h at r sorted =
     let late : c.args.to ≤ key_of c.args.starts.now c.in-Some.member = rw (← c.index.ensures.value) c.if-starts-index.false in
     ap Some (it_does_not (key_of c.args.starts.now) (value_at c.args.sums.now) c.args.from c.args.to cut.back c.in-Some.member
     (subst (λ (o : Option Place). IsFirstBeyond Greatest (value_at c.args.sums.now) [] c.args.from cut.back o) one f.2) late sorted)
+
+pub returns-in_default-clause-ended : goal.returns-in_default-clause-ended
+returns-in_default-clause-ended c is = inl (c.find.ensures.ended (c.in_ok-position.was ∙ ap Some c.in_default.is))
+
+pub returns-clause-ended : goal.returns-clause-ended
+returns-clause-ended c is =
+    let late : c.args.to ≤ key_of c.args.starts.now c.in-Some.member = rw (← c.index.ensures.value) c.if-starts-index.false in
+    inr (c.in-Some.member, (λ S shut i. in_there S (rw c.in_ok-position.was at (c.find.ensures.within S shut i.0)) c.in-Some.is), late)

@@ -1,8 +1,10 @@
 use Rattle.std.proofs.Common.{[], ◌∷◌, ◌≤◌, length, sym, subst, rules}
+use Rattle.ic_raw.specs.Tree.{root_in}
 use Rattle.ic_raw.specs.Words.{no_tree_words, place_of}
 use Rattle.ic_raw.proofs.Views.{viewed}
 use Rattle.ic_raw.proofs.Trees.{kept}
 use Rattle.ic_raw.proofs.TreeSets.{reached_back}
+use Rattle.ic_raw_augmented.proofs.Ends.{find_back}
 use Rattle.ic_raw_augmented.proofs.Viewed.{summed_viewed}
 use Rattle.ic_raw_augmented.proofs.sum_calls.find.Goals as goal
 
@@ -13,7 +15,7 @@ returns c = record {
       c.look.ensures.found cut (subst (λ es. length es ≤ length c.args.sums.now) (sym view) enough) at (viewed no_tree_words kept c.new-links.result view shown)
       (summed_viewed c.args.kind c.new-links.result c.args.sums.now _ view right);
   reached = λ ok. reached_back c.new-links.result (place_of c.args.at ∷ []) _ c.new-links.ensures.1 (c.look.ensures.reached ok);
-  ended = c.look.ensures.ended;
+  ended = λ null. find_back c.new-links.result c.args.sums.now (root_in c.args.tree.now) (place_of c.args.at) c.args.bound c.new-links.ensures.1 (c.look.ensures.ended null);
   refused = search rules;
   same = search rules;
   looked = search rules;

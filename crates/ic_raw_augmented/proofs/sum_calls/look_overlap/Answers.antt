@@ -1,4 +1,4 @@
-use Rattle.std.proofs.Common.{Option, refl, sym, ◌∙◌, subst}
+use Rattle.std.proofs.Common.{Option, Some, refl, sym, ap, ◌∙◌, subst}
 use Rattle.ic_link_ops.specs.Prelude.{Place, join}
 use Rattle.ic_link_ops.specs.declared.side.Side.TheVariants.{Right}
 use Rattle.ic_link_ops.proofs.SequenceLemmas.{some_same}
@@ -60,3 +60,7 @@ returns-clause-reached c ok = (
       let within = rw c.in-Some.is at (c.overlap.ensures.within S (rw c.place_in-root.ensures h) (read_in S ends.0 c.place_of-after.ensures)) in
       in_there S within c.in-Some-position.is),
 )
+
+pub returns-in_default-position-clause-ended : goal.returns-in_default-position-clause-ended
+returns-in_default-position-clause-ended c null =
+    rw (c.place_in-root.ensures, c.place_of-after.ensures) at (c.overlap.ensures.ended (c.in-Some.is ∙ ap Some c.in_default-position.is))

@@ -1,9 +1,11 @@
 use Rattle.std.proofs.Common.{[], ◌∷◌, ◌≤◌, length, sym, subst, rules}
+use Rattle.ic_raw.specs.Tree.{root_in}
 use Rattle.ic_raw.specs.Words.{no_tree_words, place_of}
 use Rattle.ic_raw.proofs.Views.{viewed}
 use Rattle.ic_raw.proofs.Trees.{kept}
 use Rattle.ic_raw.proofs.TreeSets.{reached_back}
 use Rattle.ic_raw_augmented.specs.declared.sums.Kind.TheVariants.{Greatest}
+use Rattle.ic_raw_augmented.proofs.Ends.{overlap_back}
 use Rattle.ic_raw_augmented.proofs.Viewed.{summed_viewed}
 use Rattle.ic_raw_augmented.proofs.sum_calls.overlap.Goals as goal
 
@@ -14,6 +16,9 @@ returns c = record {
       c.look_overlap.ensures.found cut (subst (λ es. length es ≤ length c.args.starts.now) (sym view) starts) (subst (λ es. length es ≤ length c.args.sums.now) (sym view) enough) at
       (viewed no_tree_words kept c.new-links.result view shown) (summed_viewed Greatest c.new-links.result c.args.sums.now _ view right) sorted;
   reached = λ ok. reached_back c.new-links.result (place_of c.args.at ∷ []) _ c.new-links.ensures.1 (c.look_overlap.ensures.reached ok);
+  ended = λ null.
+      overlap_back c.new-links.result c.args.sums.now (root_in c.args.tree.now) (place_of c.args.at) c.args.starts.now c.args.from c.args.to c.new-links.ensures.1
+      (c.look_overlap.ensures.ended null);
   refused = search rules;
   same = search rules;
   looked = search rules;

@@ -8,22 +8,22 @@ use Rattle.ic_raw.specs.Words.{is_linked_three, no_tree_words, place_of}
 use Rattle.ic_raw.proofs.Gaps.{never}
 use Rattle.ic_raw.proofs.Trees.{in_range, kept, seen_represents}
 use Rattle.ic_raw.proofs.Views.{viewed}
-use Rattle.ic_raw_augmented.proofs.Renewing.{also_off}
+use Rattle.ic_raw_augmented.proofs.Recomputing.{also_off}
 use Rattle.ic_raw_augmented.specs.Sums.{is_there}
 use Rattle.ic_raw_augmented.proofs.Viewed.{beside_back, but_viewed, stands_viewed, summed_back}
 use Rattle.ic_raw_augmented.proofs.sum_calls.renew.Goals as goal
 
 pub returns-in_default : goal.returns-in_default
 returns-in_default c = record {
-  renewed = λ root s enough stands shown right.
+  recomputed = λ root s enough stands shown right.
       let links = c.new-links.result in
       let view = c.new-links.ensures.1 in
       record {
         accepted = refl;
-        done = summed_back c.args.kind links c.renew_all.new.sums s view (c.renew_all.ensures.right root s (seen_represents (lent_table links) (in_range links) (viewed no_tree_words kept links view shown)));
+        done = summed_back c.args.kind links c.recompute_all.new.sums s view (c.recompute_all.ensures.right root s (seen_represents (lent_table links) (in_range links) (viewed no_tree_words kept links view shown)));
       };
   opened = λ enough stands. refl;
-  values = c.renew_all.ensures.kept;
+  values = c.recompute_all.ensures.kept;
   beside = λ p at. absurd (none_not p (sym c.in_default.is ∙ (c.place_of-from.ensures ∙ at)));
   refused = search rules;
   same = search rules;
@@ -34,7 +34,7 @@ returns-in_default c = record {
 
 pub returns : goal.returns
 returns c = record {
-  renewed = λ root s enough stands shown right.
+  recomputed = λ root s enough stands shown right.
       let links = c.new-links.result in
       let view = c.new-links.ensures.1 in
       let t = lent_table links in
@@ -42,15 +42,15 @@ returns c = record {
       let named : place_of c.args.at ≡ Some c.in-Some.member = sym c.place_of-from.ensures ∙ c.in-Some.is in
       record {
         accepted = refl;
-        done = summed_back c.args.kind links c.renew_up.new.sums s view (λ q m.
-            c.renew_up.ensures.right root s (λ z. false) (seen_represents t (in_range links) (viewed no_tree_words kept links view shown))
+        done = summed_back c.args.kind links c.recompute_up.new.sums s view (λ q m.
+            c.recompute_up.ensures.right root s (λ z. false) (seen_represents t (in_range links) (viewed no_tree_words kept links view shown))
             (λ z n off. there z n (rw named (also_off (Some c.in-Some.member) (λ y. false) z off).0)) q m refl);
       };
   opened = λ enough stands. refl;
-  values = c.renew_up.ensures.kept;
+  values = c.recompute_up.ensures.kept;
   beside = λ p at.
       let one : p ≡ c.in-Some.member = some_same (sym at ∙ (sym c.place_of-from.ensures ∙ c.in-Some.is)) in
-      rw one (beside_back c.new-links.result c.args.sums.now c.renew_up.new.sums c.in-Some.member c.new-links.ensures.1 c.renew_up.ensures.beside);
+      rw one (beside_back c.new-links.result c.args.sums.now c.recompute_up.new.sums c.in-Some.member c.new-links.ensures.1 c.recompute_up.ensures.beside);
   refused = search rules;
   same = search rules;
   looked = search rules;
@@ -60,7 +60,7 @@ returns c = record {
 
 pub returns-then-not-is_searchable : goal.returns-then-not-is_searchable
 returns-then-not-is_searchable c = record {
-  renewed = λ root s enough stands shown right.
+  recomputed = λ root s enough stands shown right.
       absurd (never c.if-not-is_searchable.true (c.is_searchable.ensures.shown
       (subst (λ (es : List RawThree). length es ≤ length c.args.sums.now) (sym c.new-links.ensures.1) enough)
       (subst (λ (o : Option Place). IsNoneOrLinked is_linked_three (lent_table c.new-links.result) o) (sym c.place_of-from.ensures) (stands_viewed c.new-links.result (place_of c.args.at) c.new-links.ensures.1 stands)) (λ q e. absurd (none_not q e))));

@@ -28,20 +28,20 @@ pub returns-then-not-has-2-clause-ended : goal.returns-then-not-has-2-clause-end
 returns-then-not-has-2-clause-ended c within none =
     absurd (never c.if-not-has-2.true (c.has-2.ensures.1 (rw c.place_in-root.ensures (has_viewed c.new-links.result (root_in c.args.tree.now) c.new-links.ensures.1 within.1.0))))
 
-pub step_within-requires : goal.step_within-requires
-step_within-requires c =
+pub step_bounded-requires : goal.step_bounded-requires
+step_bounded-requires c =
     let t = lent_table c.new-links.result in
     (has_place t, closed t c.place_in-root.result (c.has-2.ensures.0 c.if-not-has-2.false), (c.has.ensures.0 c.if-not-has.false, tt))
 
 pub returns-clause-leads : goal.returns-clause-leads
 returns-clause-leads c cut shown at =
-    c.step_within.ensures.leads cut (rw c.place_in-root.ensures (seen_represents (lent_table c.new-links.result) (in_range c.new-links.result)
+    c.step_bounded.ensures.leads cut (rw c.place_in-root.ensures (seen_represents (lent_table c.new-links.result) (in_range c.new-links.result)
     (viewed no_tree_words kept c.new-links.result c.new-links.ensures.1 shown))) at
 
 pub returns-clause-reached : goal.returns-clause-reached
 returns-clause-reached c q is =
-    steps_back c.new-links.result (root_in c.args.tree.now) (Some c.args.at) c.args.side q c.new-links.ensures.1 (c.step_within.ensures.reached q is)
+    steps_back c.new-links.result (root_in c.args.tree.now) (Some c.args.at) c.args.side q c.new-links.ensures.1 (c.step_bounded.ensures.reached q is)
 
 pub returns-clause-ended : goal.returns-clause-ended
 returns-clause-ended c within none =
-    end_back c.new-links.result (root_in c.args.tree.now) (Some c.args.at) c.args.side c.new-links.ensures.1 (c.step_within.ensures.ended none)
+    end_back c.new-links.result (root_in c.args.tree.now) (Some c.args.at) c.args.side c.new-links.ensures.1 (c.step_bounded.ensures.ended none)

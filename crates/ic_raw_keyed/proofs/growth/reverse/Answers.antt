@@ -14,7 +14,7 @@ loop-left-init c = record {
 
 pub turn-at-requires : goal.turn-at-requires
 turn-at-requires c =
-    let k = rw c.in-Some.is at (c.loop-left.invariant.comes c.requires.0 c.requires.1) in represented_linked k.rest k.behind
+    let k = rw c.in-Some.is at (c.loop-left.invariant.comes c.requires.0 c.requires.1) in represented_linked k.rest k.after
 
 pub returns-in_default-clause-reversed : goal.returns-in_default-clause-reversed
 returns-in_default-clause-reversed c s shown = reverse_done (c.loop-left.invariant.comes s shown) c.in_default.is

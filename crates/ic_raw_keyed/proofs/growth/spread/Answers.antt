@@ -20,14 +20,14 @@ loop-left-init c = record {
 pub slot_for-slot-requires-clause-keys : goal.slot_for-slot-requires-clause-keys
 slot_for-slot-requires-clause-keys c =
     let k = rw c.in-Some.is at (c.loop-left.invariant.comes c.requires.shown.0 c.requires.shown.1) in
-    let inside = covered c.loop-left.links c.in-Some.place (represented_linked k.rest k.behind) in
+    let inside = covered c.loop-left.links c.in-Some.place (represented_linked k.rest k.after) in
     let places = ap (λ (x : Extent). x.places) k.frame.extent in
     let keys = c.requires.keys in
     omega (arith, inside, places, keys)
 
 pub turn-at-requires : goal.turn-at-requires
 turn-at-requires c =
-    let k = rw c.in-Some.is at (c.loop-left.invariant.comes c.requires.shown.0 c.requires.shown.1) in represented_linked k.rest k.behind
+    let k = rw c.in-Some.is at (c.loop-left.invariant.comes c.requires.shown.0 c.requires.shown.1) in represented_linked k.rest k.after
 
 pub returns-in_default-clause-spread : goal.returns-in_default-clause-spread
 returns-in_default-clause-spread c r shown = spread_done (c.loop-left.invariant.comes r shown) c.in_default.is

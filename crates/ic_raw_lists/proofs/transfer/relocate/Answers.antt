@@ -11,7 +11,7 @@ returns-clause-moved g c cut front back shown given apart from to =
     let words = link_words g.W.Words g.W.NextWord g.W.PrevPlace in
     let off = c.bypass.ensures in
     let put = c.insert_linked.ensures in
-    transferred words cut front c.args.member back (ap (λ g. g.before) from) (ap (λ g. g.behind) from) (ap (λ g. g.before) to) (ap (λ g. g.behind) to) shown given apart off.shows off.extent
+    transferred words cut front c.args.member back (ap (λ g. g.before) from) (ap (λ g. g.after) from) (ap (λ g. g.before) to) (ap (λ g. g.after) to) shown given apart off.shows off.extent
     off.others put.shows put.extent put.others
 
 pub returns-clause-touched : goal.returns-clause-touched
@@ -28,7 +28,7 @@ returns-clause-given g c = taken_out refl c.bypass.ensures.ends
 pub bypass-requires-clause-next : goal.bypass-requires-clause-next
 bypass-requires-clause-next g c =
     let words = link_words g.W.Words g.W.NextWord g.W.PrevPlace in
-    end_has_room words g.met.W.Words.starts_unlinked c.args.links.now c.args.from.behind c.requires.from.1
+    end_has_room words g.met.W.Words.starts_unlinked c.args.links.now c.args.from.after c.requires.from.1
 
 pub bypass-requires-clause-out : goal.bypass-requires-clause-out
 bypass-requires-clause-out g c =
@@ -38,4 +38,4 @@ bypass-requires-clause-out g c =
 pub insert_linked-requires-clause-next : goal.insert_linked-requires-clause-next
 insert_linked-requires-clause-next g c =
     let words = link_words g.W.Words g.W.NextWord g.W.PrevPlace in
-    end_has_room words g.met.W.Words.starts_unlinked c.args.links.now c.args.to.behind c.requires.to.1
+    end_has_room words g.met.W.Words.starts_unlinked c.args.links.now c.args.to.after c.requires.to.1

@@ -28,7 +28,7 @@ returns-in_default-gaps_to_transfer g c =
       links_back = search rules;
       member = search rules;
       before = search rules;
-      behind = search rules;
+      after = search rules;
       apart = search rules;
       away = search rules;
       linked = search rules;
@@ -62,7 +62,7 @@ returns g c =
       links_back = λ made. told_viewed words c.args.side c.new-links.result c.new-links.ensures.1 c.list_of-edited.ensures c.place_of-2.ensures (c.gaps_to_transfer.ensures.links_back _ _ c.in-Some-gaps_to_transfer.is);
       member = λ made. stands_back words c.new-links.result c.new-links.ensures.1 (sym c.in-Some.is ∙ c.place_of.ensures) (c.gaps_to_transfer.ensures.member _ _ c.in-Some-gaps_to_transfer.is);
       before = λ made. told_viewed words Before c.new-links.result c.new-links.ensures.1 c.list_of-other.ensures (sym c.in-Some.is ∙ c.place_of.ensures) (c.gaps_to_transfer.ensures.before _ _ c.in-Some-gaps_to_transfer.is);
-      behind = λ made. told_viewed words After c.new-links.result c.new-links.ensures.1 c.list_of-other.ensures (sym c.in-Some.is ∙ c.place_of.ensures) (c.gaps_to_transfer.ensures.behind _ _ c.in-Some-gaps_to_transfer.is);
+      after = λ made. told_viewed words After c.new-links.result c.new-links.ensures.1 c.list_of-other.ensures (sym c.in-Some.is ∙ c.place_of.ensures) (c.gaps_to_transfer.ensures.after _ _ c.in-Some-gaps_to_transfer.is);
       apart = λ made p starts same.
           c.gaps_to_transfer.ensures.apart _ _ p c.in-Some-gaps_to_transfer.is (ap (λ l. l.head) c.list_of-other.ensures ∙ starts) (ap (λ l. l.head) c.list_of-edited.ensures ∙ same);
       away = λ p is made.

@@ -4,7 +4,7 @@ use Rattle.ic_rbtree.proofs.head.end_without.Goals as goal
 
 pub returns-then-is_at : goal.returns-then-is_at
 returns-then-is_at g c front back h is =
-    end_steps c.args.d front back c.args.place h is (sym c.is_at.ensures ∙ c.if-is_at.true) (rw c.other.ensures at c.step_within.ensures.leads)
+    end_steps c.args.d front back c.args.place h is (sym c.is_at.ensures ∙ c.if-is_at.true) (rw c.other.ensures at c.step_bounded.ensures.leads)
 
 pub returns-else-is_at : goal.returns-else-is_at
 returns-else-is_at g c front back h is = end_stays c.args.d front back c.args.place is (sym c.is_at.ensures ∙ c.if-is_at.false)

@@ -5,7 +5,7 @@ use Rattle.ic_rbtree.proofs.Vines.{halves, front_half, back_half, place_linked, 
 use Rattle.ic_rbtree.proofs.vine.+vine_to_tree.Goals as goal
 
 pub returns-then-count-eq0-clause-grown : goal.returns-then-count-eq0-clause-grown
-returns-then-count-eq0-clause-grown g t c s behind x = none_left g.N.NodeStore.node x c.if-count-eq0.true
+returns-then-count-eq0-clause-grown g t c s after x = none_left g.N.NodeStore.node x c.if-count-eq0.true
 
 pub vine_to_tree-left-requires : goal.vine_to_tree-left-requires
 vine_to_tree-left-requires g t c κs within =
@@ -16,7 +16,7 @@ vine_to_tree-left-requires g t c κs within =
     search rules
 
 pub returns-in_default-clause-grown : goal.returns-in_default-clause-grown
-returns-in_default-clause-grown g t c s behind x =
+returns-in_default-clause-grown g t c s after x =
     let n = g.N.NodeStore.node in
     let some : 1 ≤ c.args.count = omega (arith, c.if-count-eq0.false) in
     let low = c.saturating_sub-lower.ensures in
@@ -79,7 +79,7 @@ adopt-requires-2 g t c =
     }
 
 pub returns-clause-grown : goal.returns-clause-grown
-returns-clause-grown g t c s behind x =
+returns-clause-grown g t c s after x =
     let n = g.N.NodeStore.node in
     let some : 1 ≤ c.args.count = omega (arith, c.if-count-eq0.false) in
     let low = c.saturating_sub-lower.ensures in

@@ -18,7 +18,7 @@ turn_to-requires g c =
     let links = g.met.L.LinkOps.does_replay _ _ _ c.if-not-link_between.ensures.acquired in
     let ring = c.requires.ring in record {
       before = stays_linked c.args.before links (prev_linked alike ring.0 ring.1 c.requires.before);
-      behind = stays_linked c.args.behind links (head_linked alike ring.1);
+      after = stays_linked c.args.after links (head_linked alike ring.1);
       place = g.met.L.LinkOps.covered_has_name _ _ c.requires.covered;
     }
 
@@ -36,7 +36,7 @@ returns-clause-others g c =
     let a = c.if-not-link_between.ensures in
     let ring = c.requires.ring in
     let free = (g.met.L.LinkOps.does_replay _ _ _ a.acquired).was in
-    others_stay_beside g.met.L.LinkedListOps.linked_alike c.args.place c.args.behind ring.0 free ring.1
+    others_stay_beside g.met.L.LinkedListOps.linked_alike c.args.place c.args.after ring.0 free ring.1
     (λ q out. c.turn_to.ensures.others q (prev_not ring.0 ring.1 c.requires.before out.1) out.1.0 ∙ a.frame.others q out.0)
 
 pub returns-clause-extent : goal.returns-clause-extent

@@ -9,7 +9,7 @@ pub next_of-next-requires : goal.next_of-next-requires
 next_of-next-requires g c = rw c.place-place.ensures c.requires.member
 
 pub unlink-requires : goal.unlink-requires
-unlink-requires g c = record { ring = rw c.place-place.ensures c.requires.member; before = c.prev_of-prev.ensures; behind = c.next_of-next.ensures }
+unlink-requires g c = record { ring = rw c.place-place.ensures c.requires.member; before = c.prev_of-prev.ensures; after = c.next_of-next.ensures }
 
 pub returns-clause-removed : goal.returns-clause-removed
 returns-clause-removed g c head front back shown =

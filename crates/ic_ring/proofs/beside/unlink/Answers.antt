@@ -8,7 +8,7 @@ bypass-requires g c =
     let alike = g.met.L.LinkedListOps.linked_alike in
     let ring = c.requires.ring in record {
       before = prev_linked alike ring.0 ring.1 c.requires.before;
-      behind = next_linked alike ring.0 ring.1 c.requires.behind;
+      after = next_linked alike ring.0 ring.1 c.requires.after;
     }
 
 pub release_link-requires : goal.release_link-requires
@@ -18,7 +18,7 @@ release_link-requires g c = record {
 
 pub returns-clause-taken : goal.returns-clause-taken
 returns-clause-taken g c r shown =
-    circle_beside c.args.place (circle_taken c.requires.before c.requires.behind (c.bypass.ensures.closed c.args.place) r shown)
+    circle_beside c.args.place (circle_taken c.requires.before c.requires.after (c.bypass.ensures.closed c.args.place) r shown)
     shown.distinct.0 c.release_link.ensures.frame.others
 
 pub returns-clause-released : goal.returns-clause-released
@@ -28,7 +28,7 @@ pub returns-clause-others : goal.returns-clause-others
 returns-clause-others g c =
     let ring = c.requires.ring in
     others_stay c.args.place ring.0 ring.1
-    (ring_frame ring.0 ring.1 c.requires.before c.requires.behind (λ q x y z. c.release_link.ensures.frame.others q y ∙ c.bypass.ensures.others q x z))
+    (ring_frame ring.0 ring.1 c.requires.before c.requires.after (λ q x y z. c.release_link.ensures.frame.others q y ∙ c.bypass.ensures.others q x z))
 
 pub returns-clause-extent : goal.returns-clause-extent
 returns-clause-extent g c = c.release_link.ensures.frame.extent ∙ c.bypass.ensures.extent

@@ -49,14 +49,14 @@ returns-clause-itself g c same q =
     let start = g.L.LinkOps.table c.args.links.now in
     let first = c.args.first in
     let second = c.args.second in
-    let behind = c.next_of-after_first.result in
-    let one : behind ≡ c.next_of-after_second.result
+    let after = c.next_of-after_first.result in
+    let one : after ≡ c.next_of-after_second.result
     = some_same (sym c.next_of-after_first.ensures ∙ (ap (λ p. (neighbors_at n start p).next) same ∙ c.next_of-after_second.ensures)) in
-    let faces : (neighbors_at n start behind).prev ≡ Some first = facing {n = n} first c.requires.first.0 c.requires.first.1 c.next_of-after_first.ensures in
+    let faces : (neighbors_at n start after).prev ≡ Some first = facing {n = n} first c.requires.first.0 c.requires.first.1 c.next_of-after_first.ensures in
     let turn1 = next_stays n c.set_next.ensures.frame c.set_next.ensures.set (c.next_of-after_first.ensures ∙ ap (λ p. Some p) one) in
     let turn2 = prev_stays n c.set_prev.ensures.frame c.set_prev.ensures.set (ap (λ a. a.prev) (turn1 c.next_of-after_second.result) ∙ subst (λ p. (neighbors_at n start p).prev ≡ Some first) one faces) in
     let turn3 = next_stays n c.set_next-2.ensures.frame c.set_next-2.ensures.set (ap (λ a. a.next) (turn2 second ∙ turn1 second) ∙ (c.next_of-after_second.ensures ∙ ap (λ p. Some p) (sym one))) in
-    let turn4 = prev_stays n c.set_prev-2.ensures.frame c.set_prev-2.ensures.set (ap (λ a. a.prev) (turn3 behind ∙ turn2 behind ∙ turn1 behind) ∙ (faces ∙ ap (λ p. Some p) same)) in
+    let turn4 = prev_stays n c.set_prev-2.ensures.frame c.set_prev-2.ensures.set (ap (λ a. a.prev) (turn3 after ∙ turn2 after ∙ turn1 after) ∙ (faces ∙ ap (λ p. Some p) same)) in
     turn4 q ∙ turn3 q ∙ turn2 q ∙ turn1 q
 
 pub returns-clause-trace_stays : goal.returns-clause-trace_stays

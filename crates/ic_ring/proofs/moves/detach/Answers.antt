@@ -13,7 +13,7 @@ bypass-requires g c =
     let alike = g.met.L.LinkedListOps.linked_alike in
     let ring = c.requires.ring in record {
       before = prev_linked alike ring.0 ring.1 c.prev_of-prev.ensures;
-      behind = next_linked alike ring.0 ring.1 c.next_of-next.ensures;
+      after = next_linked alike ring.0 ring.1 c.next_of-next.ensures;
     }
 
 pub returns-clause-taken : goal.returns-clause-taken

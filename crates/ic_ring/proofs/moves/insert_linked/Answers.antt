@@ -8,7 +8,7 @@ set_neighbors-requires g c =
     let ring = c.requires.ring in record {
       linked = c.requires.held;
       before = g.met.L.LinkOps.covered_has_name _ _ (g.met.L.LinkOps.linked_is_covered _ _ (prev_linked alike ring.0 ring.1 c.requires.before));
-      behind = g.met.L.LinkOps.covered_has_name _ _ (g.met.L.LinkOps.linked_is_covered _ _ (head_linked alike ring.1));
+      after = g.met.L.LinkOps.covered_has_name _ _ (g.met.L.LinkOps.linked_is_covered _ _ (head_linked alike ring.1));
     }
 
 pub turn_to-requires : goal.turn_to-requires
@@ -17,7 +17,7 @@ turn_to-requires g c =
     let kept = g.met.L.LinkOps.does_replay _ _ [] c.set_neighbors.ensures.trace_stays in
     let ring = c.requires.ring in record {
       before = kept c.args.before ∙ prev_linked alike ring.0 ring.1 c.requires.before;
-      behind = kept c.args.behind ∙ head_linked alike ring.1;
+      after = kept c.args.after ∙ head_linked alike ring.1;
       place = g.met.L.LinkOps.covered_has_name _ _ (g.met.L.LinkOps.linked_is_covered _ _ c.requires.held);
     }
 
@@ -32,7 +32,7 @@ returns-clause-trace_stays g c = g.met.L.LinkOps.does_on _ _ _ _ _ c.set_neighbo
 pub returns-clause-others : goal.returns-clause-others
 returns-clause-others g c r circle out out_after =
     let leads = (prev_stands c.requires.ring.0 c.requires.ring.1 c.requires.before).1 in
-    circle_untouched r c.args.before c.args.place c.args.behind circle (before_apart r c.args.behind circle out_after leads) out out_after
+    circle_untouched r c.args.before c.args.place c.args.after circle (before_apart r c.args.after circle out_after leads) out out_after
     (λ q x y z. c.turn_to.ensures.others q x z ∙ c.set_neighbors.ensures.frame.others q y)
 
 pub returns-clause-extent : goal.returns-clause-extent

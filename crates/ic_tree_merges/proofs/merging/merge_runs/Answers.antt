@@ -46,10 +46,10 @@ loop-count-preserved g c = record {
       let k = c.loop-count.invariant.merging s u a b d in
       elim c.if-takes_left.branch [
         | then-takes_left+in-Some w ↦ rw (w.nodes-is, w.left-is, w.right-is, w.merged-is)
-            (take_left n (compared_at (g.C.Compares.order c.args.order.now) objects) objects k w.in-Some.is (rw c.loop-count.invariant.same at (sym w.if-takes_left.ensures.taken)) w.push_back-left.ensures.behind
+            (take_left n (compared_at (g.C.Compares.order c.args.order.now) objects) objects k w.in-Some.is (rw c.loop-count.invariant.same at (sym w.if-takes_left.ensures.taken)) w.push_back-left.ensures.after
             (w.push_back-left.ensures.hung k.done k.vine (left_absent n (compared_at (g.C.Compares.order c.args.order.now) objects) objects k w.in-Some.is)))
         | else-takes_left+in-Some-right w ↦ rw (w.nodes-is, w.left-is, w.right-is, w.merged-is)
-            (take_right n (compared_at (g.C.Compares.order c.args.order.now) objects) objects k w.in-Some-right.is (rw c.loop-count.invariant.same at (sym w.if-takes_left.ensures.taken)) w.push_back-right.ensures.behind
+            (take_right n (compared_at (g.C.Compares.order c.args.order.now) objects) objects k w.in-Some-right.is (rw c.loop-count.invariant.same at (sym w.if-takes_left.ensures.taken)) w.push_back-right.ensures.after
             (w.push_back-right.ensures.hung k.done k.vine (right_absent n (compared_at (g.C.Compares.order c.args.order.now) objects) objects k w.in-Some-right.is)))
       ];
   few = omega (arith, c.takes_left.ensures.counted, one_look c.loop-count.left c.loop-count.right, c.loop-count.invariant.few);

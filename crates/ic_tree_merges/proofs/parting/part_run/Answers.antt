@@ -67,11 +67,11 @@ loop-count-preserved g c = record {
       let k = c.loop-count.invariant.sifting s u run d other placed apart in
       elim c.match-standing.branch [
         | in-Less w ↦ rw (w.nodes-is, w.left-is, w.right-is, w.common-is, w.rest-is)
-            (sift_less n (compared_at (g.C.Compares.order c.args.order.now) objects) objects root k c.in-Some.is w.push_back-left.ensures.behind
+            (sift_less n (compared_at (g.C.Compares.order c.args.order.now) objects) objects root k c.in-Some.is w.push_back-left.ensures.after
             (w.push_back-left.ensures.hung k.rest k.rest_vine (absent_rest n (compared_at (g.C.Compares.order c.args.order.now) objects) objects root k c.in-Some.is))
             (rw c.loop-count.invariant.same at (sym w.in-Less.ensures.answer)))
         | in-Equal w ↦ rw (w.nodes-is, w.left-is, w.right-is, w.common-is, w.rest-is)
-            (sift_equal n (compared_at (g.C.Compares.order c.args.order.now) objects) objects root k c.in-Some.is w.push_back-left-in-Equal.ensures.behind
+            (sift_equal n (compared_at (g.C.Compares.order c.args.order.now) objects) objects root k c.in-Some.is w.push_back-left-in-Equal.ensures.after
             (w.push_back-left-in-Equal.ensures.hung k.common k.common_vine (absent_common n (compared_at (g.C.Compares.order c.args.order.now) objects) objects root k c.in-Some.is))
             (rw c.loop-count.invariant.same at (sym w.in-Equal.ensures.answer)))
         | in-Greater w ↦ rw (w.nodes-is, w.left-is, w.right-is, w.common-is, w.rest-is)

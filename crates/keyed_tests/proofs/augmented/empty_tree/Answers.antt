@@ -8,7 +8,7 @@ use Rattle.keyed_tests.proofs.augmented.empty_tree.Goals as goal
 
 pub returns-clause-ready : goal.returns-clause-ready
 returns-clause-ready g c =
-    let z = joined g.V.Joins.join g.V.Joins.initial c.cover-covered.new.self in
+    let z = joined g.V.Summarize.join g.V.Summarize.initial c.cover-covered.new.self in
     record {
       members = [];
       shown = nothing_summed {n = node_of} z (keyed_table c.keyed_links-links.result) c.new.ensures.empty;

@@ -17,7 +17,7 @@ refresh-requires g c =
     let e = c.set_value.ensures in
     record {
       shown = (q.members, rw e.links q.shown.shows);
-      covered = λ p is. e.covers p (room_linked n g.L.LinkOps.table g.L.LinkOps.linked g.met.L.RBTreeOps.linked_alike g.met.L.LinkOps.linked_is_covered (λ p. index_of p < room_of c.args.summed.now.sums)
+      covered = λ p is. e.covers p (room_linked n g.L.LinkOps.table g.L.LinkOps.linked g.met.L.RBTreeOps.linked_alike g.met.L.LinkOps.linked_is_covered (λ p. index_of p < room_of c.args.summed.now.summaries)
           c.args.summed.now.links q.room c.args.summed.now.links refl p (rw e.links at is));
     }
 
@@ -30,7 +30,7 @@ returns-clause-ready g c =
     let q = c.requires.ready in
     let e = c.set_value.ensures in
     let old = q.consistent in
-    let shown : RepresentsConsistent n (greatest c.set_value.new.summed.sums) (g.L.LinkOps.table c.set_value.new.summed.links) c.args.tree.now.head q.members
+    let shown : RepresentsConsistent n (greatest c.set_value.new.summed.summaries) (g.L.LinkOps.table c.set_value.new.summed.links) c.args.tree.now.head q.members
     = (rw e.links old.0, e.consistent q.members old.1) in
     record {
       members = q.members;

@@ -18,7 +18,7 @@ pub returns-in-Some : goal.returns-in-Some
 returns-in-Some g c = record {
   least = λ s shown.
       let a = at_position s c.args.position (c.in-Some.ensures s shown) in
-      c.index_of.ensures _ a.front a.back (subst (RepresentsSummed g.N.NodeStore.node (counts c.args.summed.now.sums) (g.N.NodeStore.table c.args.summed.now.links) _) a.same shown)
+      c.index_of.ensures _ a.front a.back (subst (RepresentsSummed g.N.NodeStore.node (counts c.args.summed.now.summaries) (g.N.NodeStore.table c.args.summed.now.links) _) a.same shown)
       ∙ (a.position ∙ least_here s c.args.position a);
 }
 

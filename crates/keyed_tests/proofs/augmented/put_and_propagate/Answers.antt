@@ -19,7 +19,7 @@ propagate-requires g c =
     let extent = x.inserted.frame.extent in
     record {
       member = (c.insert_keyed-inserted.new.self.head, record { front = x.gap.front; back = x.gap.back; shown = rw c.place-place.ensures x.inserted.shows.0 });
-      covered = λ p is. d.covers p (room_linked n g.L.LinkOps.table g.L.LinkOps.linked g.met.L.RBTreeOps.linked_alike g.met.L.LinkOps.linked_is_covered (g.M.Sums.Covers c.args.summed.now.sums) c.args.summed.now.links q.room
+      covered = λ p is. d.covers p (room_linked n g.L.LinkOps.table g.L.LinkOps.linked g.met.L.RBTreeOps.linked_alike g.met.L.LinkOps.linked_is_covered (g.M.Summaries.Covers c.args.summed.now.summaries) c.args.summed.now.links q.room
           c.insert_keyed-inserted.new.links.links extent p is);
     }
 
@@ -34,7 +34,7 @@ returns g c =
     let x = inserted_right d q.consistent.1 (on_ok c.insert_keyed-inserted.result ok (e.inserted q.members q.consistent.0)) in
     let extent = x.inserted.frame.extent in
     let place = c.place-place.result in
-    let right : RepresentsConsistent n (g.M.Sums.sums c.insert_keyed-inserted.new.links.sums) (g.L.LinkOps.table c.insert_keyed-inserted.new.links.links) c.insert_keyed-inserted.new.self.head (x.gap.front ++ place ∷ x.gap.back)
+    let right : RepresentsConsistent n (g.M.Summaries.summaries c.insert_keyed-inserted.new.links.summaries) (g.L.LinkOps.table c.insert_keyed-inserted.new.links.links) c.insert_keyed-inserted.new.self.head (x.gap.front ++ place ∷ x.gap.back)
     = rw c.place-place.ensures x.inserted.shows in
     record {
       ready = record {
@@ -42,7 +42,7 @@ returns g c =
         shown = c.propagate.ensures.summed _ x.gap.front x.gap.back right;
         consistent = c.propagate.ensures.consistent _ x.gap.front x.gap.back right;
         room = λ p covered. c.propagate.ensures.covers p (d.covers p (room_covered n g.L.LinkOps.table g.L.LinkOps.linked g.met.L.RBTreeOps.linked_alike g.met.L.LinkOps.linked_is_covered
-            (g.M.Sums.Covers c.args.summed.now.sums) c.args.summed.now.links q.room c.insert_keyed-inserted.new.links.links extent p (rw c.propagate.ensures.links at covered)));
+            (g.M.Summaries.Covers c.args.summed.now.summaries) c.args.summed.now.links q.room c.insert_keyed-inserted.new.links.links extent p (rw c.propagate.ensures.links at covered)));
       };
       extent = rw c.propagate.ensures.links extent;
     }

@@ -6,5 +6,5 @@ use Rattle.keyed_tests.proofs.augmented.put_three.Given as goal
 abbrev pub invariant-loop-index : goal.invariant-loop-index
 invariant-loop-index g l = record {
   extent : (g.L.LinkOps.table (links_of l.summed)).extent ≡ (g.L.LinkOps.table (links_of l.fn.summed)).extent;
-  ready : IsReady g.L.RBTreeOps.node g.L.LinkOps.table g.M.Sums.sums g.M.Sums.Covers l.tree l.summed;
+  ready : IsReady g.L.RBTreeOps.node g.L.LinkOps.table g.M.Summaries.summaries g.M.Summaries.Covers l.tree l.summed;
 }

@@ -26,14 +26,14 @@ refresh-requires g c =
     let e = c.remove.ensures in
     let a = at_position q.members c.args.position (c.in-Some.ensures q.members q.shown) in
     let same = subst (λ (p : Place). q.members ≡ a.front ++ p ∷ a.back) (sym c.new.ensures) a.same in
-    let old = subst (RepresentsConsistent n (counts c.args.summed.now.sums) (g.L.LinkOps.table c.args.summed.now.links) c.args.tree.now.head) same q.consistent in
+    let old = subst (RepresentsConsistent n (counts c.args.summed.now.summaries) (g.L.LinkOps.table c.args.summed.now.links) c.args.tree.now.head) same q.consistent in
     let d = e.released in
     let extent = (e.frame q.members q.shown.shows).extent in
-    let right : RepresentsConsistent n (counts c.remove.new.links.sums) (g.L.LinkOps.table c.remove.new.links.links) c.remove.new.self.head (a.front ++ a.back)
+    let right : RepresentsConsistent n (counts c.remove.new.links.summaries) (g.L.LinkOps.table c.remove.new.links.links) c.remove.new.self.head (a.front ++ a.back)
     = (e.removed a.front a.back old.0, removed_right a.front a.back d old.1) in
     record {
       shown = (_, right.0);
-      covered = λ p is. d.covers p (room_linked n g.L.LinkOps.table g.L.LinkOps.linked g.met.L.RBTreeOps.linked_alike g.met.L.LinkOps.linked_is_covered (λ p. index_of p < room_of c.args.summed.now.sums)
+      covered = λ p is. d.covers p (room_linked n g.L.LinkOps.table g.L.LinkOps.linked g.met.L.RBTreeOps.linked_alike g.met.L.LinkOps.linked_is_covered (λ p. index_of p < room_of c.args.summed.now.summaries)
           c.args.summed.now.links q.room c.remove.new.links.links extent p is);
     }
 
@@ -44,10 +44,10 @@ returns g c =
     let e = c.remove.ensures in
     let a = at_position q.members c.args.position (c.in-Some.ensures q.members q.shown) in
     let same = subst (λ (p : Place). q.members ≡ a.front ++ p ∷ a.back) (sym c.new.ensures) a.same in
-    let old = subst (RepresentsConsistent n (counts c.args.summed.now.sums) (g.L.LinkOps.table c.args.summed.now.links) c.args.tree.now.head) same q.consistent in
+    let old = subst (RepresentsConsistent n (counts c.args.summed.now.summaries) (g.L.LinkOps.table c.args.summed.now.links) c.args.tree.now.head) same q.consistent in
     let d = e.released in
     let extent = (e.frame q.members q.shown.shows).extent in
-    let right : RepresentsConsistent n (counts c.remove.new.links.sums) (g.L.LinkOps.table c.remove.new.links.links) c.remove.new.self.head (a.front ++ a.back)
+    let right : RepresentsConsistent n (counts c.remove.new.links.summaries) (g.L.LinkOps.table c.remove.new.links.links) c.remove.new.self.head (a.front ++ a.back)
     = (e.removed a.front a.back old.0, removed_right a.front a.back d old.1) in
     record {
       ready = record {
@@ -55,6 +55,6 @@ returns g c =
         shown = c.refresh.ensures.summed (a.front ++ a.back) right;
         consistent = c.refresh.ensures.consistent (a.front ++ a.back) right;
         room = λ p covered. c.refresh.ensures.covers p (d.covers p (room_covered n g.L.LinkOps.table g.L.LinkOps.linked g.met.L.RBTreeOps.linked_alike g.met.L.LinkOps.linked_is_covered
-            (λ p. index_of p < room_of c.args.summed.now.sums) c.args.summed.now.links q.room c.remove.new.links.links extent p (rw c.refresh.ensures.links at covered)));
+            (λ p. index_of p < room_of c.args.summed.now.summaries) c.args.summed.now.links q.room c.remove.new.links.links extent p (rw c.refresh.ensures.links at covered)));
       };
     }

@@ -55,7 +55,7 @@ returns-clause-emptied c =
     let y : Party = party_of r2 in
     let parties : List Party = map party_of h3 in
     let before : map party_of h1 ≡ xs ++ x ∷ [] = ap (map party_of) first ∙ map-append party_of front (r1 ∷ []) in
-    let behind : parties ≡ xs ++ y ∷ [] = c.audit-2.ensures.same ∙ (ap (map party_of) second ∙ map-append party_of front (r2 ∷ [])) in
+    let after : parties ≡ xs ++ y ∷ [] = c.audit-2.ensures.same ∙ (ap (map party_of) second ∙ map-append party_of front (r2 ∷ [])) in
     let history = c.audit.ensures.history in
     let later = c.audit-2.ensures.history in
     let order : List Entry = history.0 in
@@ -63,7 +63,7 @@ returns-clause-emptied c =
     let many : length h1 ≡ length h0 =
     (let a = ap length c.audit.ensures.same in let b = length-map h1 party_of in let d = length-map h0 party_of in omega (arith, a, b, d)) in
     let as_many : length h3 ≡ length h1 =
-    (let a = ap length behind in let b = length-map h3 party_of in let d = ap length before in let e = length-map h1 party_of in
+    (let a = ap length after in let b = length-map h3 party_of in let d = ap length before in let e = length-map h1 party_of in
     let f = length-append xs (x ∷ []) in let i = length-append xs (y ∷ []) in omega (arith, a, b, d, e, f, i)) in
     let all = c.requires.all in
     let long0 = c.args.holders.now.ok.0 in
@@ -79,7 +79,7 @@ returns-clause-emptied c =
     let goes : GoesOn (name_of r1) order step (seen_of r2) = subst (λ l. GoesOn (name_of r1) l step (seen_of r2)) at steps.goes in
     let was_both = subst (IsHistory order) before was in
     let turn : last ≡ order ++ entry x.name step ∷ [] =
-    c.calls_go_in_turn.ensures order (seen_of r2) last (xs ++ x ∷ []) (xs ++ y ∷ []) x.name step was_both goes seen (subst (IsHistory last) behind is)
+    c.calls_go_in_turn.ensures order (seen_of r2) last (xs ++ x ∷ []) (xs ++ y ∷ []) x.name step was_both goes seen (subst (IsHistory last) after is)
     (one_on xs x y step was_both.named steps.name steps.gained) in
     let none : stack_after last k ≡ [] =
     ap (λ o. stack_after o k) turn ∙ (c.history_laws.ensures.takes order x.name k took.0 (subst (IsLegal at_first) turn is.legal)).1 in (

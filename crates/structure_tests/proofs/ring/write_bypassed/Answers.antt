@@ -5,7 +5,7 @@ use Rattle.structure_tests.proofs.ring.write_bypassed.Goals as goal
 pub bypass-requires : goal.bypass-requires
 bypass-requires g c = record {
   before = head_linked g.met.L.LinkedListOps.linked_alike c.prev-before.ensures.ring.1;
-  behind = head_linked g.met.L.LinkedListOps.linked_alike c.next-behind.ensures.ring.1;
+  after = head_linked g.met.L.LinkedListOps.linked_alike c.next-after.ensures.ring.1;
 }
 
 pub next-requires : goal.next-requires
@@ -16,7 +16,7 @@ next-requires g c = record {
 pub turn_to-requires : goal.turn_to-requires
 turn_to-requires g c = record {
   before = g.met.L.LinkOps.does_replay _ _ [] c.bypass.ensures.trace_stays _ ∙ head_linked g.met.L.LinkedListOps.linked_alike c.prev-before.ensures.ring.1;
-  behind = g.met.L.LinkOps.does_replay _ _ [] c.bypass.ensures.trace_stays _ ∙ head_linked g.met.L.LinkedListOps.linked_alike c.next-behind.ensures.ring.1;
+  after = g.met.L.LinkOps.does_replay _ _ [] c.bypass.ensures.trace_stays _ ∙ head_linked g.met.L.LinkedListOps.linked_alike c.next-after.ensures.ring.1;
   place = g.met.L.LinkOps.covered_has_name _ _ (g.met.L.LinkOps.linked_is_covered _ _ (head_linked g.met.L.LinkedListOps.linked_alike c.next-first.ensures.ring.1));
 }
 

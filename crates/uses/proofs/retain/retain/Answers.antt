@@ -22,7 +22,7 @@ loop-object-init g c =
       retains = λ s shown. (
         s,
         record {
-          behind = [];
+          after = [];
           gone = [];
           walked = rw (← e.borrows.3) (walk_begins (g.met.L.LinkOps.does_nothing _) (rw (e.borrows.2, e.borrows.3) shown) (e.position s shown));
           parted = λ k g parts. parts;

@@ -2,7 +2,7 @@ use Rattle.std.proofs.Common.{◌≡◌, ◌<◌, ◌∙◌, [], ◌∷◌, true
 use Rattle.ic_link_ops.specs.Prelude.{index_of, Cut, join, insert, Extent}
 use Rattle.ic_link_ops.proofs.Times.{times_append}
 use Rattle.ic_rbtree.proofs.KeptHeads.{shown}
-use Rattle.collections_tests.proofs.Ready.{on_ok, one_more, parts_right, ready_behind}
+use Rattle.collections_tests.proofs.Ready.{on_ok, one_more, parts_right, ready_then}
 use Rattle.collections_tests.proofs.tree.summaries.join_with.Goals as goal
 
 pub member_at-member-requires : goal.member_at-member-requires
@@ -33,7 +33,7 @@ returns g c =
     let steps = on_ok c.join-joined.result ok c.join-joined.ensures.acquired in
     let kept = g.E.TreeHead.kept in
     record {
-      ready = ready_behind kept steps (ap (λ (x : Extent). x.places) s.frame.extent ∙ q.covers)
+      ready = ready_then kept steps (ap (λ (x : Extent). x.places) s.frame.extent ∙ q.covers)
           (λ p covered. e.trace_stays.covers p (q.room p (subst (λ (x : Extent). index_of p < x.places) s.frame.extent covered))) put.frame.extent
           (join gap) (insert gap c.args.object) (parts_right kept q e.trace_stays (join gap) (join gap) m.shown (λ p there. inr there)) put.shows
           (one_more c.args.object [] (join gap) (insert gap c.args.object) (λ p. omega (arith, times_append p gap.front gap.back, times_append p gap.front (c.args.object ∷ gap.back))));

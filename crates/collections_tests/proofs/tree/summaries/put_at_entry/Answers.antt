@@ -15,6 +15,6 @@ returns-in-Ok g c =
     let b = rw one.1 at c.entry.ensures.vacant_borrows in
     let put = rw one.1 at c.in-Ok.ensures.vacant in
     let names = put.borrows in
-    let done : IsReady g.E.TreeHead.kept g.L.RBTreeOps.node g.L.LinkOps.table g.M.Sums.sums g.M.Sums.Covers c.in-Ok._cursor.list.now c.in-Ok._cursor.links.now
+    let done : IsReady g.E.TreeHead.kept g.L.RBTreeOps.node g.L.LinkOps.table g.M.Summaries.summaries g.M.Summaries.Covers c.in-Ok._cursor.list.now c.in-Ok._cursor.links.now
     = inserted_ready g.E.TreeHead.kept q (rw b.3 at put.acquired) v.gap (rw v.same q.shown) (rw b.3 at (put.inserted v.gap (rw (b.3, b.2, v.same) q.shown) (rw b.3 v.is_at))) in
     record { ready = search rules }

@@ -20,6 +20,6 @@ returns g c =
     let ok = sym c.is_ok.ensures.value ∙ is in
     let gap : Cut = record { front = m.front; back = c.member_at-member.result ∷ m.back } in
     let put = on_ok c.insert_before-inserted.result ok (i.inserted gap (rw (b.2, b.3) m.shown) c.cursor_mut_from_ptr-cursor.ensures.position) in
-    let done : IsReady g.E.TreeHead.kept g.L.RBTreeOps.node g.L.LinkOps.table g.M.Sums.sums g.M.Sums.Covers c.insert_before-inserted.new.self.list.now c.insert_before-inserted.new.self.links.now
+    let done : IsReady g.E.TreeHead.kept g.L.RBTreeOps.node g.L.LinkOps.table g.M.Summaries.summaries g.M.Summaries.Covers c.insert_before-inserted.new.self.list.now c.insert_before-inserted.new.self.links.now
     = inserted_ready g.E.TreeHead.kept q (rw b.3 at (on_ok c.insert_before-inserted.result ok i.acquired)) gap m.shown (rw b.3 at put) in
     record { ready = search rules }

@@ -17,6 +17,6 @@ returns g c =
     let gap : Cut = record { front = m.front; back = c.member_at-member.result ∷ m.back } in
     let put = at_some c.remove.result (i.answer ∙ at) (i.removed gap (rw (b.2, b.3) m.shown) at) in
     let steps = if_some _ c.remove.result (i.answer ∙ at) i.released in
-    let done : IsReady g.E.TreeHead.kept g.L.RBTreeOps.node g.L.LinkOps.table g.M.Sums.sums g.M.Sums.Covers c.remove.new.self.list.now c.remove.new.self.links.now
+    let done : IsReady g.E.TreeHead.kept g.L.RBTreeOps.node g.L.LinkOps.table g.M.Summaries.summaries g.M.Summaries.Covers c.remove.new.self.list.now c.remove.new.self.links.now
     = removed_ready g.E.TreeHead.kept q (rw b.3 at steps) (rw b.3 at put.frame.extent) m.front m.back m.shown put.shows in
     record { ready = search rules }

@@ -22,6 +22,6 @@ returns g c =
     let gap : Cut = record { front = m.front; back = c.member_at-member.result ∷ m.back } in
     let put = on_ok c.replace_with-replaced.result ok (i.replaced gap (rw (b.2, b.3) m.shown) at) in
     let steps = if_ok _ c.replace_with-replaced.result ok i.answer at i.exchanged in
-    let done : IsReady g.E.TreeHead.kept g.L.RBTreeOps.node g.L.LinkOps.table g.M.Sums.sums g.M.Sums.Covers c.replace_with-replaced.new.self.list.now c.replace_with-replaced.new.self.links.now
+    let done : IsReady g.E.TreeHead.kept g.L.RBTreeOps.node g.L.LinkOps.table g.M.Summaries.summaries g.M.Summaries.Covers c.replace_with-replaced.new.self.list.now c.replace_with-replaced.new.self.links.now
     = replaced_ready g.E.TreeHead.kept q (rw b.3 at steps) (rw b.3 at put.frame.extent) m.front m.back m.shown put.shows in
     record { ready = search rules }

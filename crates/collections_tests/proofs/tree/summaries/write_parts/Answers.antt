@@ -6,7 +6,7 @@ use Rattle.ic_augmented.specs.MarkLaws.{marks_still}
 use Rattle.ic_augmented.specs.StepLaws.{right_still}
 use Rattle.ic_augmented.specs.SummedSteps.{TraceSummed}
 use Rattle.ic_augmented.proofs.EditLemmas.{others_consistent}
-use Rattle.collections_tests.proofs.Ready.{both_right, parts_right, ready_behind}
+use Rattle.collections_tests.proofs.Ready.{both_right, parts_right, ready_then}
 use Rattle.collections_tests.proofs.tree.summaries.write_parts.Goals as goal
 
 pub member_at-member-requires : goal.member_at-member-requires
@@ -100,17 +100,17 @@ returns g c =
     let front_now = others_consistent n _ _ _ _ m.front f2.join
     (λ p there. f2.others back (rw f.links back_represented) p (times_absent p back (omega (arith, there, once p, times_append p m.front back)))) front_then in
     let mid = c.refresh-2.new.summed in
-    let still : TraceSummed g.L.LinkOps.Trace n g.L.LinkOps.table g.M.Sums.sums g.M.Sums.Covers mid mid []
+    let still : TraceSummed g.L.LinkOps.Trace n g.L.LinkOps.table g.M.Summaries.summaries g.M.Summaries.Covers mid mid []
     = record {
       links = g.met.L.LinkOps.does_nothing mid.links;
-      right = right_still n (g.L.LinkOps.table mid.links) (g.M.Sums.sums mid.sums);
-      marks = marks_still (g.M.Sums.sums mid.sums);
+      right = right_still n (g.L.LinkOps.table mid.links) (g.M.Summaries.summaries mid.summaries);
+      marks = marks_still (g.M.Summaries.summaries mid.summaries);
       covers = λ p h. h;
       join = refl;
     } in
     let put = c.append.ensures.appended gap (rw (f2.links, f.links) (record { front = s.keeps; back = s.hands_out; distinct = whole })) in
     record {
-      ready = ready_behind kept (c.append.ensures.keeps_links _ [] still) (rw (f2.links, f.links) (ap (λ (x : Extent). x.places) s.frame.extent ∙ q.covers))
+      ready = ready_then kept (c.append.ensures.keeps_links _ [] still) (rw (f2.links, f.links) (ap (λ (x : Extent). x.places) s.frame.extent ∙ q.covers))
           (λ p covered. f2.covers p (f.covers p (e.trace_stays.covers p (q.room p (subst (λ (x : Extent). index_of p < x.places) s.frame.extent (rw (f2.links, f.links) at covered))))))
-          put.frame.extent (join gap) (join gap) (both_right n (g.L.LinkOps.table mid.links) (g.M.Sums.sums mid.sums) m.front back (rw f2.links front_now.1) back_now.1) put.shows (λ p there. inr there);
+          put.frame.extent (join gap) (join gap) (both_right n (g.L.LinkOps.table mid.links) (g.M.Summaries.summaries mid.summaries) m.front back (rw f2.links front_now.1) back_now.1) put.shows (λ p there. inr there);
     }

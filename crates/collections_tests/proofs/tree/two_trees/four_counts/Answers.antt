@@ -11,4 +11,4 @@ returns-clause-room g c =
     omega (arith, room)
 
 pub returns-clause-stale : goal.returns-clause-stale
-returns-clause-stale g c q = (c.cover-covered.ensures.stays q).fresh ∙ no_room counted tt c.new-sums.result.cells.items c.new-sums.ensures q
+returns-clause-stale g c q = (c.cover-covered.ensures.stays q).fresh ∙ no_room counted tt c.new-summaries.result.cells.items c.new-summaries.ensures q

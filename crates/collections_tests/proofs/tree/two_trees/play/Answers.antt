@@ -14,8 +14,8 @@ insert_fresh-beside-requires-clause-shown g c = ([], nothing_there _ c.requires.
 pub nth-requires : goal.nth-requires
 nth-requires g c =
     let n = g.L.RBTreeOps.node in
-    let z = counts c.args.summed.now.sums in
-    let y = counts c.insert_fresh-put.new.summed.sums in
+    let z = counts c.args.summed.now.summaries in
+    let y = counts c.insert_fresh-put.new.summed.summaries in
     let p = c.reference.result in
     let q = c.reference-2.result in
     let e = c.insert_fresh-put.ensures in

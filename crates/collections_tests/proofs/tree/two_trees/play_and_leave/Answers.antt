@@ -19,7 +19,7 @@ remove_fresh-requires-clause-member g c =
     let e = c.insert_fresh-beside.ensures in
     let is : c.is_ok-2.result ≡ true = search rules in
     let two = alone (on_ok c.insert_fresh-beside.result (sym c.is_ok-2.ensures.value ∙ is)
-    (e.inserted [] (nothing_right (counts c.insert_fresh-put.new.summed.sums) (g.L.LinkOps.table c.insert_fresh-put.new.summed.links) c.requires.empty.1))) in
+    (e.inserted [] (nothing_right (counts c.insert_fresh-put.new.summed.summaries) (g.L.LinkOps.table c.insert_fresh-put.new.summed.links) c.requires.empty.1))) in
     let same = same_index c.reference-2.result c.reference-3.result (c.reference-2.ensures ∙ sym c.reference-3.ensures) in
     record { front = []; back = []; shown = named_so same two.shows }
 
@@ -28,8 +28,8 @@ nth-requires g c =
     let n = g.L.RBTreeOps.node in
     let v = g.L.LinkOps.table c.args.summed.now.links in
     let w = g.L.LinkOps.table c.insert_fresh-put.new.summed.links in
-    let z = counts c.args.summed.now.sums in
-    let y = counts c.insert_fresh-put.new.summed.sums in
+    let z = counts c.args.summed.now.summaries in
+    let y = counts c.insert_fresh-put.new.summed.summaries in
     let p = c.reference.result in
     let q = c.reference-2.result in
     let e = c.insert_fresh-put.ensures in

@@ -1,15 +1,15 @@
 use Rattle.std.proofs.Common.{◌≡◌, ℕ, ◌<◌, List, [], map, take, length, get_or, length-set, ◌∙◌, ap, sym, subst, arith}
 use Rattle.std.proofs.lemmas.List.{take_all, length-map}
-use Rattle.ic_atomic.specs.declared.hand.Hand.{Hand}
+use Rattle.ic_atomic.specs.declared.hand.HeldRecords.{HeldRecords}
 use Rattle.ic_atomic.specs.declared.claims.Holder.{Holder}
 use Rattle.ic_atomic.specs.Hands.{hand, both_hands}
 use Rattle.ic_atomic.specs.Holders.{holders_of, record_of, AreOneList}
 use Rattle.ic_atomic.proofs.RuleLemmas.{compares}
-use Rattle.ic_atomic.proofs.HolderLemmas.{HasHand, rest_back, first_back, one_back, others_empty, all_back, reported, told_whole, none_twice}
+use Rattle.ic_atomic.proofs.HolderLemmas.{HasRecords, rest_back, first_back, one_back, others_empty, all_back, reported, told_whole, none_twice}
 use Rattle.ic_atomic.proofs.claims.Claims.audit.Goals as goal
 
 pub load-requires : goal.load-requires
-load-requires g c = (c.loop-i.invariant.table, omega (arith, c.args.self.now.room), compares _ _ _ _ (ap (λ (v : Hand). v.size) c.loop-i.invariant.gathered))
+load-requires g c = (c.loop-i.invariant.table, omega (arith, c.args.self.now.room), compares _ _ _ _ (ap (λ (v : HeldRecords). v.size) c.loop-i.invariant.gathered))
 
 pub loop-i-2-preserved : goal.loop-i-2-preserved
 loop-i-2-preserved g c =
@@ -22,11 +22,11 @@ loop-i-2-preserved g c =
     let long : length now ≡ length hs = was.long in
     let in_hs : i < length hs = omega (arith, c.loop-i-2-test.true, c.len-i-end-2.ensures, c.loop-i.invariant.long) in
     let in_now : i < length now = omega (arith, in_hs, long) in
-    let all : Hand = c.loop-i-2.all.me.0 in
+    let all : HeldRecords = c.loop-i-2.all.me.0 in
     let first = c.first_of-record-in-loop-i-2 in
     let seat = c.put_after-in-loop-i-2.new.seat in
     let new : Holder = record { seat = seat } in
-    let empty_here : HasHand claims [] (c.index_mut-in-loop-i-2.result.now) = subst (HasHand claims []) (sym c.index_mut-in-loop-i-2.ensures.value) (was.empty i _ (omega arith) in_hs) in
+    let empty_here : HasRecords claims [] (c.index_mut-in-loop-i-2.result.now) = subst (HasRecords claims []) (sym c.index_mut-in-loop-i-2.ensures.value) (was.empty i _ (omega arith) in_hs) in
     record {
       long = length-set now i new ∙ long;
       table = first.ensures.seat;

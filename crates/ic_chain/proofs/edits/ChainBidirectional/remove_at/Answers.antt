@@ -20,7 +20,7 @@ unlink-requires g c =
         rest,
         whole,
         c.before-before.ensures k.0 k.1 k.2,
-        after_on g.met.K.ForwardLinks.leads c.behind-behind.ensures k.0.front rest c.in_ok-place.place whole on,
+        after_on g.met.K.ForwardLinks.leads c.after-after.ensures k.0.front rest c.in_ok-place.place whole on,
       );
     }
 
@@ -31,8 +31,8 @@ position_at-requires g c =
     let rest = drop 1 k.0.back in
     let whole = rw (first_is k.0.back (sym on ∙ k.2)) at k.1 in
     let before = c.before-before.ensures k.0 k.1 k.2 in
-    let behind = after_on g.met.K.ForwardLinks.leads c.behind-behind.ensures k.0.front rest c.in_ok-place.place whole on in
-    record { shown = λ reads. (record { front = k.0.front; back = rest }, c.unlink.ensures.removed k.0.front rest whole before behind, before, behind) }
+    let after = after_on g.met.K.ForwardLinks.leads c.after-after.ensures k.0.front rest c.in_ok-place.place whole on in
+    record { shown = λ reads. (record { front = k.0.front; back = rest }, c.unlink.ensures.removed k.0.front rest whole before after, before, after) }
 
 -- the member is gone, of whatever sequence was represented
 removes : (g : Over) (c : goal.After-drop-at g) (gap : Cut) → RepresentsChain g.K.ForwardLinks.Between g.K.ListKind.kept (g.L.LinkOps.table c.args.links.now) c.args.self.now (join gap)
@@ -44,17 +44,17 @@ removes g c gap shown is_before =
     let is = first_is gap.back (sym on ∙ is_before) in
     let whole = rw is at shown in
     let before = c.before-before.ensures gap shown is_before in
-    let behind = after_on g.met.K.ForwardLinks.leads c.behind-behind.ensures gap.front rest c.in_ok-place.place whole on in record {
-      shows = c.unlink.ensures.removed gap.front rest whole before behind;
-      frame = rw is (c.unlink.ensures.frame gap.front rest whole before behind);
+    let after = after_on g.met.K.ForwardLinks.leads c.after-after.ensures gap.front rest c.in_ok-place.place whole on in record {
+      shows = c.unlink.ensures.removed gap.front rest whole before after;
+      frame = rw is (c.unlink.ensures.frame gap.front rest whole before after);
     }
 
 -- and what was read after it stands after it
 moves : (g : Over) (c : goal.After-drop-at g) (gap : Cut) → RepresentsChain g.K.ForwardLinks.Between g.K.ListKind.kept (g.L.LinkOps.table c.args.links.now) c.args.self.now (join gap)
-    → IsBefore gap (g.K.Position.Position.member c.args.at.now) → IsSecondAfter gap c.behind-behind.result
+    → IsBefore gap (g.K.Position.Position.member c.args.at.now) → IsSecondAfter gap c.after-after.result
 moves g c gap shown is_before =
     let on = sym c.get.ensures ∙ c.in_ok-place.was in
-    after_on g.met.K.ForwardLinks.leads c.behind-behind.ensures gap.front (drop 1 gap.back) c.in_ok-place.place (rw (first_is gap.back (sym on ∙ is_before)) at shown) on
+    after_on g.met.K.ForwardLinks.leads c.after-after.ensures gap.front (drop 1 gap.back) c.in_ok-place.place (rw (first_is gap.back (sym on ∙ is_before)) at shown) on
 
 pub returns-clause-removed : goal.returns-clause-removed
 returns-clause-removed g c =

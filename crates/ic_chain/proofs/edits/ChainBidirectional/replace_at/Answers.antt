@@ -15,7 +15,7 @@ replace-requires-clause-shown g c =
     let on = sym c.get.ensures ∙ c.in-Some.is in
     let rest = drop 1 k.0.back in
     let whole = rw (first_is k.0.back (sym on ∙ k.2)) at k.1 in
-    (k.0.front, rest, whole, c.before-before.ensures k.0 k.1 k.2, after_on g.met.K.ForwardLinks.leads c.behind-behind.ensures k.0.front rest c.in-Some.out whole on)
+    (k.0.front, rest, whole, c.before-before.ensures k.0 k.1 k.2, after_on g.met.K.ForwardLinks.leads c.after-after.ensures k.0.front rest c.in-Some.out whole on)
 
 -- the object stands in the member's place, in whatever sequence was represented
 replaces : (g : Over) (c : goal.After-drop-at g) (gap : Cut) → RepresentsChain g.K.ForwardLinks.Between g.K.ListKind.kept (g.L.LinkOps.table c.args.links.now) c.args.self.now (join gap)
@@ -27,10 +27,10 @@ replaces g c gap shown is_before =
     let is = first_is gap.back (sym on ∙ is_before) in
     let whole = rw is at shown in
     let before = c.before-before.ensures gap shown is_before in
-    let behind = after_on g.met.K.ForwardLinks.leads c.behind-behind.ensures gap.front rest c.in-Some.out whole on in
+    let after = after_on g.met.K.ForwardLinks.leads c.after-after.ensures gap.front rest c.in-Some.out whole on in
     let e = c.if-not-replace.ensures in record {
-      shows = e.replaced gap.front rest whole before behind;
-      frame = rw is (e.frame gap.front rest whole before behind);
+      shows = e.replaced gap.front rest whole before after;
+      frame = rw is (e.frame gap.front rest whole before after);
     }
 
 pub returns-clause-replaced : goal.returns-clause-replaced
@@ -53,6 +53,6 @@ returns-clause-kept g c =
     let rest = drop 1 k.0.back in
     let whole = rw (first_is k.0.back (sym on ∙ k.2)) at k.1 in record {
       stands = stands_on_member k.0.front rest c.args.object (replaces g c k.0 k.1 k.2).shows c.of.ensures.on c.of.ensures.caches
-          (after_on g.met.K.ForwardLinks.leads c.behind-behind.ensures k.0.front rest c.in-Some.out whole on);
+          (after_on g.met.K.ForwardLinks.leads c.after-after.ensures k.0.front rest c.in-Some.out whole on);
       keeps = tt;
     }

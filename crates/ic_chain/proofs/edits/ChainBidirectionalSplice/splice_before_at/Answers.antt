@@ -10,8 +10,8 @@ splice_between-requires-clause-before g c q e =
     let k = gap_there (stands c.requires.stands) in
     gap_linked g.met.K.ForwardLinks.between_linked k.0.front k.0.back k.1 (sym e ∙ c.before-before.ensures k.0 k.1 k.2)
 
-pub splice_between-requires-clause-behind : goal.splice_between-requires-clause-behind
-splice_between-requires-clause-behind g c names q e =
+pub splice_between-requires-clause-after : goal.splice_between-requires-clause-after
+splice_between-requires-clause-after g c names q e =
     let k = gap_there (stands c.requires.stands) in
     gap_after_linked g.met.K.ForwardLinks.between_linked k.0.front k.0.back k.1 (sym e ∙ c.get-current.ensures ∙ k.2)
 

@@ -15,8 +15,8 @@ split_between-rest-requires-clause-before g c q e =
     let k = gap_there (stands c.requires.stands) in
     gap_linked g.met.K.ForwardLinks.between_linked k.0.front k.0.back k.1 (sym e ∙ c.before-before.ensures k.0 k.1 k.2)
 
-pub split_between-rest-requires-clause-behind : goal.split_between-rest-requires-clause-behind
-split_between-rest-requires-clause-behind g c names q e =
+pub split_between-rest-requires-clause-after : goal.split_between-rest-requires-clause-after
+split_between-rest-requires-clause-after g c names q e =
     let k = gap_there (stands c.requires.stands) in
     gap_after_linked g.met.K.ForwardLinks.between_linked k.0.front k.0.back k.1 (sym e ∙ c.get-current.ensures ∙ k.2)
 

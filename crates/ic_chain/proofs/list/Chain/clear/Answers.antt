@@ -8,10 +8,10 @@ use Rattle.ic_chain.proofs.list.Chain.clear.Goals as goal
 use Rattle.ic_chain.proofs.list.Chain.clear.Given.{Over}
 
 -- the one after the member that is next
-behind : (g : Over) {old new : Table g.row.L-Entry.Denot} {s : List Place} {p : Place} {prev next : Option Place}
+after : (g : Over) {old new : Table g.row.L-Entry.Denot} {s : List Place} {p : Place} {prev next : Option Place}
     → (k : Releases g.K.ForwardLinks.Between old new s (Some p)) → prev ≡ last k.done → next ≡ g.K.ForwardLinks.step (new.entry p) prev
     → next ≡ first (drop 1 k.rest)
-behind g k prev next = next ∙ rw prev (g.met.K.ForwardLinks.leads _ _ _ (next_between k))
+after g k prev next = next ∙ rw prev (g.met.K.ForwardLinks.leads _ _ _ (next_between k))
 
 -- what is left, as the entries lead through it
 left : (g : Over) (t : g.row.L.Denot) {old : Table g.row.L-Entry.Denot} {s : List Place} {current prev : Option Place} → IsDistinct s
@@ -36,7 +36,7 @@ pub loop-current-smaller : goal.loop-current-smaller
 loop-current-smaller g c =
     let shown = c.requires.shown.1 in
     let was = rw c.in-Some.is at (c.loop-current.invariant.released c.requires.shown.0 shown) in
-    let next = behind g was.0 was.1 c.next-current.ensures in
+    let next = after g was.0 was.1 c.next-current.ensures in
     let more = releases_more {new' = g.L.LinkOps.table c.release_link.new.self} shown.distinct was.0 c.release_link.ensures.frame.others next in
     rw c.in-Some.is
     (releases_fewer (left g c.loop-current.links shown.distinct was.0 was.1) (left g c.release_link.new.self shown.distinct more.0 (sym (ap last more.2 ∙ last_of_push was.0.done c.in-Some.place))) more.1)
@@ -46,7 +46,7 @@ loop-current-preserved g c = record {
   extent = c.release_link.ensures.frame.extent ∙ c.loop-current.invariant.extent;
   released = λ s shown.
       let was = rw c.in-Some.is at (c.loop-current.invariant.released s shown) in
-      let next = behind g was.0 was.1 c.next-current.ensures in
+      let next = after g was.0 was.1 c.next-current.ensures in
       let more = releases_more shown.distinct was.0 c.release_link.ensures.frame.others next in
       let steps = g.met.L.LinkOps.does_on _ _ _ _ _ was.2 c.release_link.ensures.released in
       (more.0, sym (ap last more.2 ∙ last_of_push was.0.done c.in-Some.place), rw (more.2, releases_append was.0.done (c.in-Some.place ∷ [])) steps);

@@ -9,8 +9,8 @@ use Rattle.ic_chain.proofs.list.Chain.detach.Goals as goal
 pub prev-before-requires : goal.prev-before-requires
 prev-before-requires g c = let m = c.requires.member in record { linked = g.met.K.ForwardLinks.between_linked _ _ _ (represents_middle m.front m.back m.shown) }
 
-pub next-behind-requires : goal.next-behind-requires
-next-behind-requires g c = let m = c.requires.member in record { linked = g.met.K.ForwardLinks.between_linked _ _ _ (represents_middle m.front m.back m.shown) }
+pub next-after-requires : goal.next-after-requires
+next-after-requires g c = let m = c.requires.member in record { linked = g.met.K.ForwardLinks.between_linked _ _ _ (represents_middle m.front m.back m.shown) }
 
 pub bypass-requires-clause-before : goal.bypass-requires-clause-before
 bypass-requires-clause-before g c q e =
@@ -19,12 +19,12 @@ bypass-requires-clause-before g c q e =
     let before = c.prev-before.ensures ∙ g.met.K.NamesBoth.tells_before _ None (first m.back) ∙ g.met.K.BidirectionalLinks.leads_back _ _ _ middle in
     gap_linked g.met.K.ForwardLinks.between_linked m.front (c.args.place ∷ m.back) m.shown (sym e ∙ before)
 
-pub bypass-requires-clause-behind : goal.bypass-requires-clause-behind
-bypass-requires-clause-behind g c names q e =
+pub bypass-requires-clause-after : goal.bypass-requires-clause-after
+bypass-requires-clause-after g c names q e =
     let m = c.requires.member in
     let middle = represents_middle m.front m.back m.shown in
     let before = c.prev-before.ensures ∙ g.met.K.NamesBoth.tells_before _ None (first m.back) ∙ g.met.K.BidirectionalLinks.leads_back _ _ _ middle in
-    next_linked g.met.K.ForwardLinks.between_linked m.front c.args.place m.back m.shown (sym e ∙ next_is g.met.K.ForwardLinks.leads m.front m.back m.shown before c.next-behind.ensures)
+    next_linked g.met.K.ForwardLinks.between_linked m.front c.args.place m.back m.shown (sym e ∙ next_is g.met.K.ForwardLinks.leads m.front m.back m.shown before c.next-after.ensures)
 
 pub bypass-requires-clause-next : goal.bypass-requires-clause-next
 bypass-requires-clause-next g c =
@@ -32,7 +32,7 @@ bypass-requires-clause-next g c =
     let m = c.requires.member in
     let middle = represents_middle m.front m.back m.shown in
     let before = c.prev-before.ensures ∙ g.met.K.NamesBoth.tells_before _ None (first m.back) ∙ g.met.K.BidirectionalLinks.leads_back _ _ _ middle in
-    end_named _ _ (λ q e. L.covered_has_name _ q (L.linked_is_covered _ q (next_linked g.met.K.ForwardLinks.between_linked m.front c.args.place m.back m.shown (sym e ∙ next_is g.met.K.ForwardLinks.leads m.front m.back m.shown before c.next-behind.ensures))))
+    end_named _ _ (λ q e. L.covered_has_name _ q (L.linked_is_covered _ q (next_linked g.met.K.ForwardLinks.between_linked m.front c.args.place m.back m.shown (sym e ∙ next_is g.met.K.ForwardLinks.leads m.front m.back m.shown before c.next-after.ensures))))
 
 pub bypass-requires-clause-out : goal.bypass-requires-clause-out
 bypass-requires-clause-out g c =
@@ -44,7 +44,7 @@ pub returns-clause-removed : goal.returns-clause-removed
 returns-clause-removed g c front back shown =
     let middle = represents_middle front back shown in
     let before = c.prev-before.ensures ∙ g.met.K.NamesBoth.tells_before _ None (first back) ∙ g.met.K.BidirectionalLinks.leads_back _ _ _ middle in
-    c.bypass.ensures.shows front back shown before (next_is g.met.K.ForwardLinks.leads front back shown before c.next-behind.ensures)
+    c.bypass.ensures.shows front back shown before (next_is g.met.K.ForwardLinks.leads front back shown before c.next-after.ensures)
 
 pub returns-clause-held : goal.returns-clause-held
 returns-clause-held g c =
@@ -56,10 +56,10 @@ returns-clause-frame g c s shown =
     let m = c.requires.member in
     let middle = represents_middle m.front m.back m.shown in
     let before = c.prev-before.ensures ∙ g.met.K.NamesBoth.tells_before _ None (first m.back) ∙ g.met.K.BidirectionalLinks.leads_back _ _ _ middle in
-    let behind = next_is g.met.K.ForwardLinks.leads m.front m.back m.shown before c.next-behind.ensures in
+    let after = next_is g.met.K.ForwardLinks.leads m.front m.back m.shown before c.next-after.ensures in
     rw (← one_represented g.met.K.ForwardLinks.leads m.shown shown) (record {
       extent = c.bypass.ensures.extent;
       others = λ q out.
-          let apart = beside_not m.front m.back c.args.place before behind out in
+          let apart = beside_not m.front m.back c.args.place before after out in
           c.bypass.ensures.others q apart.0 (λ _. apart.1);
     })

@@ -45,11 +45,11 @@ set_prev_or_tail-requires-clause-linked g c names q e =
     ∙ gap_after_linked g.met.K.ForwardLinks.between_linked r.0.front r.0.back (represents_beside {new = g.L.LinkOps.table c.link_between.new.links} r.1 out a.frame.others) (sym e ∙ r.3)
 
 pub returns-clause-frame : goal.returns-clause-frame
-returns-clause-frame g c gap shown before behind =
+returns-clause-frame g c gap shown before after =
     let a = c.if-not-link_between.ensures in record {
       extent = c.set_prev_or_tail.ensures.extent ∙ c.set_next_or_head.ensures.extent ∙ a.frame.extent;
       others = λ q out.
-          let beside = gap_not gap.front gap.back before behind out.1 in
+          let beside = gap_not gap.front gap.back before after out.1 in
           c.set_prev_or_tail.ensures.turns.others q beside.1 ∙ c.set_next_or_head.ensures.turns.others q beside.0 ∙ a.frame.others q out.0;
     }
 
@@ -59,17 +59,17 @@ returns-clause-acquired g c =
     L.does_on _ _ _ _ _ (L.does_on _ _ _ _ _ c.if-not-link_between.ensures.acquired c.set_next_or_head.ensures.trace_stays) c.set_prev_or_tail.ensures.trace_stays
 
 pub returns-clause-inserted : goal.returns-clause-inserted
-returns-clause-inserted g c gap shown before behind =
+returns-clause-inserted g c gap shown before after =
     let a = c.if-not-link_between.ensures in
     let links = g.met.L.LinkOps.does_replay _ _ _ a.acquired in
     let out = free_absent g.met.K.ForwardLinks.between_linked shown links.was in
-    let apart = gap_not gap.front gap.back before behind out in
+    let apart = gap_not gap.front gap.back before after out in
     let was = rw (← c.self.view_is) at shown in
     record {
       shows = represents_insert {t3 = g.L.LinkOps.table c.set_prev_or_tail.new.links} {list' = list_head c.set_next_or_head.new.head c.set_prev_or_tail.new.tail}
-          gap.front gap.back before behind (represents_beside {new = g.L.LinkOps.table c.link_between.new.links} was out a.frame.others) out
+          gap.front gap.back before after (represents_beside {new = g.L.LinkOps.table c.link_between.new.links} was out a.frame.others) out
           c.set_next_or_head.ensures.turns c.set_prev_or_tail.ensures.turns
           (rw (c.set_prev_or_tail.ensures.turns.others _ apart.1, c.set_next_or_head.ensures.turns.others _ apart.0) a.set) (λ q other. refl)
           c.set_next_or_head.ensures.head c.set_prev_or_tail.ensures.tail;
-      frame = returns-clause-frame g c gap shown before behind;
+      frame = returns-clause-frame g c gap shown before after;
     }

@@ -5,7 +5,7 @@ use Rattle.ic_link_ops.proofs.Naming.{end_named}
 use Rattle.ic_chain.proofs.list.Chain.insert_linked.Goals as goal
 
 pub set_prev_or_tail-requires-clause-linked : goal.set_prev_or_tail-requires-clause-linked
-set_prev_or_tail-requires-clause-linked g c names q e = g.met.L.LinkOps.does_replay _ _ [] c.set_next_or_head.ensures.trace_stays q ∙ c.requires.behind names q e
+set_prev_or_tail-requires-clause-linked g c names q e = g.met.L.LinkOps.does_replay _ _ [] c.set_next_or_head.ensures.trace_stays q ∙ c.requires.after names q e
 
 pub set_prev_or_tail-requires-clause-from : goal.set_prev_or_tail-requires-clause-from
 set_prev_or_tail-requires-clause-from g c =
@@ -18,9 +18,9 @@ set_neighbors-requires-clause-prev g c =
     end_named _ _ (λ q e. L.covered_has_name _ q (L.linked_is_covered _ q (c.requires.before q e)))
 
 pub returns-clause-shows : goal.returns-clause-shows
-returns-clause-shows g c front back shown before behind free =
+returns-clause-shows g c front back shown before after free =
     represents_insert {t3 = g.L.LinkOps.table c.set_neighbors.new.links} {list' = list_head c.set_next_or_head.new.head c.set_prev_or_tail.new.tail}
-    front back before behind (rw (← c.self.view_is) at shown) free c.set_next_or_head.ensures.turns c.set_prev_or_tail.ensures.turns
+    front back before after (rw (← c.self.view_is) at shown) free c.set_next_or_head.ensures.turns c.set_prev_or_tail.ensures.turns
     c.set_neighbors.ensures.set c.set_neighbors.ensures.frame.others c.set_next_or_head.ensures.head c.set_prev_or_tail.ensures.tail
 
 pub returns-clause-trace_stays : goal.returns-clause-trace_stays

@@ -8,8 +8,8 @@ use Rattle.ic_chain.proofs.list.Chain.move_to_front.Goals as goal
 pub detach-requires : goal.detach-requires
 detach-requires g c = record { member = rw c.place-place.ensures c.requires.member }
 
-pub insert_linked-requires-clause-behind : goal.insert_linked-requires-clause-behind
-insert_linked-requires-clause-behind g c names q e =
+pub insert_linked-requires-clause-after : goal.insert_linked-requires-clause-after
+insert_linked-requires-clause-after g c names q e =
     let m = c.requires.member in
     let off = c.detach.ensures.removed m.front m.back (rw (← c.place-place.ensures) at m.shown) in
     gap_after_linked g.met.K.ForwardLinks.between_linked [] (m.front ++ m.back) off (sym e ∙ c.first-first.ensures ∙ off.head)

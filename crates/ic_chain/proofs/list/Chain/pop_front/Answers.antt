@@ -6,7 +6,7 @@ pub returns-clause-removed : goal.returns-clause-removed
 returns-clause-removed g c s shown =
     let whole = rw (represents_first s shown (sym c.first.ensures ∙ c.in_ok-front.was)) at shown in
     c.unlink.ensures.removed [] (drop 1 s) whole refl
-    (c.next-behind.ensures ∙ g.met.K.ForwardLinks.leads _ _ _ (represents_middle [] (drop 1 s) whole))
+    (c.next-after.ensures ∙ g.met.K.ForwardLinks.leads _ _ _ (represents_middle [] (drop 1 s) whole))
 
 pub returns-clause-frame : goal.returns-clause-frame
 returns-clause-frame g c s shown =
@@ -14,4 +14,4 @@ returns-clause-frame g c s shown =
     let whole = rw is at shown in
     rw is
     (c.unlink.ensures.frame [] (drop 1 s) whole refl
-    (c.next-behind.ensures ∙ g.met.K.ForwardLinks.leads _ _ _ (represents_middle [] (drop 1 s) whole)))
+    (c.next-after.ensures ∙ g.met.K.ForwardLinks.leads _ _ _ (represents_middle [] (drop 1 s) whole)))

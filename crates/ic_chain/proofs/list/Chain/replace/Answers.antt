@@ -12,8 +12,8 @@ replace_linked-requires-clause-before g c q e =
     let absent = free_absent law r.2 (g.met.L.LinkOps.does_replay _ _ _ a.acquired).was in
     gap_linked law r.0 (c.args.out ∷ r.1) (represents_beside {new = g.L.LinkOps.table c.acquire_link.new.self} r.2 absent a.frame.others) (sym e ∙ r.3)
 
-pub replace_linked-requires-clause-behind : goal.replace_linked-requires-clause-behind
-replace_linked-requires-clause-behind g c names q e =
+pub replace_linked-requires-clause-after : goal.replace_linked-requires-clause-after
+replace_linked-requires-clause-after g c names q e =
     let r = c.requires.shown in
     let a = c.if-not-acquire_link.ensures in
     let law = g.met.K.ForwardLinks.between_linked in
@@ -42,12 +42,12 @@ release_link-requires g c =
     record { linked = g.met.L.LinkOps.does_replay _ _ [] c.replace_linked.ensures.trace_stays _ ∙ law _ _ _ (represents_middle r.0 r.1 now) }
 
 pub returns-clause-replaced : goal.returns-clause-replaced
-returns-clause-replaced g c front back shown before behind =
+returns-clause-replaced g c front back shown before after =
     let a = c.if-not-acquire_link.ensures in
     let absent = free_absent g.met.K.ForwardLinks.between_linked shown (g.met.L.LinkOps.does_replay _ _ _ a.acquired).was in
     let now = represents_beside {new = g.L.LinkOps.table c.acquire_link.new.self} shown absent a.frame.others in
     let apart = (absent_right c.args.object front (c.args.out ∷ back) absent).0 in
-    let put = c.replace_linked.ensures.shows front back now before behind absent in
+    let put = c.replace_linked.ensures.shows front back now before after absent in
     represents_beside {new = g.L.LinkOps.table c.release_link.new.self} put
     (absent_with front back c.args.object c.args.out (λ e. apart (sym e)) (distinct_middle front back c.args.out shown.distinct)) c.release_link.ensures.frame.others
 
@@ -56,13 +56,13 @@ returns-clause-exchanged g c =
     let L = g.met.L.LinkOps in L.does_on _ _ _ _ _ (L.does_on _ _ _ _ _ c.if-not-acquire_link.ensures.acquired c.replace_linked.ensures.trace_stays) c.release_link.ensures.released
 
 pub returns-clause-frame : goal.returns-clause-frame
-returns-clause-frame g c front back shown before behind =
+returns-clause-frame g c front back shown before after =
     let a = c.if-not-acquire_link.ensures in
     let put = c.replace_linked.ensures in
     let released = c.release_link.ensures.frame in
     record {
       extent = released.extent ∙ put.extent ∙ a.frame.extent;
       others = λ q out.
-          let apart = beside_not front back c.args.out before behind out.1 in
+          let apart = beside_not front back c.args.out before after out.1 in
           released.others q (absent_right q front (c.args.out ∷ back) out.1).0 ∙ put.others q apart.0 out.0 (λ _. apart.1) ∙ a.frame.others q out.0;
     }

@@ -8,12 +8,12 @@ use Rattle.ic_chain.proofs.Walking.{told_some, told_none, turned_nowhere, turned
 use Rattle.ic_chain.proofs.list.Chain.splice_between.Goals as goal
 
 -- a list's own words, by the first member that was spliced in
-begins_alike : {W : Type 0} {kept : Option Place → W} {old new : ListHead W} {before behind begins first end : Option Place} → begins ≡ first
-    → TurnsEnds kept old new before behind begins end → TurnsEnds kept old new before behind first end
+begins_alike : {W : Type 0} {kept : Option Place → W} {old new : ListHead W} {before after begins first end : Option Place} → begins ≡ first
+    → TurnsEnds kept old new before after begins end → TurnsEnds kept old new before after first end
 begins_alike {old = old} {before = before} same turns = record { head = turns.head ∙ ap (λ f. end_of before f old.head) same; tail = turns.tail }
 
 pub set_prev_or_tail-requires-clause-linked : goal.set_prev_or_tail-requires-clause-linked
-set_prev_or_tail-requires-clause-linked g c names q e = g.met.L.LinkOps.does_replay _ _ [] c.set_next_or_head.ensures.trace_stays q ∙ c.requires.behind names q e
+set_prev_or_tail-requires-clause-linked g c names q e = g.met.L.LinkOps.does_replay _ _ [] c.set_next_or_head.ensures.trace_stays q ∙ c.requires.after names q e
 
 pub set_prev_or_tail-requires-clause-from : goal.set_prev_or_tail-requires-clause-from
 set_prev_or_tail-requires-clause-from g c =
@@ -37,7 +37,7 @@ set_next-requires-clause-linked g c =
     (c.requires.end c.in-Some-end.end c.in-Some-end.is)
 
 pub returns-in-Some-end-clause-spliced : goal.returns-in-Some-end-clause-spliced
-returns-in-Some-end-clause-spliced g c gap t shown before behind other kept_last apart =
+returns-in-Some-end-clause-spliced g c gap t shown before after other kept_last apart =
     let is_end = c.in-Some-end.is ∙ told_some _ _ (rw c.in-Some-end.is at kept_last) in
     let list : ListHead g.row.K-Tail.Denot = list_head (Some c.in-Some.first) c.args.given.tail in
     let given : RepresentsChain g.K.ForwardLinks.Between g.K.ListKind.kept (g.L.LinkOps.table c.args.links.now) list t =
@@ -46,13 +46,13 @@ returns-in-Some-end-clause-spliced g c gap t shown before behind other kept_last
     let turn4 = c.set_next.ensures in
     record {
       shows = represents_splice {t4 = g.L.LinkOps.table c.set_next.new.links} {list' = list_head c.set_next_or_head.new.head c.set_prev_or_tail.new.tail} {given = list}
-          gap.front t gap.back c.in-Some.first refl is_end before behind (rw (← c.self.view_is) at shown) given apart
+          gap.front t gap.back c.in-Some.first refl is_end before after (rw (← c.self.view_is) at shown) given apart
           c.set_next_or_head.ensures.turns c.set_prev_or_tail.ensures.turns turn3.turns (rw c.in-Some-end.is turn4.turns) c.set_next_or_head.ensures.head c.set_prev_or_tail.ensures.tail;
       frame = record {
         extent = turn4.frame.extent ∙ turn3.frame.extent ∙ c.set_prev_or_tail.ensures.extent ∙ c.set_next_or_head.ensures.extent;
         others = λ q out.
             let rest = absent_right q gap.front (t ++ gap.back) out in
-            let beside = gap_not gap.front gap.back before behind
+            let beside = gap_not gap.front gap.back before after
             (absent_both q gap.front gap.back (absent_left q gap.front (t ++ gap.back) out) (absent_right q t gap.back rest)) in
             let apart_ends = ends_not given is_end (absent_left q t gap.back rest) in
             turn4.frame.others q (λ e. apart_ends.1 (c.in-Some-end.is ∙ ap Some (sym e))) ∙ turn3.frame.others q (λ e. apart_ends.0 (ap Some (sym e)))
@@ -72,7 +72,7 @@ returns-in-Some-end-clause-ends g c first is =
 
 -- no last member is told: the kind keeps none, and nothing stands after
 pub returns-clause-spliced : goal.returns-clause-spliced
-returns-clause-spliced g c gap t shown before behind other kept_last apart =
+returns-clause-spliced g c gap t shown before after other kept_last apart =
     let list : ListHead g.row.K-Tail.Denot = list_head (Some c.in-Some.first) c.args.given.tail in
     let given : RepresentsChain g.K.ForwardLinks.Between g.K.ListKind.kept (g.L.LinkOps.table c.args.links.now) list t =
     record { distinct = other.distinct; chain = other.chain; head = sym c.in-Some.is ∙ c.first.ensures ∙ other.head; tail = other.tail } in
@@ -81,14 +81,14 @@ returns-clause-spliced g c gap t shown before behind other kept_last apart =
     let turn3 = c.set_prev.ensures in
     record {
       shows = represents_splice {t4 = g.L.LinkOps.table c.set_prev.new.links} {list' = list_head c.set_next_or_head.new.head c.set_prev_or_tail.new.tail} {given = list}
-          gap.front t gap.back c.in-Some.first refl refl before behind (rw (← c.self.view_is) at shown) given apart
+          gap.front t gap.back c.in-Some.first refl refl before after (rw (← c.self.view_is) at shown) given apart
           c.set_next_or_head.ensures.turns (turned_nowhere none.1 c.set_prev_or_tail.ensures.turns) turn3.turns (turned_to_none none.1) c.set_next_or_head.ensures.head
           (λ end is. c.set_prev_or_tail.ensures.tail end is ∙ g.met.K.ListKind.tells_nothing none.0 _ _);
       frame = record {
         extent = turn3.frame.extent ∙ c.set_prev_or_tail.ensures.extent ∙ c.set_next_or_head.ensures.extent;
         others = λ q out.
             let rest = absent_right q gap.front (t ++ gap.back) out in
-            let beside = gap_not gap.front gap.back before behind
+            let beside = gap_not gap.front gap.back before after
             (absent_both q gap.front gap.back (absent_left q gap.front (t ++ gap.back) out) (absent_right q t gap.back rest)) in
             let apart_ends = ends_not given refl (absent_left q t gap.back rest) in
             turn3.frame.others q (λ e. apart_ends.0 (ap Some (sym e)))

@@ -7,8 +7,8 @@ use Rattle.ic_chain.proofs.list.Chain.unlink.Goals as goal
 pub bypass-requires-clause-before : goal.bypass-requires-clause-before
 bypass-requires-clause-before g c q e = let r = c.requires.shown in gap_linked g.met.K.ForwardLinks.between_linked r.0 (c.args.place ∷ r.1) r.2 (sym e ∙ r.3)
 
-pub bypass-requires-clause-behind : goal.bypass-requires-clause-behind
-bypass-requires-clause-behind g c names q e = let r = c.requires.shown in next_linked g.met.K.ForwardLinks.between_linked r.0 c.args.place r.1 r.2 (sym e ∙ r.4)
+pub bypass-requires-clause-after : goal.bypass-requires-clause-after
+bypass-requires-clause-after g c names q e = let r = c.requires.shown in next_linked g.met.K.ForwardLinks.between_linked r.0 c.args.place r.1 r.2 (sym e ∙ r.4)
 
 pub bypass-requires-clause-next : goal.bypass-requires-clause-next
 bypass-requires-clause-next g c =
@@ -28,18 +28,18 @@ release_link-requires g c =
     record { linked = g.met.L.LinkOps.does_replay _ _ [] c.bypass.ensures.trace_stays c.args.place ∙ g.met.K.ForwardLinks.between_linked _ _ _ (represents_middle r.0 r.1 r.2) }
 
 pub returns-clause-removed : goal.returns-clause-removed
-returns-clause-removed g c front back shown before behind =
-    let off = c.bypass.ensures.shows front back shown before behind in
+returns-clause-removed g c front back shown before after =
+    let off = c.bypass.ensures.shows front back shown before after in
     represents_beside {new = g.L.LinkOps.table c.release_link.new.self} off (distinct_middle front back c.args.place shown.distinct) c.release_link.ensures.frame.others
 
 pub returns-clause-released : goal.returns-clause-released
 returns-clause-released g c = g.met.L.LinkOps.does_on _ _ _ _ _ c.bypass.ensures.trace_stays c.release_link.ensures.released
 
 pub returns-clause-frame : goal.returns-clause-frame
-returns-clause-frame g c front back shown before behind =
+returns-clause-frame g c front back shown before after =
     let released = c.release_link.ensures.frame in record {
       extent = released.extent ∙ c.bypass.ensures.extent;
       others = λ q out.
-          let beside = beside_not front back c.args.place before behind out in
+          let beside = beside_not front back c.args.place before after out in
           released.others q (absent_right q front (c.args.place ∷ back) out).0 ∙ c.bypass.ensures.others q beside.0 (λ _. beside.1);
     }

@@ -17,11 +17,11 @@ returns-then-marks-index-clause-gathered g c s shown free =
     walks_met g.K.ForwardLinks.step g.met.K.ForwardLinks.leads c.loop-current.invariant.walks c.in-Some.is
     (subst (λ (j : ℕ). slice_index_or c.loop-current.marks j false ≡ true) c.index-index.ensures.value c.if-marks-index.true) s shown.distinct shown.chain shown.head free
 
-pub returns-then-not-stands_behind-clause-gathered : goal.returns-then-not-stands_behind-clause-gathered
-returns-then-not-stands_behind-clause-gathered g c s shown free =
+pub returns-then-not-names_prev-clause-gathered : goal.returns-then-not-names_prev-clause-gathered
+returns-then-not-names_prev-clause-gathered g c s shown free =
     let stands = checks_stands g.K.ForwardLinks.step g.met.K.ForwardLinks.leads c.loop-current.invariant.walks.checks c.in-Some.is s shown.chain shown.head in
-    let behind = c.stands_behind.ensures.1 (stands_after g.met.K.ForwardLinks.leads stands.2) in
-    cc behind
+    let after = c.names_prev.ensures.1 (stands_after g.met.K.ForwardLinks.leads stands.2) in
+    cc after
 
 pub overflow_add-count : goal.overflow_add-count
 overflow_add-count g c = let few = walks_few g.K.ForwardLinks.step g.met.K.ForwardLinks.leads c.loop-current.invariant.walks in omega (arith, few)
@@ -30,9 +30,9 @@ pub loop-current-smaller : goal.loop-current-smaller
 loop-current-smaller g c =
     let k = c.loop-current.invariant.walks in
     let covered = g.met.L.LinkOps.linked_is_covered c.args.links.now _ (sym c.tells_linked.ensures ∙ c.if-not-tells_linked.false) in
-    let more = walks_more g.K.ForwardLinks.step g.met.K.ForwardLinks.leads k {ahead = c.next-behind.result} {more = c.loop-current.count + 1} c.in-Some.is
+    let more = walks_more g.K.ForwardLinks.step g.met.K.ForwardLinks.leads k {ahead = c.next-after.result} {more = c.loop-current.count + 1} c.in-Some.is
     (subst (λ (j : ℕ). slice_index_or c.loop-current.marks j false ≡ false) c.index-index.ensures.value c.if-marks-index.false)
-    (rw c.next-behind.ensures (c.stands_behind.ensures.0 c.if-not-stands_behind.false)) refl c.index-index.ensures.value (omega (arith, covered, k.also.long, c.requires.room, c.index-index.ensures.value)) in
+    (rw c.next-after.ensures (c.names_prev.ensures.0 c.if-not-names_prev.false)) refl c.index-index.ensures.value (omega (arith, covered, k.also.long, c.requires.room, c.index-index.ensures.value)) in
     let within = walks_covered g.K.ForwardLinks.step g.met.K.ForwardLinks.leads more (λ q b a h. g.met.L.LinkOps.linked_is_covered c.args.links.now q (g.met.K.ForwardLinks.between_linked _ b a h)) in
     omega (arith, within)
 
@@ -43,7 +43,7 @@ loop-current-preserved g c =
     record {
       walks = walks_more g.K.ForwardLinks.step g.met.K.ForwardLinks.leads k c.in-Some.is
           (subst (λ (j : ℕ). slice_index_or c.loop-current.marks j false ≡ false) c.index-index.ensures.value c.if-marks-index.false)
-          (rw c.next-behind.ensures (c.stands_behind.ensures.0 c.if-not-stands_behind.false)) refl c.index-index.ensures.value (omega (arith, covered, k.also.long, c.requires.room, c.index-index.ensures.value));
+          (rw c.next-after.ensures (c.names_prev.ensures.0 c.if-not-names_prev.false)) refl c.index-index.ensures.value (omega (arith, covered, k.also.long, c.requires.room, c.index-index.ensures.value));
     }
 
 pub returns-then-ends_with-clause-gathered : goal.returns-then-ends_with-clause-gathered
@@ -65,8 +65,8 @@ returns-then-not-tells_linked-clause-only g c = walks_only g.K.ForwardLinks.step
 pub returns-then-marks-index-clause-only : goal.returns-then-marks-index-clause-only
 returns-then-marks-index-clause-only g c = walks_only g.K.ForwardLinks.step g.met.K.ForwardLinks.leads c.loop-current.invariant.walks g.L.LinkOps.linked g.met.K.ForwardLinks.between_linked
 
-pub returns-then-not-stands_behind-clause-only : goal.returns-then-not-stands_behind-clause-only
-returns-then-not-stands_behind-clause-only g c = walks_only g.K.ForwardLinks.step g.met.K.ForwardLinks.leads c.loop-current.invariant.walks g.L.LinkOps.linked g.met.K.ForwardLinks.between_linked
+pub returns-then-not-names_prev-clause-only : goal.returns-then-not-names_prev-clause-only
+returns-then-not-names_prev-clause-only g c = walks_only g.K.ForwardLinks.step g.met.K.ForwardLinks.leads c.loop-current.invariant.walks g.L.LinkOps.linked g.met.K.ForwardLinks.between_linked
 
 pub returns-then-ends_with-clause-only : goal.returns-then-ends_with-clause-only
 returns-then-ends_with-clause-only g c = walks_only g.K.ForwardLinks.step g.met.K.ForwardLinks.leads c.loop-current.invariant.walks g.L.LinkOps.linked g.met.K.ForwardLinks.between_linked

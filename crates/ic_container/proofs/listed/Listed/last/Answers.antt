@@ -9,7 +9,7 @@ returns-clause-last g c = rw (← c.self.view_is) (c.last.ensures ∙ (c.self.in
 pub returns-clause-placed : goal.returns-clause-placed
 returns-clause-placed g c = rw (← c.self.view_is, c.last.ensures) (listed_last c.self.invariant)
 
-pub returns-clause-behind : goal.returns-clause-behind
-returns-clause-behind g c = rw (← c.self.view_is) (λ front back place is same.
+pub returns-clause-after : goal.returns-clause-after
+returns-clause-after g c = rw (← c.self.view_is) (λ front back place is same.
     let k = c.self.invariant in
     without_last _ (listed_distinct k) (sym (k.holds.shown 0).tail ∙ sym c.last.ensures ∙ is) front back same)

@@ -1,16 +1,16 @@
 use Rattle.std.proofs.Common.{◌≡◌, ℕ, ◌<◌, List, [], ◌∷◌, map, take, length, get_or, length-set, ◌∙◌, ap, sym, subst, arith}
 use Rattle.std.proofs.lemmas.List.{take_all, length-map}
-use Rattle.ic_lock_free_stack.specs.declared.hand.Hand.{Hand}
+use Rattle.ic_lock_free_stack.specs.declared.hand.HeldAccounts.{HeldAccounts}
 use Rattle.ic_lock_free_stack.specs.declared.hand.Account.{Account}
 use Rattle.ic_lock_free_stack.specs.declared.stacks.Holder.{Holder}
 use Rattle.ic_lock_free_stack.specs.Hands.{hand, both_hands}
 use Rattle.ic_lock_free_stack.specs.Holders.{account_of, party_of, AreOneHistory}
 use Rattle.ic_lock_free_stack.proofs.MovingLemmas.{compares}
-use Rattle.ic_lock_free_stack.proofs.AuditLemmas.{HasHand, seeing, rest_back, first_back, one_back, others_empty, account_back, holder_back, chain_back, all_back, answered, told_whole, none_twice}
+use Rattle.ic_lock_free_stack.proofs.AuditLemmas.{HasAccounts, seeing, rest_back, first_back, one_back, others_empty, account_back, holder_back, chain_back, all_back, answered, told_whole, none_twice}
 use Rattle.ic_lock_free_stack.proofs.stacks.Stacks.audit.Goals as goal
 
 pub load-requires : goal.load-requires
-load-requires g c = (c.loop-i.invariant.table, omega (arith, c.args.self.now.some, c.args.self.now.words), compares _ _ _ _ (ap (λ (v : Hand). v.size) c.loop-i.invariant.gathered))
+load-requires g c = (c.loop-i.invariant.table, omega (arith, c.args.self.now.some, c.args.self.now.words), compares _ _ _ _ (ap (λ (v : HeldAccounts). v.size) c.loop-i.invariant.gathered))
 
 pub loop-i-2-init : goal.loop-i-2-init
 loop-i-2-init g c =
@@ -18,7 +18,7 @@ loop-i-2-init g c =
     let hs : List Holder = c.args.holders.now.items in
     let whole : take c.loop-i.i hs ≡ hs = take_all c.loop-i.i hs (omega (arith, c.loop-i-test.false, c.loop-i.invariant.long)) in
     let gathered : c.loop-i.all.me.0 ≡ hand stacks.table.shared.key (map account_of hs) = c.loop-i.invariant.gathered ∙ ap (λ (l : List Holder). hand stacks.table.shared.key (map account_of l)) whole in
-    let t = answered stacks hs c.loop-i.all.me.0 c.load.new.seat.me.0 gathered (c.load.ensures.2 stacks.table.shared.key (ap (λ (v : Hand). v.size) gathered)) in
+    let t = answered stacks hs c.loop-i.all.me.0 c.load.new.seat.me.0 gathered (c.load.ensures.2 stacks.table.shared.key (ap (λ (v : HeldAccounts). v.size) gathered)) in
     record {
       order = t.order;
       one = t.one;
@@ -41,11 +41,11 @@ loop-i-2-preserved g c =
     let long : length now ≡ length hs = was.long in
     let in_hs : i < length hs = omega (arith, c.loop-i-2-test.true, c.len-i-end-2.ensures, c.loop-i.invariant.long) in
     let in_now : i < length now = omega (arith, in_hs, long) in
-    let all : Hand = c.loop-i-2.all.me.0 in
+    let all : HeldAccounts = c.loop-i-2.all.me.0 in
     let first = c.first_of-account-in-loop-i-2 in
     let seat = c.put_after-in-loop-i-2.new.seat in
     let new : Holder = record { seat = seat } in
-    let empty_here : HasHand stacks [] (c.index_mut-in-loop-i-2.result.now) = subst (HasHand stacks []) (sym c.index_mut-in-loop-i-2.ensures.value) (was.empty i _ (omega arith) in_hs) in
+    let empty_here : HasAccounts stacks [] (c.index_mut-in-loop-i-2.result.now) = subst (HasAccounts stacks []) (sym c.index_mut-in-loop-i-2.ensures.value) (was.empty i _ (omega arith) in_hs) in
     record {
       order = was.order;
       one = was.one;
@@ -66,7 +66,7 @@ returns g c =
     let was = c.loop-i-2.invariant in
     let hs : List Holder = c.args.holders.now.items in
     let now : List Holder = c.loop-i-2.holders.items in
-    let back : (k : ℕ) (d : Holder) → k < length hs → HasHand stacks (seeing was.order (get_or hs k d) ∷ []) (get_or now k d) = λ k d h. was.done k d (omega (arith, h, c.loop-i-2-test.false, was.long)) in
+    let back : (k : ℕ) (d : Holder) → k < length hs → HasAccounts stacks (seeing was.order (get_or hs k d) ∷ []) (get_or now k d) = λ k d h. was.done k d (omega (arith, h, c.loop-i-2-test.false, was.long)) in
     let in_hs : (k : ℕ) → k < length now → k < length hs = λ k h. omega (arith, h, was.long) in
     let same : map party_of now ≡ map party_of hs = all_back stacks was.order hs now was.long back in
     let one : AreOneHistory stacks was.order (map party_of now) = subst (AreOneHistory stacks was.order) (sym same) was.one in

@@ -11,15 +11,15 @@ pub returns-in-Some-call_at-clause-said : goal.returns-in-Some-call_at-clause-sa
 returns-in-Some-call_at-clause-said c =
     says_call_after c.args.text.now c.without_spaces-start.result.now c.in-Some-call_at.command c.without_spaces-start.ensures c.in-Some-call_at.ensures.said.0
 
-pub returns-in-Some-call_at-clause-behind : goal.returns-in-Some-call_at-clause-behind
-returns-in-Some-call_at-clause-behind c = after_same c.args.text.now c.without_spaces-start.result.now _ c.without_spaces-start.ensures c.in-Some-call_at.ensures.said.1
+pub returns-in-Some-call_at-clause-after : goal.returns-in-Some-call_at-clause-after
+returns-in-Some-call_at-clause-after c = after_same c.args.text.now c.without_spaces-start.result.now _ c.without_spaces-start.ensures c.in-Some-call_at.ensures.said.1
 
 pub returns-in-Some-call_at-2-clause-said : goal.returns-in-Some-call_at-2-clause-said
 returns-in-Some-call_at-2-clause-said c =
     says_call_after c.args.text.now c.without_spaces-start.result.now c.in-Some-call_at-2.command c.without_spaces-start.ensures c.in-Some-call_at-2.ensures.said.0
 
-pub returns-in-Some-call_at-2-clause-behind : goal.returns-in-Some-call_at-2-clause-behind
-returns-in-Some-call_at-2-clause-behind c = after_same c.args.text.now c.without_spaces-start.result.now _ c.without_spaces-start.ensures c.in-Some-call_at-2.ensures.said.1
+pub returns-in-Some-call_at-2-clause-after : goal.returns-in-Some-call_at-2-clause-after
+returns-in-Some-call_at-2-clause-after c = after_same c.args.text.now c.without_spaces-start.result.now _ c.without_spaces-start.ensures c.in-Some-call_at-2.ensures.said.1
 
 pub loop-slot-preserved : goal.loop-slot-preserved
 loop-slot-preserved c =

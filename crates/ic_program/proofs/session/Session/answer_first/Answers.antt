@@ -11,8 +11,8 @@ use Rattle.ic_program.proofs.session.Session.answer_first.Goals as goal
 pub returns-in_ok-push_short-in-Some-answer_fast-clause-answered : goal.returns-in_ok-push_short-in-Some-answer_fast-clause-answered
 returns-in_ok-push_short-in-Some-answer_fast-clause-answered g c =
     let first = c.in-Some-answer_fast.ensures.answered in
-    let behind = after_drop c.args.text.now c.in-Some-answer_fast.rest.now c.saturating_sub-taken.result first.3 c.saturating_sub-taken.ensures in
-    call_first c.args.text.now (drop c.saturating_sub-taken.result c.args.text.now) first.0 _ _ _ _ _ _ c.requires (sym (says_call c.args.text.now first.0 first.1)) behind c.in-Some.ensures.1
+    let after = after_drop c.args.text.now c.in-Some-answer_fast.rest.now c.saturating_sub-taken.result first.3 c.saturating_sub-taken.ensures in
+    call_first c.args.text.now (drop c.saturating_sub-taken.result c.args.text.now) first.0 _ _ _ _ _ _ c.requires (sym (says_call c.args.text.now first.0 first.1)) after c.in-Some.ensures.1
     (record { reply = reply_of_short c.in-Some-answer_fast.answer; lawful = first.2; line = c.in_ok-push_short-in-Some-answer_fast.ensures.put })
 
 pub returns-in_ok-push_short-in-Some-answer_fast-clause-some : goal.returns-in_ok-push_short-in-Some-answer_fast-clause-some

@@ -10,28 +10,28 @@ returns-in_err-call-in-Call-clause-answered g c = lost_far _ _ _ _ _ _ _ _ _ _ c
 
 pub returns-in-Empty-clause-answered : goal.returns-in-Empty-clause-answered
 returns-in-Empty-clause-answered g c =
-    let behind : drop c.saturating_sub-taken.result c.args.text.now ≡ after_line c.args.text.now =
-    after_drop c.args.text.now c.first_of-said.result.1.now c.saturating_sub-taken.result (rw c.in-Empty.is at c.first_of-said.ensures.behind) c.saturating_sub-taken.ensures in
-    empty_first c.args.text.now (drop c.saturating_sub-taken.result c.args.text.now) _ _ _ _ c.requires.0 (sym c.first_of-said.ensures.said ∙ c.in-Empty.is) behind (omega (arith, c.requires.1))
+    let after : drop c.saturating_sub-taken.result c.args.text.now ≡ after_line c.args.text.now =
+    after_drop c.args.text.now c.first_of-said.result.1.now c.saturating_sub-taken.result (rw c.in-Empty.is at c.first_of-said.ensures.after) c.saturating_sub-taken.ensures in
+    empty_first c.args.text.now (drop c.saturating_sub-taken.result c.args.text.now) _ _ _ _ c.requires.0 (sym c.first_of-said.ensures.said ∙ c.in-Empty.is) after (omega (arith, c.requires.1))
 
 pub returns-in-Empty-clause-some : goal.returns-in-Empty-clause-some
 returns-in-Empty-clause-some g c =
-    let behind : drop c.saturating_sub-taken.result c.args.text.now ≡ after_line c.args.text.now =
-    after_drop c.args.text.now c.first_of-said.result.1.now c.saturating_sub-taken.result (rw c.in-Empty.is at c.first_of-said.ensures.behind) c.saturating_sub-taken.ensures in
-    some_taken c.args.text.now c.saturating_sub-taken.result c.requires.0 behind
+    let after : drop c.saturating_sub-taken.result c.args.text.now ≡ after_line c.args.text.now =
+    after_drop c.args.text.now c.first_of-said.result.1.now c.saturating_sub-taken.result (rw c.in-Empty.is at c.first_of-said.ensures.after) c.saturating_sub-taken.ensures in
+    some_taken c.args.text.now c.saturating_sub-taken.result c.requires.0 after
 
 pub returns-in_ok-call-in-Call-clause-answered : goal.returns-in_ok-call-in-Call-clause-answered
 returns-in_ok-call-in-Call-clause-answered g c =
-    let behind : drop c.saturating_sub-taken.result c.args.text.now ≡ after_line c.args.text.now =
-    after_drop c.args.text.now c.first_of-said.result.1.now c.saturating_sub-taken.result (rw c.in-Call.is at c.first_of-said.ensures.behind) c.saturating_sub-taken.ensures in
-    call_first c.args.text.now (drop c.saturating_sub-taken.result c.args.text.now) c.in-Call.command _ _ _ _ _ _ c.requires.0 (sym c.first_of-said.ensures.said ∙ c.in-Call.is) behind
+    let after : drop c.saturating_sub-taken.result c.args.text.now ≡ after_line c.args.text.now =
+    after_drop c.args.text.now c.first_of-said.result.1.now c.saturating_sub-taken.result (rw c.in-Call.is at c.first_of-said.ensures.after) c.saturating_sub-taken.ensures in
+    call_first c.args.text.now (drop c.saturating_sub-taken.result c.args.text.now) c.in-Call.command _ _ _ _ _ _ c.requires.0 (sym c.first_of-said.ensures.said ∙ c.in-Call.is) after
     (omega (arith, c.requires.1, c.call.ensures.lines)) c.in_ok-call-in-Call.ensures.answered
 
 pub returns-in_ok-call-in-Call-clause-some : goal.returns-in_ok-call-in-Call-clause-some
 returns-in_ok-call-in-Call-clause-some g c =
-    let behind : drop c.saturating_sub-taken.result c.args.text.now ≡ after_line c.args.text.now =
-    after_drop c.args.text.now c.first_of-said.result.1.now c.saturating_sub-taken.result (rw c.in-Call.is at c.first_of-said.ensures.behind) c.saturating_sub-taken.ensures in
-    some_taken c.args.text.now c.saturating_sub-taken.result c.requires.0 behind
+    let after : drop c.saturating_sub-taken.result c.args.text.now ≡ after_line c.args.text.now =
+    after_drop c.args.text.now c.first_of-said.result.1.now c.saturating_sub-taken.result (rw c.in-Call.is at c.first_of-said.ensures.after) c.saturating_sub-taken.ensures in
+    some_taken c.args.text.now c.saturating_sub-taken.result c.requires.0 after
 
 pub returns-in-NoCommand-clause-answered : goal.returns-in-NoCommand-clause-answered
 returns-in-NoCommand-clause-answered g c =

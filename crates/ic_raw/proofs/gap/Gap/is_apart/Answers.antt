@@ -6,12 +6,12 @@ use Rattle.ic_raw.proofs.gap.Gap.is_apart.Goals as goal
 
 pub returns-then-to_word-word : goal.returns-then-to_word-word
 returns-then-to_word-word c =
-    let behind = words_tell c.to_word-then-to_word-word.ensures.value c.to_word-word.ensures.value in (
+    let after = words_tell c.to_word-then-to_word-word.ensures.value c.to_word-word.ensures.value in (
       (λ other. (
         (λ e. c.if-to_word-word.true (c.to_word.ensures.value ∙ ap word_of e ∙ sym c.to_word-word.ensures.value)),
-        (λ e. not_so _ other (behind.1 e)),
+        (λ e. not_so _ other (after.1 e)),
       )),
-      (λ apart. is_not _ (λ e. apart.1 (behind.0 e))),
+      (λ apart. is_not _ (λ e. apart.1 (after.0 e))),
     )
 
 pub returns-else-to_word-word : goal.returns-else-to_word-word

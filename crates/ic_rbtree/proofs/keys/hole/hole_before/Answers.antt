@@ -18,8 +18,8 @@ is_less-requires-clause-placed g c =
     let values = g.O.Values.values c.args.objects.now in
     (all_back (λ q. IsSome (object_at values q)) m.front (c.args.place ∷ m.back) (subst (ArePlaced values) (one_sequence r.shown m.shown) r.placed)).0
 
-pub step_within-front-requires : goal.step_within-front-requires
-step_within-front-requires g c =
+pub step_bounded-front-requires : goal.step_bounded-front-requires
+step_bounded-front-requires g c =
     let n = g.L.RBTreeOps.node in
     let m = c.requires.member in
     (λ q. among q (m.front ++ c.args.place ∷ m.back), represented_closed n (represented_of n m.shown), (among_there c.args.place m.front m.back, tt))
@@ -31,7 +31,7 @@ is_less-requires-2-clause-placed g c =
     let values = g.O.Values.values c.args.objects.now in
     last_is_placed values m.front
     (all_front (λ q. IsSome (object_at values q)) m.front (c.args.place ∷ m.back) (subst (ArePlaced values) (one_sequence r.shown m.shown) r.placed))
-    c.step_within-front.result (c.step_within-front.ensures.leads (record { front = m.front; back = c.args.place ∷ m.back }) m.shown refl)
+    c.step_bounded-front.result (c.step_bounded-front.ensures.leads (record { front = m.front; back = c.args.place ∷ m.back }) m.shown refl)
 
 pub hole_between-requires : goal.hole_between-requires
 hole_between-requires g c =
@@ -45,9 +45,9 @@ returns-clause-hole g c s h =
     let values = g.O.Values.values c.args.objects.now in
     let at = compared (g.P.Probe.order c.args.probe.now) values in
     let gap : Cut = record { front = m.front; back = c.args.place ∷ m.back } in
-    let is = c.step_within-front.ensures.leads gap m.shown refl in
-    let not_less : less_there at c.step_within-front.result ≡ false =
-    subst (λ o. less_there (compared o values) c.step_within-front.result ≡ false) c.is_less.ensures.same (sym c.is_less-2.ensures.less ∙ c.if-is_less.false) in
+    let is = c.step_bounded-front.ensures.leads gap m.shown refl in
+    let not_less : less_there at c.step_bounded-front.result ≡ false =
+    subst (λ o. less_there (compared o values) c.step_bounded-front.result ≡ false) c.is_less.ensures.same (sym c.is_less-2.ensures.less ∙ c.if-is_less.false) in
     record {
       gap = gap;
       same = one_sequence m.shown h;
@@ -60,8 +60,8 @@ returns-clause-hole g c s h =
 
 pub returns-then-is_less-clause-counted : goal.returns-then-is_less-clause-counted
 returns-then-is_less-clause-counted g c =
-    (looks_there c.step_within-front.result + 1, omega (arith, c.is_less.ensures.counted, c.is_less-2.ensures.counted), omega (arith, one_look c.step_within-front.result))
+    (looks_there c.step_bounded-front.result + 1, omega (arith, c.is_less.ensures.counted, c.is_less-2.ensures.counted), omega (arith, one_look c.step_bounded-front.result))
 
 pub returns-clause-counted : goal.returns-clause-counted
 returns-clause-counted g c =
-    (looks_there c.step_within-front.result + 1, omega (arith, c.is_less.ensures.counted, c.is_less-2.ensures.counted), omega (arith, one_look c.step_within-front.result))
+    (looks_there c.step_bounded-front.result + 1, omega (arith, c.is_less.ensures.counted, c.is_less-2.ensures.counted), omega (arith, one_look c.step_bounded-front.result))

@@ -24,7 +24,7 @@ pub returns-then-is_after-clause-hole : goal.returns-then-is_after-clause-hole
 returns-then-is_after-clause-hole g c s h =
     let k = g.E.TreeHead.kept c.args.head.now in
     let at = compared (g.P.Probe.order c.args.probe.now) (g.O.Values.values c.args.objects.now) in
-    let b = after_some at c.kept_last-last.result (sym c.is_after.ensures.behind ∙ c.if-is_after.true) in
+    let b = after_some at c.kept_last-last.result (sym c.is_after.ensures.after ∙ c.if-is_after.true) in
     let is = last_there s c.kept_last-last.result (kept_is_last k s c.kept_last-last.result c.kept_last-last.ensures (printed g.L.RBTreeOps.node (g.L.LinkOps.table c.args.links.now) k s h)) b.1 in
     record {
       gap = at_back s;
@@ -37,7 +37,7 @@ pub returns-then-is_after-clause-looks : goal.returns-then-is_after-clause-looks
 returns-then-is_after-clause-looks g c s h =
     let k = g.E.TreeHead.kept c.args.head.now in
     looks_after g.P.Probe.order g.P.Probe.count (g.O.Values.values c.args.objects.now) k s c.kept_last-last.result c.kept_last-last.ensures
-    (printed g.L.RBTreeOps.node (g.L.LinkOps.table c.args.links.now) k s h) (sym c.is_after.ensures.behind ∙ c.if-is_after.true) c.is_after.ensures.counted c.is_after.ensures.same
+    (printed g.L.RBTreeOps.node (g.L.LinkOps.table c.args.links.now) k s h) (sym c.is_after.ensures.after ∙ c.if-is_after.true) c.is_after.ensures.counted c.is_after.ensures.same
 
 pub descend-hole-requires-clause-placed : goal.descend-hole-requires-clause-placed
 descend-hole-requires-clause-placed g c = rw c.root.ensures (placed_root (g.E.TreeHead.kept c.args.head.now) c.requires.placed)
@@ -57,5 +57,5 @@ pub returns-clause-looks : goal.returns-clause-looks
 returns-clause-looks g c s h =
     let k = g.E.TreeHead.kept c.args.head.now in
     looks_below g.P.Probe.order g.P.Probe.count (g.O.Values.values c.args.objects.now) k s c.kept_last-last.result c.kept_last-last.ensures
-    (printed g.L.RBTreeOps.node (g.L.LinkOps.table c.args.links.now) k s h) (sym c.is_after.ensures.behind ∙ c.if-is_after.false) c.is_after.ensures.counted c.is_after.ensures.same
+    (printed g.L.RBTreeOps.node (g.L.LinkOps.table c.args.links.now) k s h) (sym c.is_after.ensures.after ∙ c.if-is_after.false) c.is_after.ensures.counted c.is_after.ensures.same
     (c.descend-hole.ensures.looks s (rw c.root.ensures (shown k h)))

@@ -1,54 +1,17 @@
-use Rattle.std.proofs.Common.{Some, List, ◌∷◌, sym, ap, subst}
-use Rattle.ic_link_ops.specs.Prelude.{Place, IsAbsent}
-use Rattle.ic_link_ops.proofs.SequenceLemmas.{distinct_right, some_same}
-use Rattle.ic_link_ops.proofs.Walks.{is_end_yes, is_end_no}
-use Rattle.ic_rbtree.proofs.Closed.{in_there, in_both, weaker}
-use Rattle.ic_rbtree.proofs.Removing.{spot, represents_of, lone_taken, next, place_taken}
 use Rattle.ic_rbtree.proofs.repair.removal.unlink.Goals as goal
 
-pub returns-in_default-clause-taken : goal.returns-in_default-clause-taken
-returns-in_default-clause-taken g c base front back ps h =
-    lone_taken g.N.NodeStore.node (spot g.N.NodeStore.node front c.args.place back h) c.second_child.result c.second_child.ensures c.in_default.is c.splice_out.ensures.taken
+pub delete_fixup-requires : goal.delete_fixup-requires
+delete_fixup-requires g c = let r = c.requires in let k = c.take_out-short.ensures.safe r.0 r.1 r.2 in (r.0, k.0, k.1)
 
-pub outermost_within-next-requires : goal.outermost_within-next-requires
-outermost_within-next-requires g c =
-    let r = c.requires in
-    (c.args.root.now, (r.0, r.1, (in_there r.0 (in_both g.N.NodeStore.node r.1 c.args.place r.2.0 c.second_child.ensures) c.in-Some.is, tt)))
+pub returns-then-short-clause-taken : goal.returns-then-short-clause-taken
+returns-then-short-clause-taken g c base front back ps h =
+    let k = c.take_out-short.ensures.taken base front back ps h in c.delete_fixup.ensures.restored _ (k.3.1 c.if-short.true) k.2
 
-pub splice_out-requires-2 : goal.splice_out-requires-2
-splice_out-requires-2 g c =
-    let r = c.requires in
-    (r.0, r.1, (c.outermost_within-next.ensures.safe c.args.root.now r.0 r.1 (in_there r.0 (in_both g.N.NodeStore.node r.1 c.args.place r.2.0 c.second_child.ensures) c.in-Some.is, tt)).1)
+pub returns-else-short-clause-taken : goal.returns-else-short-clause-taken
+returns-else-short-clause-taken g c base front back ps h = (c.take_out-short.ensures.taken base front back ps h).3.0 c.if-short.false
 
-pub take_place-requires-clause-apart : goal.take_place-requires-clause-apart
-take_place-requires-clause-apart g c e = is_end_no (Some c.outermost_within-next.result) c.args.place (sym c.if-not-is_at.ensures) (ap (λ p. Some p) (sym e))
+pub returns-then-short-clause-safe : goal.returns-then-short-clause-safe
+returns-then-short-clause-safe g c S h i = let k = c.take_out-short.ensures.safe S h i in c.delete_fixup.ensures.safe S k.0 k.1
 
-pub take_place-requires-clause-safe : goal.take_place-requires-clause-safe
-take_place-requires-clause-safe g c =
-    let r = c.requires in
-    let next = (c.outermost_within-next.ensures.safe c.args.root.now r.0 r.1 (in_there r.0 (in_both g.N.NodeStore.node r.1 c.args.place r.2.0 c.second_child.ensures) c.in-Some.is, tt)).1 in
-    (r.0, weaker g.N.NodeStore.node (c.splice_out-2.ensures.safe r.0 r.1 next).0 (Some c.outermost_within-next.result), (r.2.0, next))
-
-pub returns-then-not-is_at-clause-taken : goal.returns-then-not-is_at-clause-taken
-returns-then-not-is_at-clause-taken g c base front back ps h =
-    let n = g.N.NodeStore.node in
-    place_taken n (spot n front c.args.place back h) c.in-Some.right c.second_child.result c.second_child.ensures c.in-Some.is c.outermost_within-next.result c.outermost_within-next.ensures.outermost
-    c.splice_out-2.ensures.taken c.take_place.ensures.taken
-
-pub returns-else-not-is_at-clause-taken : goal.returns-else-not-is_at-clause-taken
-returns-else-not-is_at-clause-taken g c base front back ps h =
-    let n = g.N.NodeStore.node in
-    let x = spot n front c.args.place back h in
-    let here = some_same (is_end_yes (Some c.outermost_within-next.result) c.args.place (sym c.if-not-is_at.ensures)) in
-    let behind = (next n x c.in-Some.right c.second_child.result c.second_child.ensures c.in-Some.is c.outermost_within-next.result c.outermost_within-next.ensures.outermost).behind in
-    let apart = subst (λ (s : List Place). IsAbsent c.args.place s) behind (distinct_right front (c.args.place ∷ back) (represents_of n h).held.distinct).0 in
-    absurd (apart.0 (sym here))
-
-pub returns-then-not-is_at-clause-safe : goal.returns-then-not-is_at-clause-safe
-returns-then-not-is_at-clause-safe g c S h i =
-    let next = (c.outermost_within-next.ensures.safe c.args.root.now S h (in_there S (in_both g.N.NodeStore.node h c.args.place i.0 c.second_child.ensures) c.in-Some.is, tt)).1 in
-    (c.take_place.ensures.safe S (weaker g.N.NodeStore.node (c.splice_out-2.ensures.safe S h next).0 (Some c.outermost_within-next.result)) (i.0, next), tt)
-
-pub returns-else-not-is_at-clause-safe : goal.returns-else-not-is_at-clause-safe
-returns-else-not-is_at-clause-safe g c S h i =
-    c.splice_out-2.ensures.safe S h (c.outermost_within-next.ensures.safe c.args.root.now S h (in_there S (in_both g.N.NodeStore.node h c.args.place i.0 c.second_child.ensures) c.in-Some.is, tt)).1
+pub returns-else-short-clause-safe : goal.returns-else-short-clause-safe
+returns-else-short-clause-safe g c S h i = ((c.take_out-short.ensures.safe S h i).0, tt)

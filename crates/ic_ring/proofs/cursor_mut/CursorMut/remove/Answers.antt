@@ -31,7 +31,7 @@ pub unlink-requires : goal.unlink-requires
 unlink-requires g c = record {
   ring = in_ring (g.L.LinkOps.table c.args.self.now.links.now) c.requires.stands;
   before = c.prev_of-prev.ensures;
-  behind = c.next_of-next.ensures;
+  after = c.next_of-next.ensures;
 }
 
 pub returns-clause-answer : goal.returns-clause-answer

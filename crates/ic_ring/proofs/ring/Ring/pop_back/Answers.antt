@@ -20,8 +20,8 @@ unlink-requires-clause-ring g c =
     let is = split_last ring.0 (sym (c.last.ensures ring.0 ring.1) ∙ c.in_ok-back.was) in
     (c.args.self.now ∷ but_last ring.0, seen_from (but_last ring.0) c.in_ok-back.back [] (rw is at ring.1))
 
-pub unlink-requires-clause-behind : goal.unlink-requires-clause-behind
-unlink-requires-clause-behind g c =
+pub unlink-requires-clause-after : goal.unlink-requires-clause-after
+unlink-requires-clause-after g c =
     let ring = c.requires.shown in
     let is = split_last ring.0 (sym (c.last.ensures ring.0 ring.1) ∙ c.in_ok-back.was) in
     rw c.self.view_is (seen_from (but_last ring.0) c.in_ok-back.back [] (rw is at ring.1)).chain.0.next

@@ -4,7 +4,7 @@ use Rattle.ic_link_ops.proofs.SequenceLemmas.{last_or-append, absent_left, absen
 use Rattle.ic_ring.specs.Rings.{Represents}
 use Rattle.ic_ring.proofs.Circles.{rotated, seen_at, prev_in_ring, prev_not}
 use Rattle.ic_ring.proofs.OtherRings.{others_stay_two}
-use Rattle.ic_ring.proofs.JoinedRings.{last_after, last_member, joined_behind}
+use Rattle.ic_ring.proofs.JoinedRings.{last_after, last_member, joined_at_end}
 use Rattle.ic_ring.proofs.ring.Ring.split_after.Goals as goal
 use Rattle.ic_ring.proofs.ring.Ring.split_after.Given.{Over}
 
@@ -18,17 +18,17 @@ pub prev_of-last-requires : goal.prev_of-last-requires
 prev_of-last-requires g c =
     let cut = c.requires.cut in
     let a = c.requires.apart in
-    rw c.head-2.ensures (cut.0 ++ ((a.0 ++ c.args.rest.now ∷ []) ++ cut.1), joined_behind a.1 a.2 c.exchange.ensures.joins cut.0 cut.1 a.0 cut.2 cut.3 a.1 c.head.ensures)
+    rw c.head-2.ensures (cut.0 ++ ((a.0 ++ c.args.rest.now ∷ []) ++ cut.1), joined_at_end a.1 a.2 c.exchange.ensures.joins cut.0 cut.1 a.0 cut.2 cut.3 a.1 c.head.ensures)
 
 pub exchange-requires-2 : goal.exchange-requires-2
 exchange-requires-2 g c =
     let cut = c.requires.cut in
     let a = c.requires.apart in
-    let behind = (a.0 ++ c.args.rest.now ∷ []) ++ cut.1 in
-    let whole = joined_behind a.1 a.2 c.exchange.ensures.joins cut.0 cut.1 a.0 cut.2 cut.3 a.1 c.head.ensures in
-    let seen = seen_at whole (last_member c.args.self.now cut.0 behind cut.3) in record {
+    let after = (a.0 ++ c.args.rest.now ∷ []) ++ cut.1 in
+    let whole = joined_at_end a.1 a.2 c.exchange.ensures.joins cut.0 cut.1 a.0 cut.2 cut.3 a.1 c.head.ensures in
+    let seen = seen_at whole (last_member c.args.self.now cut.0 after cut.3) in record {
       first = (seen.0, seen.1);
-      second = prev_in_ring (cut.0 ++ behind) whole (rw c.head-2.ensures at c.prev_of-last.ensures);
+      second = prev_in_ring (cut.0 ++ after) whole (rw c.head-2.ensures at c.prev_of-last.ensures);
     }
 
 pub returns-clause-split : goal.returns-clause-split
@@ -36,11 +36,11 @@ returns-clause-split g c front back t shown is_at other =
     let h = c.args.self.now in
     let k = c.args.rest.now in
     let a = c.requires.apart in
-    let behind = (t ++ k ∷ []) ++ back in
-    let whole = joined_behind a.1 a.2 c.exchange.ensures.joins front back t shown is_at other c.head.ensures in
-    let is_last = sym (rw c.head-2.ensures at c.prev_of-last.ensures) ∙ whole.chain.0.prev ∙ last_or-append None (h ∷ front) behind ∙ last_after (last (h ∷ front)) t k back
+    let after = (t ++ k ∷ []) ++ back in
+    let whole = joined_at_end a.1 a.2 c.exchange.ensures.joins front back t shown is_at other c.head.ensures in
+    let is_last = sym (rw c.head-2.ensures at c.prev_of-last.ensures) ∙ whole.chain.0.prev ∙ last_or-append None (h ∷ front) after ∙ last_after (last (h ∷ front)) t k back
     ∙ sym (last_after None t k back) in
-    let cut = c.exchange-2.ensures.cuts (h ∷ front) behind whole is_at is_last in
+    let cut = c.exchange-2.ensures.cuts (h ∷ front) after whole is_at is_last in
     (cut.0, rotated t (k ∷ back) (rw (append_assoc t (k ∷ []) back) at cut.1))
 
 module _ (g : Over) (c : goal.After-exchange-2 g) where
@@ -52,17 +52,17 @@ module _ (g : Over) (c : goal.After-exchange-2 g) where
       let h = c.args.self.now in
       let k = c.args.rest.now in
       let a = c.requires.apart in
-      let behind = (t ++ k ∷ []) ++ back in
-      let all = h ∷ (front ++ behind) in
-      let whole = joined_behind a.1 a.2 c.exchange.ensures.joins front back t shown is_at other c.head.ensures in
+      let after = (t ++ k ∷ []) ++ back in
+      let all = h ∷ (front ++ after) in
+      let whole = joined_at_end a.1 a.2 c.exchange.ensures.joins front back t shown is_at other c.head.ensures in
       let first = c.exchange.ensures.frame (h ∷ (front ++ back)) (k ∷ t) (shown, last_member h front back is_at) (other, λ out. out.0 c.head.ensures) in
-      let second = c.exchange-2.ensures.frame all all (whole, last_member h front behind is_at)
-      (whole, λ out. prev_not (front ++ behind) whole (rw c.head-2.ensures at c.prev_of-last.ensures) out refl) in record {
+      let second = c.exchange-2.ensures.frame all all (whole, last_member h front after is_at)
+      (whole, λ out. prev_not (front ++ after) whole (rw c.head-2.ensures at c.prev_of-last.ensures) out refl) in record {
         extent = second.extent ∙ first.extent;
         others = λ q out.
             let one = absent_left q (h ∷ (front ++ back)) (k ∷ t) out in
             let two = absent_turned q t (k ∷ []) (absent_right q (h ∷ (front ++ back)) (k ∷ t) out) in
-            let apart = absent_both q (h ∷ front) behind (absent_left q (h ∷ front) back one) (absent_both q (t ++ k ∷ []) back two (absent_right q (h ∷ front) back one)) in
+            let apart = absent_both q (h ∷ front) after (absent_left q (h ∷ front) back one) (absent_both q (t ++ k ∷ []) back two (absent_right q (h ∷ front) back one)) in
             second.others q (absent_both q all all apart apart) ∙ first.others q out;
       }
 

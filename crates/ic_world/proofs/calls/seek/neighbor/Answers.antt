@@ -12,4 +12,4 @@ returns-in-Prev g c =
 pub returns-in-Next : goal.returns-in-Next
 returns-in-Next g c =
     let e = c.requires.member in
-    rw c.in-Next.is (c.behind.ensures e.0 e.1 e.2.0 e.2.1 ∙ sym (after_gap e.0 e.1 e.2.1 (distinct (table_in c.args.links.now) c.args.members.now _ c.requires.held.shown)))
+    rw c.in-Next.is (c.after.ensures e.0 e.1 e.2.0 e.2.1 ∙ sym (after_gap e.0 e.1 e.2.1 (distinct (table_in c.args.links.now) c.args.members.now _ c.requires.held.shown)))

@@ -7,8 +7,8 @@ pub returns-in-Ok : goal.returns-in-Ok
 returns-in-Ok g c =
     let e = c.in-Ok.ensures in
     let looks = c.range_by.ensures in
-    let from = c.probe_within-from.ensures in
-    let to = c.probe_within-to.ensures in
+    let from = c.probe_in_bound-from.ensures in
+    let to = c.probe_in_bound-to.ensures in
     let objects = c.self.inside.objects in
     rw (c.looks_in.ensures, c.looks_in-in-Ok.ensures)
     (ranged g.A.Key.Ord.cmp g.A.KeyAdapter.key_of c.args.min c.args.max c.in-Ok.places.items (looks_within c.range_by.new.min) (looks_within c.range_by.new.max) c.self.inside.adapter objects _ _ c.args.collection c.self.view_is

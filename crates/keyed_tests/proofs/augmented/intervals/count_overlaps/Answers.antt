@@ -47,7 +47,7 @@ loop-at-preserved g c = record {
       let starts = g.L.Values.values c.args.summed.now.links in
       one_more _ s k c.in-Some.is
       (c.next_overlap-at.ensures _ (in_front _ s k c.in-Some.is) (found _ s k c.in-Some.is).back
-      (subst (RepresentsSummed g.L.RBTreeOps.node (greatest c.args.summed.now.sums) (g.L.LinkOps.table c.args.summed.now.links) _) parts shown)
+      (subst (RepresentsSummed g.L.RBTreeOps.node (greatest c.args.summed.now.summaries) (g.L.LinkOps.table c.args.summed.now.links) _) parts shown)
       (subst (λ (t : List Place). IsSorted nat_cmp (map (start_in starts) t)) parts (in_order_at shown.shows c.requires.intervals.sorted).1));
 }
 

@@ -4,14 +4,14 @@ use Rattle.ic_rbtree.specs.Tree.{root_of}
 use Rattle.ic_augmented.specs.Consistent.{RepresentsSummed}
 use Rattle.ic_augmented.specs.Greatest.{greatest, number_at}
 use Rattle.ic_augmented.specs.Intervals.{start_in, overlaps}
-use Rattle.ic_augmented.specs.Summed.{links_of, sums_of}
+use Rattle.ic_augmented.specs.Summed.{links_of, summaries_of}
 use Rattle.keyed_tests.proofs.Intervals.{IsCounted}
 use Rattle.keyed_tests.proofs.augmented.intervals.count_overlaps.Given as goal
 
 abbrev pub invariant-loop-at : goal.invariant-loop-at
 invariant-loop-at g l = record {
-  counted : (s : List Place) → RepresentsSummed g.L.RBTreeOps.node (greatest (sums_of l.summed)) (g.L.LinkOps.table (links_of l.summed)) (root_of l.tree) s
-      → IsCounted (overlaps (start_in (g.L.Values.values (links_of l.summed))) (number_at (sums_of l.summed)) l.from l.to) s l.count l.at;
+  counted : (s : List Place) → RepresentsSummed g.L.RBTreeOps.node (greatest (summaries_of l.summed)) (g.L.LinkOps.table (links_of l.summed)) (root_of l.tree) s
+      → IsCounted (overlaps (start_in (g.L.Values.values (links_of l.summed))) (number_at (summaries_of l.summed)) l.from l.to) s l.count l.at;
 }
 
 abbrev pub decreases-loop-at : goal.decreases-loop-at

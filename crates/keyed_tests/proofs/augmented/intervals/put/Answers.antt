@@ -35,7 +35,7 @@ returns-clause-intervals g c =
     let m = q.sorted.placed.members in
     let is : c.is_ok.result ≡ true = search rules in
     let ok = sym c.is_ok.ensures.value ∙ is in
-    let before : RepresentsConsistent n (greatest c.set_value.new.summed.sums) (g.L.LinkOps.table now) c.args.tree.now.head m
+    let before : RepresentsConsistent n (greatest c.set_value.new.summed.summaries) (g.L.LinkOps.table now) c.args.tree.now.head m
     = (rw e.links q.sorted.placed.shown, e.consistent m (consistent_in n m q.ready.consistent q.sorted.placed.shown)) in
     let fresh = on_ok c.insert_fresh-inserted.result ok (f.inserted m before) in
     let all = fresh.inserted.shows in

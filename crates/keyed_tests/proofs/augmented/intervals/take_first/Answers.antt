@@ -40,9 +40,9 @@ returns-clause-intervals g c =
     let after = c.remove.new.links.links in
     let a = first_found _ q.ready.members c.in_ok-place.place (sym (c.first_overlap.ensures q.ready.members q.ready.shown (in_order_at q.ready.shown.shows q.sorted).1) ∙ c.in_ok-place.was) in
     let same = subst (λ (p : Place). q.ready.members ≡ a.front ++ p ∷ a.back) (sym c.new.ensures) a.same in
-    let old = subst (RepresentsConsistent n (greatest c.args.summed.now.sums) (g.L.LinkOps.table before) c.args.tree.now.head) same q.ready.consistent in
+    let old = subst (RepresentsConsistent n (greatest c.args.summed.now.summaries) (g.L.LinkOps.table before) c.args.tree.now.head) same q.ready.consistent in
     let d = e.released in
-    let right : RepresentsConsistent n (greatest c.remove.new.links.sums) (g.L.LinkOps.table after) c.remove.new.self.head (a.front ++ a.back)
+    let right : RepresentsConsistent n (greatest c.remove.new.links.summaries) (g.L.LinkOps.table after) c.remove.new.self.head (a.front ++ a.back)
     = (e.removed a.front a.back old.0, removed_right a.front a.back d old.1) in
     let extent = (e.frame q.ready.members q.ready.shown.shows).extent in
     let member : HasMember (Represents n (g.L.LinkOps.table before) (root_of c.args.tree.now)) place = record { front = a.front; back = a.back; shown = old.0 } in

@@ -13,7 +13,7 @@ first_greater-requires g c =
 pub returns-in-Some : goal.returns-in-Some
 returns-in-Some g c =
     let e = c.refresh.ensures in
-    let k = kept_fresh c.requires.kept c.refresh.new.summed.links e.links c.refresh.new.summed.sums e.join e.consistent in
+    let k = kept_fresh c.requires.kept c.refresh.new.summed.links e.links c.refresh.new.summed.summaries e.join e.consistent in
     let s = c.requires.kept.by_start.sorted.members in
     let summed = e.summed s (members_consistent c.requires.kept) in
     let first = first_found k c.args.length c.saturating_sub.result c.saturating_sub.ensures {s = s} summed.shows (c.in-Some.ensures s summed) in
@@ -22,7 +22,7 @@ returns-in-Some g c =
 pub returns-in-None : goal.returns-in-None
 returns-in-None g c =
     let e = c.refresh.ensures in
-    let k = kept_fresh c.requires.kept c.refresh.new.summed.links e.links c.refresh.new.summed.sums e.join e.consistent in
+    let k = kept_fresh c.requires.kept c.refresh.new.summed.links e.links c.refresh.new.summed.summaries e.join e.consistent in
     let s = c.requires.kept.by_start.sorted.members in
     let summed = e.summed s (members_consistent c.requires.kept) in
     record { kept = k; same = search rules; first = first_found k c.args.length c.saturating_sub.result c.saturating_sub.ensures {s = s} summed.shows (c.in-None.ensures s summed) }

@@ -12,5 +12,5 @@ returns g c =
     let d = a.released in
     let after = c.remove.new.links in
     let freed = c.remove-2.ensures.freed in
-    let t = take_out c.requires.kept c.args.object after.links c.remove.new.self.head after.sums d.join (λ front back shown. (a.removed front back shown.0, removed_right front back d shown.1)) d.links freed in
+    let t = take_out c.requires.kept c.args.object after.links c.remove.new.self.head after.summaries d.join (λ front back shown. (a.removed front back shown.0, removed_right front back d shown.1)) d.links freed in
     rw c.remove-2.ensures.links (record { kept = (t _ (region_there _ c.requires.placed).1).0; taken = λ out there. (t out there).1; others = others_left freed })

@@ -15,8 +15,8 @@ is_last-was_last-requires g c =
           (front ++ c.in-Some.last ∷ [], last_of n t q.0 q.1 (c.in-Some.ensures q.0 q.1), split_member (c.args.queue.now ∷ front) c.in-Some.last []);
     }
 
-pub close_here-behind-requires : goal.close_here-behind-requires
-close_here-behind-requires g c =
+pub close_here-after-requires : goal.close_here-after-requires
+close_here-after-requires g c =
     let n = g.L.LinkedListOps.neighbors in
     let t = g.L.LinkOps.table c.args.links.now in
     let q = c.requires.queue in

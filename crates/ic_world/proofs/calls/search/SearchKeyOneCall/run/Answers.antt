@@ -29,7 +29,7 @@ lower_bound_by-found-requires-clause-can g c = ap is_tree (sym c.kind.ensures) â
 pub returns-in-LowerBound : goal.returns-in-LowerBound
 returns-in-LowerBound g c =
     let e = c.lower_bound_by-found.ensures in
-    let probe = c.probe_within-probe.ensures in
+    let probe = c.probe_in_bound-probe.ensures in
     let objects = c.args.objects.now in
     let border = rw (probe.order objects) at e.border in
     rw (c.in-LowerBound.is, c.looks_in.ensures)
@@ -42,7 +42,7 @@ upper_bound_by-found-requires-clause-can g c = ap is_tree (sym c.kind.ensures) â
 pub returns-in-UpperBound : goal.returns-in-UpperBound
 returns-in-UpperBound g c =
     let e = c.upper_bound_by-found.ensures in
-    let probe = c.probe_within-probe-in-UpperBound.ensures in
+    let probe = c.probe_in_bound-probe-in-UpperBound.ensures in
     let objects = c.args.objects.now in
     let border = rw (probe.order objects) at e.border in
     rw (c.in-UpperBound.is, c.looks_in-in-UpperBound.ensures)

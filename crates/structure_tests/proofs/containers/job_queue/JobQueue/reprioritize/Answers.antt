@@ -1,15 +1,15 @@
 use Rattle.std.proofs.Common.{ap, sym}
 use Rattle.ic_container.specs.Lanes.{in_lane}
-use Rattle.ic_container.specs.Rows.{home_of, home_or}
+use Rattle.ic_container.specs.Rows.{owner_of, owner_or}
 use Rattle.ic_container.proofs.LaneLemmas.{laned_renewed, lanes_renewed}
 use Rattle.structure_tests.specs.Jobs.{job_of, lane_of_job}
 use Rattle.structure_tests.proofs.containers.job_queue.JobQueue.reprioritize.Goals as goal
 
-pub move_to_back-requires-clause-home : goal.move_to_back-requires-clause-home
-move_to_back-requires-clause-home g c =
+pub move_to_back-requires-clause-owner : goal.move_to_back-requires-clause-owner
+move_to_back-requires-clause-owner g c =
     let told = sym c.in-Some.ensures.value in
     let there = rw c.place.ensures at told in
-    rw (c.place-2.ensures, c.lane-lane.ensures.value) (home_of (in_lane lane_of_job) c.self.inside.pool.objects, c.self.invariant.holds, ap (home_or (in_lane lane_of_job)) there)
+    rw (c.place-2.ensures, c.lane-lane.ensures.value) (owner_of (in_lane lane_of_job) c.self.inside.pool.objects, c.self.invariant.holds, ap (owner_or (in_lane lane_of_job)) there)
 
 pub invariant_of-self-2 : goal.invariant_of-self-2
 invariant_of-self-2 g c =
